@@ -1,0 +1,137 @@
+-- Document 01's measures: weight, degree in each variable, terms; of terms by the table, of forms as the polynomial's own.
+use mathlib.Core.Bool.{cond}
+use mathlib.Core.List.{List, [], _∷_, map}
+use Prim.Native.Nat.{ℕ, zero, suc, _+_, _-_, _≤_, _*_, _^_, max, min}
+use lib.IntN.{ℤ, natAbs}
+use Rattle.horner.specs.definitions.Form.{Form, int, pop, pow}
+use Rattle.horner.specs.definitions.Ring.{Ring}
+use Rattle.horner.specs.definitions.Term.{Term, num, var, minus, plus, diff, times, expt, Over}
+use Rattle.horner.specs.definitions.Value.{tl, after}
+
+-- ---- lists of degrees, one for each variable of the row
+abbrev pub zeros : ℕ → List ℕ → List ℕ
+zeros zero ds = ds
+zeros (suc i) ds = 0 ∷ zeros i ds
+
+abbrev pub firstOr0 : List ℕ → ℕ
+firstOr0 [] = 0
+firstOr0 (d ∷ ds) = d
+
+-- "larger"
+abbrev pub maxs : List ℕ → List ℕ → List ℕ
+maxs [] es = []
+maxs (d ∷ ds) [] = d ∷ ds
+maxs (d ∷ ds) (e ∷ es) = max d e ∷ maxs ds es
+
+-- "sum"
+abbrev pub sums : List ℕ → List ℕ → List ℕ
+sums ds [] = ds
+sums ds (e ∷ es) = (firstOr0 ds + e) ∷ sums (tl ds) es
+
+-- "n times"
+abbrev pub multiples : ℕ → List ℕ → List ℕ
+multiples k ds = map (λ d. k * d) ds
+
+abbrev pub total : List ℕ → ℕ
+total [] = 0
+total (d ∷ ds) = d + total ds
+
+-- "the box is the product, over the row, of degree plus 1"
+abbrev pub box : List ℕ → ℕ
+box [] = 1
+box (d ∷ ds) = suc d * box ds
+
+-- each degree is at most K
+abbrev pub AllLe : ℕ → List ℕ → Type 0
+AllLe K [] = Unit {0}
+AllLe K (d ∷ ds) = (d ≤ K) × AllLe K ds
+
+-- ---- of a term, by document 01's table
+abbrev pub weightOf : Term → ℕ
+weightOf (num z) = natAbs z
+weightOf (var i) = 1
+weightOf (minus s) = weightOf s
+weightOf (plus s t) = weightOf s + weightOf t
+weightOf (diff s t) = weightOf s + weightOf t
+weightOf (times s t) = weightOf s * weightOf t
+weightOf (expt s k) = weightOf s ^ k
+
+-- in a row of n
+abbrev pub degreesOf : ℕ → Term → List ℕ
+degreesOf n (num z) = zeros n []
+degreesOf n (var i) = zeros i (1 ∷ zeros (n - suc i) [])
+degreesOf n (minus s) = degreesOf n s
+degreesOf n (plus s t) = maxs (degreesOf n s) (degreesOf n t)
+degreesOf n (diff s t) = maxs (degreesOf n s) (degreesOf n t)
+degreesOf n (times s t) = sums (degreesOf n s) (degreesOf n t)
+degreesOf n (expt s k) = multiples k (degreesOf n s)
+
+abbrev pub boxOf : ℕ → Term → ℕ
+boxOf n t = box (degreesOf n t)
+
+-- "After each row of the table, terms is cut down to the box if that is less" (an integer, a letter and (- x) are within it already)
+abbrev pub termsOf : ℕ → Term → ℕ
+termsOf n (num z) = 1
+termsOf n (var i) = 1
+termsOf n (minus s) = termsOf n s
+termsOf n (plus s t) = min (termsOf n s + termsOf n t) (boxOf n (plus s t))
+termsOf n (diff s t) = min (termsOf n s + termsOf n t) (boxOf n (diff s t))
+termsOf n (times s t) = min (termsOf n s * termsOf n t) (boxOf n (times s t))
+termsOf n (expt s k) = min (termsOf n s ^ k) (boxOf n (expt s k))
+
+-- what the laws ask of a term over a row of n: its letters, its degrees and its weight
+pub record Within (n : ℕ) (t : Term) : Type 0 where
+  pub over : Over n t
+  pub degrees : AllLe 63 (degreesOf n t)
+  pub weight : weightOf t ≤ 1073741823
+
+-- ---- of a form: "those of the polynomial itself"
+-- a size of coefficients, summed over the leaves (laws/Coefficients: over all coefficients of the polynomial)
+module _ {A : Type 0} (ν : A → ℕ) where
+  abbrev pub meas : Form A → ℕ
+  meas (int c) = ν c
+  meas (pop i p) = meas p
+  meas (pow i p q) = meas p + meas q
+
+-- "weight is the sum of the absolute coefficients"
+abbrev pub weight : Form ℤ → ℕ
+weight x = meas natAbs x
+
+module _ {A : Type 0} (R : Ring A) where
+  open Ring R using (isNil)
+
+  abbrev pub one-if : A → ℕ
+  one-if c = cond (isNil c) 0 1
+
+  -- the number of coefficients that are not 0
+  abbrev pub count : Form A → ℕ
+  count x = meas one-if x
+
+  -- "terms the number of coefficients that are not 0 (1 for the zero polynomial)"
+  abbrev pub terms : Form A → ℕ
+  terms x = max 1 (count x)
+
+module _ {A : Type 0} where
+  -- "degree the highest power": in each of n variables
+  abbrev pub degrees : ℕ → Form A → List ℕ
+  degrees n (int c) = zeros n []
+  degrees n (pop i p) = zeros i (degrees (n - i) p)
+  degrees n (pow i p q) = (i + firstOr0 (degrees n p)) ∷ maxs (tl (degrees n p)) (degrees (n - 1) q)
+
+  -- no power is above ds, variable by variable
+  abbrev pub Bounded : List ℕ → Form A → Type 0
+  Bounded ds (int c) = Unit {0}
+  Bounded ds (pop i p) = Bounded (after i ds) p
+  Bounded [] (pow i p q) = ⊥
+  Bounded (d ∷ ds) (pow i p q) = (i ≤ d) × Bounded ((d - i) ∷ ds) p × Bounded ds q
+
+  -- how many POW, and how many parentheses open at once
+  abbrev pub pows : Form A → ℕ
+  pows (int c) = 0
+  pows (pop i p) = pows p
+  pows (pow i p q) = suc (pows p + pows q)
+
+  abbrev pub nest : Form A → ℕ
+  nest (int c) = 0
+  nest (pop i p) = suc (nest p)
+  nest (pow i p q) = suc (max (nest p) (nest q))

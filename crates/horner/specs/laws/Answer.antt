@@ -1,0 +1,132 @@
+-- What a comparison of two terms answers, within the limits: 'same' exactly where the forms over the remainders are one, which is where the terms have one
+-- value at every point of the integers; else the first point of natural numbers at which the remainders of the two values differ.
+use mathlib.Core.Bool.{false}
+use mathlib.Core.List.{List, [], _∷_}
+use mathlib.Core.Logic.{_⊎_, inl, inr, _↔_}
+use mathlib.Core.Path.{_≡_, refl, sym, _∙_, ap, ap₂, subst}
+use Prim.Native.Nat.{ℕ, zero, suc, _<_}
+use native.Mathlib.Omega.{arith}
+use lib.IntN.{ℤ}
+use lib.ListN.{length}
+use Rattle.horner.specs.definitions.Form.{isZero, negate}
+use Rattle.horner.specs.definitions.Measures.{maxs, AllLe, degreesOf, Within, weight, degrees, Bounded}
+use Rattle.horner.specs.definitions.Normal.{Zero, Normal}
+use Rattle.horner.specs.definitions.Points.{Before, firstPoint, IsFirst, gap, sides, IsPoint}
+use Rattle.horner.specs.definitions.Residues.{Res, redℤ, lift, prime, prime-pos, P-ring}
+use Rattle.horner.specs.definitions.Term.{Term, evalℤ, normP, evalP}
+use Rattle.horner.specs.definitions.Value.{val, nats}
+use Rattle.horner.specs.laws.Bounds.{bounded-sum, bounded-negate}
+use Rattle.horner.specs.laws.Cancel.{difference}
+use Rattle.horner.specs.laws.Canonical.{length-box}
+use Rattle.horner.specs.laws.Degree.{bounded-mono, length-maxs, maxs-left, maxs-right}
+use Rattle.horner.specs.laws.First.{first-is}
+use Rattle.horner.specs.laws.Grid.{grid}
+use Rattle.horner.specs.laws.Hom.{mapForm}
+use Rattle.horner.specs.laws.Lifting.{residue, exact}
+use Rattle.horner.specs.laws.Limits.{length-degreesOf, bounded-norm}
+use Rattle.horner.specs.laws.Normal.{normal-sum, normal-negate}
+use Rattle.horner.specs.laws.Prime.{P-regular}
+use Rattle.horner.specs.laws.Ring.{neg-unique, neg-neg}
+use Rattle.horner.specs.laws.Term.{val-norm, normal-norm, theorem-1}
+use Rattle.horner.specs.laws.Value.{val-sum, val-negate}
+
+all-le-maxs : (K : ℕ) (ds es : List ℕ) → AllLe K ds → AllLe K es → AllLe K (maxs ds es)
+all-le-maxs K [] es h g = tt
+all-le-maxs K (d ∷ ds) [] h g = h
+all-le-maxs K (d ∷ ds) (e ∷ es) h g = (omega (arith, h .0, g .0), all-le-maxs K ds es (h .1) (g .1))
+
+module _ (n : ℕ) (f g : Term) (F : Within n f) (G : Within n g) where
+  pub same-iff : (normP f ≡ normP g) ↔ ((N : List ℤ) → length N ≡ n → evalℤ f N ≡ evalℤ g N)
+  same-iff = (
+    λ e. theorem-1 n f g (F .over) (G .over) .0
+        (sym (exact n f (F .over) (F .degrees) (F .weight)) ∙ ap (mapForm (lift prime prime-pos)) e ∙ exact n g (G .over) (G .degrees) (G .weight)),
+    λ s. residue n f (F .over) (F .degrees) (omega (arith, F .weight)) ∙ ap (mapForm (redℤ prime prime-pos)) (theorem-1 n f g (F .over) (G .over) .1 s)
+        ∙ sym (residue n g (G .over) (G .degrees) (omega (arith, G .weight))),
+  )
+
+  val-gap : (N : List ℕ) → val P-ring (gap f g) (nats P-ring N) ≡ P-ring .add (evalP f N) (P-ring .neg (evalP g N))
+  val-gap N =
+      val-sum P-ring (normP f) (negate P-ring (normP g)) (nats P-ring N)
+      ∙ ap₂ (P-ring .add) (val-norm P-ring (redℤ prime prime-pos) f (nats P-ring N))
+      (val-negate P-ring (normP g) (nats P-ring N) ∙ ap (P-ring .neg) (val-norm P-ring (redℤ prime prime-pos) g (nats P-ring N)))
+
+  length-sides : length (sides n f g) ≡ n
+  length-sides = length-maxs (degreesOf n f) (degreesOf n g) ∙ length-degreesOf n f (F .over)
+
+  normal-gap : Normal P-ring (length (sides n f g)) (gap f g)
+  normal-gap =
+      subst (λ z. Normal P-ring z (gap f g)) (sym length-sides)
+      (normal-sum P-ring n (normP f) (negate P-ring (normP g)) (normal-norm P-ring (redℤ prime prime-pos) refl n f (F .over))
+      (normal-negate P-ring n (normP g) (normal-norm P-ring (redℤ prime prime-pos) refl n g (G .over))))
+
+  bounded-gap : Bounded (sides n f g) (gap f g)
+  bounded-gap =
+      bounded-sum P-ring (sides n f g) (normP f) (negate P-ring (normP g))
+      (bounded-mono (normP f) (degreesOf n f) (sides n f g) (maxs-left (degreesOf n f) (degreesOf n g)) (bounded-norm P-ring (redℤ prime prime-pos) n f (F .over)))
+      (bounded-negate P-ring (sides n f g) (normP g)
+      (bounded-mono (normP g) (degreesOf n g) (sides n f g)
+      (maxs-right (degreesOf n f) (degreesOf n g) (length-degreesOf n g (G .over) ∙ sym (length-degreesOf n f (F .over))))
+      (bounded-norm P-ring (redℤ prime prime-pos) n g (G .over))))
+
+  pub point-is : isZero P-ring (gap f g) ≡ false → IsPoint n f g (firstPoint P-ring (sides n f g) (gap f g))
+  point-is nz =
+      record {
+        inside = p .inside;
+        differs = λ e. p .counts (val-gap (firstPoint P-ring (sides n f g) (gap f g)) ∙ ap (λ z. P-ring .add z (P-ring .neg (evalP g (firstPoint P-ring (sides n f g) (gap f g))))) e ∙ P-ring .add-neg (evalP g (firstPoint P-ring (sides n f g) (gap f g))));
+        earlier = λ M b l. level (evalP f M) (evalP g M) (sym (val-gap M) ∙ p .earlier M b (l ∙ sym length-sides));
+      }
+    where
+      p : IsFirst P-ring (sides n f g) (gap f g) (firstPoint P-ring (sides n f g) (gap f g))
+      p = first-is P-ring 63 P-regular (sides n f g) (all-le-maxs 63 (degreesOf n f) (degreesOf n g) (F .degrees) (G .degrees)) (gap f g) normal-gap bounded-gap nz
+
+      level : (a b : Res prime) → P-ring .add a (P-ring .neg b) ≡ P-ring .nil → a ≡ b
+      level a b e = sym (neg-neg P-ring a) ∙ ap (P-ring .neg) (sym (neg-unique P-ring a (P-ring .neg b) e)) ∙ neg-neg P-ring b
+
+  -- and the difference is 0 exactly where the forms are one
+  pub gap-zero : Zero P-ring (gap f g) ↔ (normP f ≡ normP g)
+  gap-zero = (
+    λ z. difference P-ring n (normP f) (normP g) (normal-norm P-ring (redℤ prime prime-pos) refl n f (F .over))
+        (normal-negate P-ring n (normP g) (normal-norm P-ring (redℤ prime prime-pos) refl n g (G .over))) z,
+    λ e. grid P-ring 63 P-regular (sides n f g) (all-le-maxs 63 (degreesOf n f) (degreesOf n g) (F .degrees) (G .degrees)) (gap f g) normal-gap bounded-gap
+        (λ N m. val-sum P-ring (normP f) (negate P-ring (normP g)) (nats P-ring N)
+        ∙ ap₂ (P-ring .add) (ap (λ x. val P-ring x (nats P-ring N)) e) (val-negate P-ring (normP g) (nats P-ring N)) ∙ P-ring .add-neg (val P-ring (normP g) (nats P-ring N))),
+  )
+
+-- ---- the point is the only one
+three : (a b : ℕ) → (a < b) ⊎ ((a ≡ b) ⊎ (b < a))
+three zero zero = inr (inl refl)
+three zero (suc b) = inl (omega arith)
+three (suc a) zero = inr (inr (omega arith))
+three (suc a) (suc b) = up (three a b)
+  where
+    up : (a < b) ⊎ ((a ≡ b) ⊎ (b < a)) → (suc a < suc b) ⊎ ((suc a ≡ suc b) ⊎ (suc b < suc a))
+    up (inl l) = inl (omega arith)
+    up (inr (inl e)) = inr (inl (ap suc e))
+    up (inr (inr l)) = inr (inr (omega arith))
+
+order : (M N : List ℕ) → length M ≡ length N → (M ≡ N) ⊎ (Before M N ⊎ Before N M)
+order [] [] e = inl refl
+order [] (b ∷ N) e = absurd (omega arith)
+order (a ∷ M) [] e = absurd (omega arith)
+order (a ∷ M) (b ∷ N) e = at (three a b) (order M N (omega arith))
+  where
+    at : (a < b) ⊎ ((a ≡ b) ⊎ (b < a)) → (M ≡ N) ⊎ (Before M N ⊎ Before N M) → ((a ∷ M) ≡ (b ∷ N)) ⊎ (Before (a ∷ M) (b ∷ N) ⊎ Before (b ∷ N) (a ∷ M))
+    at (inl l) r = inr (inl (inl l))
+    at (inr (inr l)) r = inr (inr (inl l))
+    at (inr (inl p)) (inl q) = inl (ap₂ _∷_ p q)
+    at (inr (inl p)) (inr (inl q)) = inr (inl (inr (p, q)))
+    at (inr (inl p)) (inr (inr q)) = inr (inr (inr (sym p, q)))
+
+pub point-unique : (n : ℕ) (f g : Term) → length (sides n f g) ≡ n → (M N : List ℕ) → IsPoint n f g M → IsPoint n f g N → M ≡ N
+point-unique n f g l M N p q = at (order M N (lm ∙ sym ln))
+  where
+    lm : length M ≡ length (sides n f g)
+    lm = length-box (sides n f g) M (p .inside)
+
+    ln : length N ≡ length (sides n f g)
+    ln = length-box (sides n f g) N (q .inside)
+
+    at : (M ≡ N) ⊎ (Before M N ⊎ Before N M) → M ≡ N
+    at (inl e) = e
+    at (inr (inl b)) = absurd (p .differs (q .earlier M b (lm ∙ l)))
+    at (inr (inr b)) = absurd (q .differs (p .earlier N b (ln ∙ l)))

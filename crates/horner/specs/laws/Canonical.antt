@@ -1,0 +1,88 @@
+-- Theorem C: over the integers two normal forms that have one value at every point of natural numbers are the agree form.
+use mathlib.Core.List.{List, [], _∷_}
+use mathlib.Core.Path.{_≡_, refl, sym, _∙_, ap, ap₂, subst}
+use Prim.Native.Nat.{ℕ, zero, suc, _≤_, _*_}
+use native.Mathlib.Nat as NatL
+use native.Mathlib.Omega.{arith}
+use lib.IntN.{ℤ, pos, negsuc, negℤ, _+ℤ_, _*ℤ_, natAbs}
+use lib.ListN.{length}
+use Rattle.horner.specs.definitions.Form.{Form, sum, negate}
+use Rattle.horner.specs.definitions.Integers.{ℤ-ring}
+use Rattle.horner.specs.definitions.Measures.{total, AllLe, degrees, Bounded}
+use Rattle.horner.specs.definitions.Normal.{Zero, Normal}
+use Rattle.horner.specs.definitions.Points.{InBox}
+use Rattle.horner.specs.definitions.Ring.{Ring, nat}
+use Rattle.horner.specs.definitions.Value.{val, nats}
+use Rattle.horner.specs.laws.Bounds.{bounded-sum, bounded-negate}
+use Rattle.horner.specs.laws.Cancel.{difference}
+use Rattle.horner.specs.laws.Degree.{length-degrees, bounded-degrees, all-le-total}
+use Rattle.horner.specs.laws.Grid.{Vanishes, grid}
+use Rattle.horner.specs.laws.Normal.{normal-sum, normal-negate}
+use Rattle.horner.specs.laws.Roots.{Regular}
+use Rattle.horner.specs.laws.Value.{val-sum, val-negate}
+
+-- a point of a box has as many coordinates
+pub length-box : (ds N : List ℕ) → InBox ds N → length N ≡ length ds
+length-box [] [] h = refl
+length-box [] (a ∷ N) h = absurd h
+length-box (d ∷ ds) [] h = absurd h
+length-box (d ∷ ds) (a ∷ N) h = ap suc (length-box ds N (h .1))
+
+-- two normal forms within bounds, over a ring in which the numbers up to the bounds divide no zero
+module _ {A : Type 0} (R : Ring A) (K : ℕ) (regular : Regular R K) where
+  open Ring R using (add, neg, add-neg)
+
+  pub canon-box : (ds : List ℕ) → AllLe K ds → (x y : Form A) → Normal R (length ds) x → Normal R (length ds) y → Bounded ds x → Bounded ds y
+      → ((N : List ℕ) → InBox ds N → val R x (nats R N) ≡ val R y (nats R N)) → x ≡ y
+  canon-box ds le x y hx hy bx by agree =
+      difference R (length ds) x y hx (normal-negate R (length ds) y hy)
+      (grid R K regular ds le (sum R x (negate R y)) (normal-sum R (length ds) x (negate R y) hx (normal-negate R (length ds) y hy))
+      (bounded-sum R ds x (negate R y) bx (bounded-negate R ds y by))
+      (λ N m. val-sum R x (negate R y) (nats R N) ∙ ap₂ add (agree N m) (val-negate R y (nats R N)) ∙ add-neg (val R y (nats R N))))
+
+-- over any ring in which no number divides zero
+module _ {A : Type 0} (R : Ring A) (regular : (K : ℕ) → Regular R K) where
+  open Ring R using (add, neg, nil, add-neg)
+
+  -- a normal form that is 0 over the box of its degrees is 0
+  pub zero-of-box : (n : ℕ) (x : Form A) → Normal R n x → Vanishes R (degrees n x) x → Zero R x
+  zero-of-box n x hx v =
+      grid R (total ds) (regular (total ds)) ds (all-le-total ds) x (subst (λ z. Normal R z x) (sym (length-degrees R n x hx)) hx) (bounded-degrees R n x hx) v
+    where
+      ds : List ℕ
+      ds = degrees n x
+
+  pub canon : (n : ℕ) (x y : Form A) → Normal R n x → Normal R n y
+      → ((N : List ℕ) → length N ≡ n → val R x (nats R N) ≡ val R y (nats R N)) → x ≡ y
+  canon n x y hx hy agree =
+      difference R n x y hx (normal-negate R n y hy)
+      (zero-of-box n (sum R x (negate R y)) hd
+      (λ N m. val-sum R x (negate R y) (nats R N)
+      ∙ ap₂ add (agree N (length-box (degrees n (sum R x (negate R y))) N m ∙ length-degrees R n (sum R x (negate R y)) hd)) (val-negate R y (nats R N))
+      ∙ add-neg (val R y (nats R N))))
+    where
+      hd : Normal R n (sum R x (negate R y))
+      hd = normal-sum R n x (negate R y) hx (normal-negate R n y hy)
+
+-- ---- the integers
+nat-pos : (k : ℕ) → nat ℤ-ring k ≡ pos k
+nat-pos zero = refl
+nat-pos (suc k) = ap (λ z. lib.IntN._+ℤ_ (pos 1) z) (nat-pos k) ∙ ap pos (omega arith)
+
+mul-nil-ℕ : (k m : ℕ) → 1 ≤ k → k * m ≡ 0 → m ≡ 0
+mul-nil-ℕ k m h e = NatL.eq-of-mul-eq-mul-left k h m 0 (e ∙ sym (NatL.mul-zero k))
+
+pub pos-mul-nil : (k : ℕ) (r : ℤ) → 1 ≤ k → pos k *ℤ r ≡ pos 0 → r ≡ pos 0
+pos-mul-nil k (pos m) h e = ap pos (mul-nil-ℕ k m h (ap natAbs e))
+pos-mul-nil k (negsuc m) h e = absurd (omega (arith, mul-nil-ℕ k (suc m) h (abs-neg (k * suc m) ∙ ap natAbs e)))
+  where
+    abs-neg : (n : ℕ) → n ≡ natAbs (negℤ (pos n))
+    abs-neg zero = refl
+    abs-neg (suc n) = refl
+
+pub ℤ-regular : (K : ℕ) → Regular ℤ-ring K
+ℤ-regular K k lo hi r e = pos-mul-nil k r lo (ap (λ z. z *ℤ r) (sym (nat-pos k)) ∙ e)
+
+pub canon-ℤ : (n : ℕ) (x y : Form ℤ) → Normal ℤ-ring n x → Normal ℤ-ring n y
+    → ((N : List ℕ) → length N ≡ n → val ℤ-ring x (nats ℤ-ring N) ≡ val ℤ-ring y (nats ℤ-ring N)) → x ≡ y
+canon-ℤ n x y hx hy agree = canon ℤ-ring ℤ-regular n x y hx hy agree

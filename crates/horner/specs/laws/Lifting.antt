@@ -1,0 +1,127 @@
+-- Forms over the remainders by a prime stand for forms over the integers: within the limits, the normal form of a term over the remainders is that over
+-- the integers with each coefficient's remainder, and the integers come back from it.
+use mathlib.Core.Bool.{Bool, true, false, cond, true≢false}
+use mathlib.Core.List.{List, [], _∷_}
+use mathlib.Core.Path.{_≡_, refl, sym, _∙_, ap, ap₂, subst, fun-ext}
+use Prim.Native.Nat.{ℕ, zero, suc, _-_, _≤_, _<_, _*_, _%_}
+use native.Mathlib.Nat as NatL
+use native.Mathlib.Omega.{arith}
+use lib.Dec.{T, ltb, ltb→lt, eqb, lt→ltb, eqb·suc-zero}
+use lib.IntN.{ℤ, pos, negsuc, natAbs}
+use lib.ListN.{length}
+use Rattle.horner.specs.definitions.Form.{Form, int, pop, pow, isZero}
+use Rattle.horner.specs.definitions.Integers.{isZeroℤ, ℤ-ring}
+use Rattle.horner.specs.definitions.Measures.{AllLe, weightOf, degreesOf, weight, degrees, Bounded}
+use Rattle.horner.specs.definitions.Normal.{IsPow, Lead, Normal}
+use Rattle.horner.specs.definitions.Residues.{negᵐ, redℤ, lift, mod-ring, prime, prime-pos, P-ring}
+use Rattle.horner.specs.definitions.Term.{Term, Over, normℤ, normP}
+use Rattle.horner.specs.definitions.Value.{after}
+use Rattle.horner.specs.laws.Hom.{Hom, fromℤ, from-hom, mapForm}
+use Rattle.horner.specs.laws.Limits.{weight-norm, length-degreesOf, bounded-norm}
+use Rattle.horner.specs.laws.Prime.{P-regular}
+use Rattle.horner.specs.laws.Residues.{nat-red}
+use Rattle.horner.specs.laws.Term.{normal-norm, transfer}
+use Rattle.horner.specs.laws.Value.{cond-cases}
+
+pub bounded-map : {A B : Type 0} (f : A → B) (ds : List ℕ) (x : Form A) → Bounded ds x → Bounded ds (mapForm f x)
+bounded-map f ds (int c) h = tt
+bounded-map f ds (pop i p) h = bounded-map f (after i ds) p h
+bounded-map f [] (pow i p q) h = absurd h
+bounded-map f (d ∷ ds) (pow i p q) h = (h .0, bounded-map f ((d - i) ∷ ds) p (h .1), bounded-map f ds q (h .2))
+
+pow-map : {A B : Type 0} (f : A → B) (x : Form A) → IsPow x → IsPow (mapForm f x)
+pow-map f (int c) h = h
+pow-map f (pop i p) h = h
+pow-map f (pow i p q) h = tt
+
+module _ (m : ℕ) (m-pos : 0 < m) where
+  red-from : (z : ℤ) → fromℤ (mod-ring m m-pos) z ≡ redℤ m m-pos z
+  red-from (pos n) = nat-red m m-pos n
+  red-from (negsuc n) = ap (negᵐ m m-pos) (nat-red m m-pos (suc n))
+
+  pub red-hom : Hom ℤ-ring (mod-ring m m-pos) (redℤ m m-pos)
+  red-hom = subst (Hom ℤ-ring (mod-ring m m-pos)) (fun-ext red-from) (from-hom (mod-ring m m-pos))
+
+  -- the number that stands for a small negative one
+  neg-small : (n : ℕ) → suc n < m → redℤ m m-pos (negsuc n) .0 ≡ m - suc n
+  neg-small n h = ap (λ z. (m - z) % m) (NatL.mod-eq-of-lt h) ∙ NatL.mod-eq-of-lt (less-m n)
+    where
+      less-m : (n : ℕ) → m - suc n < m
+      less-m n = omega arith
+
+  -- a small integer's remainder is 0 only at 0
+  red-isNil : (z : ℤ) → natAbs z < m → mod-ring m m-pos .isNil (redℤ m m-pos z) ≡ isZeroℤ z
+  red-isNil (pos zero) h = ap (λ w. eqb w 0) (NatL.zero-mod m)
+  red-isNil (pos (suc n)) h = ap (λ w. eqb w 0) (NatL.mod-eq-of-lt h) ∙ eqb·suc-zero n
+  red-isNil (negsuc n) h = ap (λ w. eqb w 0) (neg-small n h ∙ one-more n h) ∙ eqb·suc-zero (m - suc (suc n))
+    where
+      one-more : (n : ℕ) → suc n < m → m - suc n ≡ suc (m - suc (suc n))
+      one-more n g = omega arith
+
+  red-isZero : (x : Form ℤ) → weight x < m → isZero (mod-ring m m-pos) (mapForm (redℤ m m-pos) x) ≡ isZero ℤ-ring x
+  red-isZero (int c) h = red-isNil c h
+  red-isZero (pop i p) h = refl
+  red-isZero (pow i p q) h = refl
+
+  red-lead : (x : Form ℤ) → weight x < m → Lead ℤ-ring x → Lead (mod-ring m m-pos) (mapForm (redℤ m m-pos) x)
+  red-lead (int c) h l = red-isNil c h ∙ l
+  red-lead (pop i p) h l = tt
+  red-lead (pow i p q) h l = red-isZero q (omega arith) ∙ l
+
+  pub normal-red : (n : ℕ) (x : Form ℤ) → weight x < m → Normal ℤ-ring n x → Normal (mod-ring m m-pos) n (mapForm (redℤ m m-pos) x)
+  normal-red n (int c) h g = tt
+  normal-red n (pop i p) h g = (g .0, pow-map (redℤ m m-pos) p (g .1), normal-red (n - i) p h (g .2))
+  normal-red n (pow i p q) h g = (g .0, g .1, normal-red n p (omega arith) (g .2), red-lead p (omega arith) (g .3), normal-red (n - 1) q (omega arith) (g .4))
+
+  -- ---- back: a number below half of m for itself, any other for what it lacks of m, negative
+
+  pub lift-red : (z : ℤ) → natAbs z * 2 < m → lift m m-pos (redℤ m m-pos z) ≡ z
+  lift-red (pos n) h =
+      ap (λ w. cond (ltb (w * 2) m) (pos w) (negsuc (m - suc w))) (NatL.mod-eq-of-lt (small n h))
+      ∙ cond-cases (ltb (n * 2) m) (λ w. w ≡ pos n) _ _ (λ e. refl) (λ e. absurd (true≢false (sym (is-true (ltb (n * 2) m) (lt→ltb (n * 2) m h)) ∙ e)))
+    where
+      small : (n : ℕ) → n * 2 < m → n < m
+      small n h = omega arith
+
+      is-true : (b : Bool) → T b → b ≡ true
+      is-true true t = refl
+      is-true false t = absurd t
+  lift-red (negsuc n) h =
+      ap (λ w. cond (ltb (w * 2) m) (pos w) (negsuc (m - suc w))) (neg-small n (small n h))
+      ∙ cond-cases (ltb ((m - suc n) * 2) m) (λ w. w ≡ negsuc n) _ _
+      (λ e. absurd (large n h (ltb→lt ((m - suc n) * 2) m (subst T (sym e) tt)))) (λ e. ap negsuc (back n h))
+    where
+      small : (n : ℕ) → suc n * 2 < m → suc n < m
+      small n h = omega arith
+
+      large : (n : ℕ) → suc n * 2 < m → (m - suc n) * 2 < m → ⊥
+      large n h g = omega arith
+
+      back : (n : ℕ) → suc n * 2 < m → m - suc (m - suc n) ≡ n
+      back n h = omega arith
+
+  pub lift-form : (x : Form ℤ) → weight x * 2 < m → mapForm (lift m m-pos) (mapForm (redℤ m m-pos) x) ≡ x
+  lift-form (int c) h = ap int (lift-red c h)
+  lift-form (pop i p) h = ap (pop i) (lift-form p h)
+  lift-form (pow i p q) h = ap₂ (pow i) (lift-form p (omega arith)) (lift-form q (omega arith))
+
+-- ---- the prime
+
+module _ (n : ℕ) (t : Term) (over : Over n t) (degrees : AllLe 63 (degreesOf n t)) where
+  pub residue : weightOf t < prime → normP t ≡ mapForm (redℤ prime prime-pos) (normℤ t)
+  residue w =
+      transfer P-ring (redℤ prime prime-pos) (red-hom prime prime-pos) 63 P-regular refl ds degrees t (subst (λ z. Over z t) (sym len) over)
+      (normal-red prime prime-pos (length ds) (normℤ t) (omega (arith, weight-norm t)) (subst (λ z. Normal ℤ-ring z (normℤ t)) (sym len) (normal-norm ℤ-ring (λ z. z) refl n t over)))
+      (bounded-norm P-ring (redℤ prime prime-pos) n t over)
+      (bounded-map (redℤ prime prime-pos) ds (normℤ t) (bounded-norm ℤ-ring (λ z. z) n t over))
+    where
+      ds : List ℕ
+      ds = degreesOf n t
+
+      len : length ds ≡ n
+      len = length-degreesOf n t over
+
+  -- the weight limit: the integers' form comes back
+  pub exact : weightOf t ≤ 1073741823 → mapForm (lift prime prime-pos) (normP t) ≡ normℤ t
+  exact w =
+      ap (mapForm (lift prime prime-pos)) (residue (omega arith)) ∙ lift-form prime prime-pos (normℤ t) (omega (arith, weight-norm t))
