@@ -1,8 +1,9 @@
 -- Sparse Horner forms (Definition 4) and the operations on them (Definitions 7 to 12).
 -- Definitions 9 and 11 call themselves on forms that are no parts of their arguments, so `sumF` and `prodF` take a number that falls with each call; `sum`
 -- and `prod` start them with the two sizes, which is always enough: laws/Equations has each clause as printed, of `sum` and `prod` themselves.
-use mathlib.Core.Bool.{Bool, false, cond}
+use mathlib.Core.Bool.{Bool, false, cond, _&&_}
 use Prim.Native.Nat.{ℕ, zero, suc, _+_}
+use lib.Dec.{eqb}
 use Rattle.horner.specs.definitions.Ring.{Ring}
 
 -- ---- two numbers compared, with their distance
@@ -141,3 +142,16 @@ module _ {A : Type 0} (R : Ring A) where
   -- Definition 13 (b): "x = v_i: norm(x, V) = pop(i, (POW 1 1 0))"
   abbrev pub letter : ℕ → Form A
   letter i = mkpop i (pow 1 (int unit) zeroForm)
+
+-- equality of forms as a test, by one of coefficients (laws/Decide)
+module _ {A : Type 0} (eq : A → A → Bool) where
+  abbrev pub eqForm : Form A → Form A → Bool
+  eqForm (int a) (int b) = eq a b
+  eqForm (int a) (pop j q) = false
+  eqForm (int a) (pow j r s) = false
+  eqForm (pop i p) (int b) = false
+  eqForm (pop i p) (pop j q) = eqb i j && eqForm p q
+  eqForm (pop i p) (pow j r s) = false
+  eqForm (pow i p q) (int b) = false
+  eqForm (pow i p q) (pop j r) = false
+  eqForm (pow i p q) (pow j r s) = eqb i j && (eqForm p r && eqForm q s)

@@ -50,5 +50,5 @@ module _ {A : Type 0} (R : Ring A) where
   -- the same as a test (laws/Decide: it decides `Normal`)
   abbrev pub isNormal : ℕ → Form A → Bool
   isNormal n (int c) = true
-  isNormal n (pop i p) = leb 1 i && isPow p && isNormal (n - i) p
-  isNormal n (pow i p q) = leb 1 i && leb 1 n && isNormal n p && leads p && isNormal (n - 1) q
+  isNormal n (pop i p) = leb 1 i && (isPow p && isNormal (n - i) p)
+  isNormal n (pow i p q) = leb 1 i && (leb 1 n && (isNormal n p && (leads p && isNormal (n - 1) q)))

@@ -6,7 +6,7 @@ use mathlib.Core.Path.{_≡_}
 use Prim.Native.Nat.{ℕ, zero, suc, _≤_, _<_}
 use lib.ListN.{length}
 use Rattle.horner.specs.definitions.Form.{Form, int, pop, pow, lower, isZero, sum, negate, scale}
-use Rattle.horner.specs.definitions.Measures.{maxs, degreesOf}
+use Rattle.horner.specs.definitions.Measures.{maxs, degrees}
 use Rattle.horner.specs.definitions.Residues.{Res, prime, P-ring}
 use Rattle.horner.specs.definitions.Ring.{Ring, power, nat}
 use Rattle.horner.specs.definitions.Term.{Term, normP, evalP}
@@ -54,12 +54,12 @@ module _ {A : Type 0} (R : Ring A) where
     pub earlier : (M : List ℕ) → Before M N → length M ≡ length ds → val R x (nats R M) ≡ nil
 
 -- ---- of two terms
--- their difference over the remainders by P, and the larger degree in each variable
+-- their difference over the remainders by P, and in each variable the "highest power in the two forms"
 abbrev pub gap : Term → Term → Form (Res prime)
 gap f g = sum P-ring (normP f) (negate P-ring (normP g))
 
 abbrev pub sides : ℕ → Term → Term → List ℕ
-sides n f g = maxs (degreesOf n f) (degreesOf n g)
+sides n f g = maxs (degrees n (normP f)) (degrees n (normP g))
 
 -- "the first, in row order, among all assignments of whole numbers from zero up where the values leave different remainders"
 pub record IsPoint (n : ℕ) (f g : Term) (N : List ℕ) : Type 0 where

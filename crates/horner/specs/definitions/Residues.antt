@@ -1,5 +1,5 @@
 -- The remainders by m, for any m > 0, and P = 2,147,483,647.
-use mathlib.Core.Bool.{cond}
+use mathlib.Core.Bool.{Bool, cond}
 use mathlib.Core.HLevel.{Σ-prop-path}
 use mathlib.Core.Path.{_≡_, sym, _∙_, ap, subst}
 use Prim.Native.Nat.{ℕ, zero, suc, _+_, _-_, _<_, _*_, _%_, _/_}
@@ -29,6 +29,9 @@ powBy m a (suc n) = mulBy m a (powBy m a n)
 -- a number with a computed proof that it is below m, which is `tt` at literals
 abbrev pub Res : ℕ → Type 0
 Res m = (n : ℕ) × T (ltb n m)
+
+abbrev pub eqRes : (m : ℕ) → Res m → Res m → Bool
+eqRes m a b = eqb (a .0) (b .0)
 
 module _ (m : ℕ) (m-pos : 0 < m) where
   -- "A remainder is from 0 to P - 1, also for negative values."

@@ -4,21 +4,21 @@ use mathlib.Core.Bool.{false}
 use mathlib.Core.List.{List, [], _∷_}
 use mathlib.Core.Logic.{_⊎_, inl, inr, _↔_}
 use mathlib.Core.Path.{_≡_, refl, sym, _∙_, ap, ap₂, subst}
-use Prim.Native.Nat.{ℕ, zero, suc, _<_}
+use Prim.Native.Nat.{ℕ, zero, suc, _+_, _-_, _<_}
 use native.Mathlib.Omega.{arith}
 use lib.IntN.{ℤ}
 use lib.ListN.{length}
-use Rattle.horner.specs.definitions.Form.{isZero, negate}
-use Rattle.horner.specs.definitions.Measures.{maxs, AllLe, degreesOf, Within, weight, degrees, Bounded}
+use Rattle.horner.specs.definitions.Form.{Form, int, pop, pow, isZero, negate}
+use Rattle.horner.specs.definitions.Measures.{zeros, firstOr0, maxs, AllLe, degreesOf, Within, weight, degrees, Bounded}
 use Rattle.horner.specs.definitions.Normal.{Zero, Normal}
 use Rattle.horner.specs.definitions.Points.{Before, firstPoint, IsFirst, gap, sides, IsPoint}
 use Rattle.horner.specs.definitions.Residues.{Res, redℤ, lift, prime, prime-pos, P-ring}
-use Rattle.horner.specs.definitions.Term.{Term, evalℤ, normP, evalP}
-use Rattle.horner.specs.definitions.Value.{val, nats}
+use Rattle.horner.specs.definitions.Term.{Term, normℤ, evalℤ, normP, evalP}
+use Rattle.horner.specs.definitions.Value.{tl, val, nats}
 use Rattle.horner.specs.laws.Bounds.{bounded-sum, bounded-negate}
 use Rattle.horner.specs.laws.Cancel.{difference}
 use Rattle.horner.specs.laws.Canonical.{length-box}
-use Rattle.horner.specs.laws.Degree.{bounded-mono, length-maxs, maxs-left, maxs-right}
+use Rattle.horner.specs.laws.Degree.{bounded-mono, length-maxs, maxs-left, maxs-right, length-degrees, bounded-degrees, degrees-least, all-le-below}
 use Rattle.horner.specs.laws.First.{first-is}
 use Rattle.horner.specs.laws.Grid.{grid}
 use Rattle.horner.specs.laws.Hom.{mapForm}
@@ -35,6 +35,23 @@ all-le-maxs K [] es h g = tt
 all-le-maxs K (d ∷ ds) [] h g = h
 all-le-maxs K (d ∷ ds) (e ∷ es) h g = (omega (arith, h .0, g .0), all-le-maxs K ds es (h .1) (g .1))
 
+-- a form's degrees are within its term's
+degrees-63 : (n : ℕ) (t : Term) → Within n t → AllLe 63 (degrees n (normP t))
+degrees-63 n t W =
+    all-le-below 63 (degrees n (normP t)) (degreesOf n t)
+    (degrees-least P-ring n (degreesOf n t) (normP t) (normal-norm P-ring (redℤ prime prime-pos) refl n t (W .over)) (length-degreesOf n t (W .over))
+    (bounded-norm P-ring (redℤ prime prime-pos) n t (W .over)))
+    (W .degrees)
+
+-- and they are those of the form over the integers
+degrees-map : {A B : Type 0} (h : A → B) (n : ℕ) (x : Form A) → degrees n (mapForm h x) ≡ degrees n x
+degrees-map h n (int c) = refl
+degrees-map h n (pop i p) = ap (zeros i) (degrees-map h (n - i) p)
+degrees-map h n (pow i p q) = ap₂ (λ ds es. (i + firstOr0 ds) ∷ maxs (tl ds) es) (degrees-map h n p) (degrees-map h (n - 1) q)
+
+pub degrees-normP : (n : ℕ) (t : Term) → Within n t → degrees n (normP t) ≡ degrees n (normℤ t)
+degrees-normP n t W = ap (degrees n) (residue n t (W .over) (W .degrees) (omega (arith, W .weight))) ∙ degrees-map (redℤ prime prime-pos) n (normℤ t)
+
 module _ (n : ℕ) (f g : Term) (F : Within n f) (G : Within n g) where
   pub same-iff : (normP f ≡ normP g) ↔ ((N : List ℤ) → length N ≡ n → evalℤ f N ≡ evalℤ g N)
   same-iff = (
@@ -50,23 +67,31 @@ module _ (n : ℕ) (f g : Term) (F : Within n f) (G : Within n g) where
       ∙ ap₂ (P-ring .add) (val-norm P-ring (redℤ prime prime-pos) f (nats P-ring N))
       (val-negate P-ring (normP g) (nats P-ring N) ∙ ap (P-ring .neg) (val-norm P-ring (redℤ prime prime-pos) g (nats P-ring N)))
 
-  length-sides : length (sides n f g) ≡ n
-  length-sides = length-maxs (degreesOf n f) (degreesOf n g) ∙ length-degreesOf n f (F .over)
+  normal-F : Normal P-ring n (normP f)
+  normal-F = normal-norm P-ring (redℤ prime prime-pos) refl n f (F .over)
+
+  normal-G : Normal P-ring n (normP g)
+  normal-G = normal-norm P-ring (redℤ prime prime-pos) refl n g (G .over)
+
+  pub length-sides : length (sides n f g) ≡ n
+  length-sides = length-maxs (degrees n (normP f)) (degrees n (normP g)) ∙ length-degrees P-ring n (normP f) normal-F
+
+  sides-63 : AllLe 63 (sides n f g)
+  sides-63 = all-le-maxs 63 (degrees n (normP f)) (degrees n (normP g)) (degrees-63 n f F) (degrees-63 n g G)
 
   normal-gap : Normal P-ring (length (sides n f g)) (gap f g)
   normal-gap =
       subst (λ z. Normal P-ring z (gap f g)) (sym length-sides)
-      (normal-sum P-ring n (normP f) (negate P-ring (normP g)) (normal-norm P-ring (redℤ prime prime-pos) refl n f (F .over))
-      (normal-negate P-ring n (normP g) (normal-norm P-ring (redℤ prime prime-pos) refl n g (G .over))))
+      (normal-sum P-ring n (normP f) (negate P-ring (normP g)) normal-F (normal-negate P-ring n (normP g) normal-G))
 
   bounded-gap : Bounded (sides n f g) (gap f g)
   bounded-gap =
       bounded-sum P-ring (sides n f g) (normP f) (negate P-ring (normP g))
-      (bounded-mono (normP f) (degreesOf n f) (sides n f g) (maxs-left (degreesOf n f) (degreesOf n g)) (bounded-norm P-ring (redℤ prime prime-pos) n f (F .over)))
+      (bounded-mono (normP f) (degrees n (normP f)) (sides n f g) (maxs-left (degrees n (normP f)) (degrees n (normP g))) (bounded-degrees P-ring n (normP f) normal-F))
       (bounded-negate P-ring (sides n f g) (normP g)
-      (bounded-mono (normP g) (degreesOf n g) (sides n f g)
-      (maxs-right (degreesOf n f) (degreesOf n g) (length-degreesOf n g (G .over) ∙ sym (length-degreesOf n f (F .over))))
-      (bounded-norm P-ring (redℤ prime prime-pos) n g (G .over))))
+      (bounded-mono (normP g) (degrees n (normP g)) (sides n f g)
+      (maxs-right (degrees n (normP f)) (degrees n (normP g)) (length-degrees P-ring n (normP g) normal-G ∙ sym (length-degrees P-ring n (normP f) normal-F)))
+      (bounded-degrees P-ring n (normP g) normal-G)))
 
   pub point-is : isZero P-ring (gap f g) ≡ false → IsPoint n f g (firstPoint P-ring (sides n f g) (gap f g))
   point-is nz =
@@ -77,7 +102,7 @@ module _ (n : ℕ) (f g : Term) (F : Within n f) (G : Within n g) where
       }
     where
       p : IsFirst P-ring (sides n f g) (gap f g) (firstPoint P-ring (sides n f g) (gap f g))
-      p = first-is P-ring 63 P-regular (sides n f g) (all-le-maxs 63 (degreesOf n f) (degreesOf n g) (F .degrees) (G .degrees)) (gap f g) normal-gap bounded-gap nz
+      p = first-is P-ring 63 P-regular (sides n f g) sides-63 (gap f g) normal-gap bounded-gap nz
 
       level : (a b : Res prime) → P-ring .add a (P-ring .neg b) ≡ P-ring .nil → a ≡ b
       level a b e = sym (neg-neg P-ring a) ∙ ap (P-ring .neg) (sym (neg-unique P-ring a (P-ring .neg b) e)) ∙ neg-neg P-ring b
@@ -87,7 +112,7 @@ module _ (n : ℕ) (f g : Term) (F : Within n f) (G : Within n g) where
   gap-zero = (
     λ z. difference P-ring n (normP f) (normP g) (normal-norm P-ring (redℤ prime prime-pos) refl n f (F .over))
         (normal-negate P-ring n (normP g) (normal-norm P-ring (redℤ prime prime-pos) refl n g (G .over))) z,
-    λ e. grid P-ring 63 P-regular (sides n f g) (all-le-maxs 63 (degreesOf n f) (degreesOf n g) (F .degrees) (G .degrees)) (gap f g) normal-gap bounded-gap
+    λ e. grid P-ring 63 P-regular (sides n f g) sides-63 (gap f g) normal-gap bounded-gap
         (λ N m. val-sum P-ring (normP f) (negate P-ring (normP g)) (nats P-ring N)
         ∙ ap₂ (P-ring .add) (ap (λ x. val P-ring x (nats P-ring N)) e) (val-negate P-ring (normP g) (nats P-ring N)) ∙ P-ring .add-neg (val P-ring (normP g) (nats P-ring N))),
   )
@@ -130,3 +155,13 @@ point-unique n f g l M N p q = at (order M N (lm ∙ sym ln))
     at (inl e) = e
     at (inr (inl b)) = absurd (p .differs (q .earlier M b (lm ∙ l)))
     at (inr (inr b)) = absurd (q .differs (p .earlier N b (ln ∙ l)))
+
+-- and it comes before every other point at which the remainders differ
+pub point-before : (n : ℕ) (f g : Term) → length (sides n f g) ≡ n → (N : List ℕ) → IsPoint n f g N
+    → (M : List ℕ) → length M ≡ n → (evalP f M ≡ evalP g M → ⊥) → (M ≡ N) ⊎ Before N M
+point-before n f g l N p M m d = at (order M N (m ∙ sym (length-box (sides n f g) N (p .inside) ∙ l)))
+  where
+    at : (M ≡ N) ⊎ (Before M N ⊎ Before N M) → (M ≡ N) ⊎ Before N M
+    at (inl e) = inl e
+    at (inr (inl b)) = absurd (d (p .earlier M b m))
+    at (inr (inr b)) = inr b

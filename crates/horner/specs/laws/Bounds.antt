@@ -2,15 +2,18 @@
 use mathlib.Core.List.{List, [], _∷_}
 use mathlib.Core.Path.{_≡_, refl, sym, _∙_, ap, ap₂, subst}
 use Prim.Native.Nat.{ℕ, zero, suc, _+_, _-_, _≤_}
+use native.Mathlib.Nat as NatL
 use native.Mathlib.Omega.{arith}
-use Rattle.horner.specs.definitions.Form.{Form, int, pop, pow, size, mkpop, lower, isZero, zeroForm, mkpow, addInt, sumF, sum, negate, scale, prodF, prod}
-use Rattle.horner.specs.definitions.Measures.{firstOr0, sums, Bounded}
+use lib.ListN.{length}
+use Rattle.horner.specs.definitions.Form.{Form, int, pop, pow, size, mkpop, lower, isZero, zeroForm, mkpow, addInt, sumF, sum, negate, scale, prodF, prod, raise}
+use Rattle.horner.specs.definitions.Measures.{firstOr0, sums, multiples, Bounded}
 use Rattle.horner.specs.definitions.Ring.{Ring}
 use Rattle.horner.specs.definitions.Value.{tl, after}
 use Rattle.horner.specs.laws.Compare.{cmp-cases}
 use Rattle.horner.specs.laws.Degree.{Below, below-refl, bounded-mono}
 use Rattle.horner.specs.laws.Grid.{bounded-lower}
-use Rattle.horner.specs.laws.Value.{cond-cases, size-pos, after-add, lower-fits, lower-fits′, size-mkpop}
+use Rattle.horner.specs.laws.Tests.{cond-cases}
+use Rattle.horner.specs.laws.Value.{size-pos, after-add, lower-fits, lower-fits′, size-mkpop}
 
 module _ {A : Type 0} where
   -- bounds written another way
@@ -109,6 +112,15 @@ after-sums : (i : ℕ) (ds es : List ℕ) → after i (sums ds es) ≡ sums (aft
 after-sums zero ds es = refl
 after-sums (suc i) ds es = ap (after i) (tl-sums ds es) ∙ after-sums i (tl ds) (tl es)
 
+pub length-sums : (ds es : List ℕ) → length ds ≡ length es → length (sums ds es) ≡ length es
+length-sums ds [] h = h
+length-sums [] (e ∷ es) h = absurd (omega arith)
+length-sums (d ∷ ds) (e ∷ es) h = ap suc (length-sums ds es (omega arith))
+
+sums-multiples : (k : ℕ) (ds : List ℕ) → sums ds (multiples k ds) ≡ multiples (suc k) ds
+sums-multiples k [] = refl
+sums-multiples k (d ∷ ds) = ap₂ _∷_ (omega (arith, NatL.suc-mul k d)) (sums-multiples k ds)
+
 sums-right : (ds es : List ℕ) → Below es (sums ds es)
 sums-right ds [] = tt
 sums-right ds (e ∷ es) = (omega arith, sums-right (tl ds) es)
@@ -190,3 +202,7 @@ module _ {A : Type 0} (R : Ring A) where
 
   pub bounded-prod : (ds es : List ℕ) (x y : Form A) → Bounded ds x → Bounded es y → Bounded (sums ds es) (prod R x y)
   bounded-prod ds es x y hx hy = bounded-prodF (size x + size y) ds es x y (omega arith) hx hy
+
+  pub bounded-raise : (ds : List ℕ) (x : Form A) → Bounded ds x → (k : ℕ) → Bounded (multiples k ds) (raise R x k)
+  bounded-raise ds x h zero = tt
+  bounded-raise ds x h (suc k) = subst (λ z. Bounded z (raise R x (suc k))) (sums-multiples k ds) (bounded-prod ds (multiples k ds) x (raise R x k) h (bounded-raise ds x h k))

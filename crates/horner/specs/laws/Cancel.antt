@@ -9,7 +9,8 @@ use Rattle.horner.specs.definitions.Ring.{Ring}
 use Rattle.horner.specs.laws.Compare.{cmp-cases}
 use Rattle.horner.specs.laws.Normal.{lead-negate, pow-negate}
 use Rattle.horner.specs.laws.Ring.{neg-unique, neg-neg}
-use Rattle.horner.specs.laws.Value.{cond-cases, size-pos}
+use Rattle.horner.specs.laws.Tests.{cond-cases}
+use Rattle.horner.specs.laws.Value.{size-pos}
 
 module _ {A : Type 0} (R : Ring A) where
   open Ring R using (add, neg, nil, isNil, add-comm, isNil-true, isNil-nil)

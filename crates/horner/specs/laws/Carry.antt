@@ -2,26 +2,27 @@
 -- of the operation over the integers.
 use mathlib.Core.List.{List}
 use mathlib.Core.Path.{_≡_, sym, _∙_, ap, ap₂, subst}
-use Prim.Native.Nat.{ℕ, _+_, _<_, _*_}
+use Prim.Native.Nat.{ℕ, _+_, _≤_, _<_, _*_, _^_}
 use native.Mathlib.Omega.{arith}
 use lib.IntN.{ℤ, natAbs}
-use lib.ListN.{length}
-use Rattle.horner.specs.definitions.Form.{Form, int, pop, pow, sum, negate, prod}
+use lib.ListN.{length, length-map}
+use Rattle.horner.specs.definitions.Form.{Form, int, pop, pow, sum, negate, prod, raise}
 use Rattle.horner.specs.definitions.Integers.{ℤ-ring}
-use Rattle.horner.specs.definitions.Measures.{sums, AllLe, weight, Bounded}
+use Rattle.horner.specs.definitions.Measures.{sums, multiples, AllLe, weight, Bounded}
 use Rattle.horner.specs.definitions.Normal.{Normal}
-use Rattle.horner.specs.definitions.Residues.{Res, redℤ, prime, prime-pos, P-ring}
+use Rattle.horner.specs.definitions.Residues.{Res, redℤ, lift, prime, prime-pos, P-ring}
+use Rattle.horner.specs.definitions.Ring.{power}
 use Rattle.horner.specs.definitions.Value.{val, nats}
-use Rattle.horner.specs.laws.Bounds.{bounded-sum, bounded-prod}
+use Rattle.horner.specs.laws.Bounds.{bounded-sum, bounded-prod, bounded-raise}
 use Rattle.horner.specs.laws.Canonical.{canon-box}
-use Rattle.horner.specs.laws.Hom.{mapForm, val-map}
-use Rattle.horner.specs.laws.Lifting.{bounded-map, red-hom, normal-red}
-use Rattle.horner.specs.laws.Limits.{weight-size}
-use Rattle.horner.specs.laws.Measure.{meas-sum, meas-prod}
-use Rattle.horner.specs.laws.Normal.{normal-sum, normal-prod}
+use Rattle.horner.specs.laws.Hom.{mapForm, map-power, val-map}
+use Rattle.horner.specs.laws.Lifting.{bounded-map, red-hom, normal-red, lift-form}
+use Rattle.horner.specs.laws.Measure.{meas-sum, meas-prod, meas-raise}
+use Rattle.horner.specs.laws.Normal.{normal-sum, normal-prod, normal-raise}
 use Rattle.horner.specs.laws.Prime.{P-regular}
 use Rattle.horner.specs.laws.Term.{map-nats}
-use Rattle.horner.specs.laws.Value.{val-sum, val-prod}
+use Rattle.horner.specs.laws.Value.{val-sum, val-prod, val-raise}
+use Rattle.horner.specs.laws.Weight.{weight-size}
 
 abbrev pub ρ : ℤ → Res prime
 ρ z = redℤ prime prime-pos z
@@ -40,18 +41,18 @@ val-carry x N =
     ap (val P-ring (carry x)) (sym (map-nats P-ring (redℤ prime prime-pos) (red-hom prime prime-pos) N))
     ∙ val-map ℤ-ring P-ring (redℤ prime prime-pos) (red-hom prime prime-pos) x (nats ℤ-ring N)
 
-module _ (n : ℕ) (x y : Form ℤ) (hx : Normal ℤ-ring n x) (hy : Normal ℤ-ring n y) where
-  -- a form over the remainders that has the remainders of v's values is v carried over
-  carried : (ds : List ℕ) → length ds ≡ n → AllLe 63 ds → (u : Form (Res prime)) (v : Form ℤ) → Normal P-ring n u → Normal ℤ-ring n v → weight v < prime
-      → Bounded ds u → Bounded ds v → ((N : List ℕ) → val P-ring u (nats P-ring N) ≡ ρ (val ℤ-ring v (nats ℤ-ring N))) → u ≡ carry v
-  carried ds l le u v hu hv w bu bv agree =
-      canon-box P-ring 63 P-regular ds le u (carry v) (subst (λ z. Normal P-ring z u) (sym l) hu)
-      (subst (λ z. Normal P-ring z (carry v)) (sym l) (normal-red prime prime-pos n v w hv)) bu (bounded-map ρ ds v bv) (λ N m. agree N ∙ sym (val-carry v N))
+-- a form over the remainders that has the remainders of v's values is v carried over
+carried : (n : ℕ) (ds : List ℕ) → length ds ≡ n → AllLe 63 ds → (u : Form (Res prime)) (v : Form ℤ) → Normal P-ring n u → Normal ℤ-ring n v → weight v < prime
+    → Bounded ds u → Bounded ds v → ((N : List ℕ) → val P-ring u (nats P-ring N) ≡ ρ (val ℤ-ring v (nats ℤ-ring N))) → u ≡ carry v
+carried n ds l le u v hu hv w bu bv agree =
+    canon-box P-ring 63 P-regular ds le u (carry v) (subst (λ z. Normal P-ring z u) (sym l) hu)
+    (subst (λ z. Normal P-ring z (carry v)) (sym l) (normal-red prime prime-pos n v w hv)) bu (bounded-map ρ ds v bv) (λ N m. agree N ∙ sym (val-carry v N))
 
+module _ (n : ℕ) (x y : Form ℤ) (hx : Normal ℤ-ring n x) (hy : Normal ℤ-ring n y) where
   pub carry-sum : (ds : List ℕ) → length ds ≡ n → AllLe 63 ds → Bounded ds x → Bounded ds y → weight x + weight y < prime
       → sum P-ring (carry x) (carry y) ≡ carry (sum ℤ-ring x y)
   carry-sum ds l le bx by w =
-      carried ds l le (sum P-ring (carry x) (carry y)) (sum ℤ-ring x y)
+      carried n ds l le (sum P-ring (carry x) (carry y)) (sum ℤ-ring x y)
       (normal-sum P-ring n (carry x) (carry y) (normal-red prime prime-pos n x (omega arith) hx) (normal-red prime prime-pos n y (omega arith) hy)) (normal-sum ℤ-ring n x y hx hy)
       (omega (arith, meas-sum ℤ-ring natAbs weight-size x y))
       (bounded-sum P-ring ds (carry x) (carry y) (bounded-map ρ ds x bx) (bounded-map ρ ds y by)) (bounded-sum ℤ-ring ds x y bx by)
@@ -61,9 +62,24 @@ module _ (n : ℕ) (x y : Form ℤ) (hx : Normal ℤ-ring n x) (hy : Normal ℤ-
   pub carry-prod : (ds es : List ℕ) → length (sums ds es) ≡ n → AllLe 63 (sums ds es) → Bounded ds x → Bounded es y
       → weight x < prime → weight y < prime → weight x * weight y < prime → prod P-ring (carry x) (carry y) ≡ carry (prod ℤ-ring x y)
   carry-prod ds es l le bx by wx wy w =
-      carried (sums ds es) l le (prod P-ring (carry x) (carry y)) (prod ℤ-ring x y)
+      carried n (sums ds es) l le (prod P-ring (carry x) (carry y)) (prod ℤ-ring x y)
       (normal-prod P-ring n (carry x) (carry y) (normal-red prime prime-pos n x wx hx) (normal-red prime prime-pos n y wy hy)) (normal-prod ℤ-ring n x y hx hy)
       (omega (arith, meas-prod ℤ-ring natAbs weight-size x y))
       (bounded-prod P-ring ds es (carry x) (carry y) (bounded-map ρ ds x bx) (bounded-map ρ es y by)) (bounded-prod ℤ-ring ds es x y bx by)
       (λ N. val-prod P-ring (carry x) (carry y) (nats P-ring N) ∙ ap₂ (P-ring .mul) (val-carry x N) (val-carry y N)
       ∙ sym (red-hom prime prime-pos .keeps-mul (val ℤ-ring x (nats ℤ-ring N)) (val ℤ-ring y (nats ℤ-ring N))) ∙ ap ρ (sym (val-prod ℤ-ring x y (nats ℤ-ring N))))
+
+-- powers
+pub carry-raise : (n : ℕ) (x : Form ℤ) → Normal ℤ-ring n x → (ds : List ℕ) (k : ℕ) → length ds ≡ n → AllLe 63 (multiples k ds) → Bounded ds x
+    → weight x < prime → weight x ^ k < prime → raise P-ring (carry x) k ≡ carry (raise ℤ-ring x k)
+carry-raise n x hx ds k l le bx wx w =
+    carried n (multiples k ds) (length-map ds (λ d. k * d) ∙ l) le (raise P-ring (carry x) k) (raise ℤ-ring x k)
+    (normal-raise P-ring n (carry x) k (normal-red prime prime-pos n x wx hx)) (normal-raise ℤ-ring n x k hx)
+    (omega (arith, meas-raise ℤ-ring natAbs weight-size (omega arith) x (weight x) (omega arith) k))
+    (bounded-raise P-ring ds (carry x) (bounded-map ρ ds x bx) k) (bounded-raise ℤ-ring ds x bx k)
+    (λ N. val-raise P-ring (carry x) k (nats P-ring N) ∙ ap (λ z. power P-ring z k) (val-carry x N)
+    ∙ sym (map-power ℤ-ring P-ring ρ (red-hom prime prime-pos) (val ℤ-ring x (nats ℤ-ring N)) k) ∙ ap ρ (sym (val-raise ℤ-ring x k (nats ℤ-ring N))))
+
+-- and back: within the weight limit nothing is lost
+pub lift-carry : (x : Form ℤ) → weight x ≤ 1073741823 → mapForm (lift prime prime-pos) (carry x) ≡ x
+lift-carry x w = lift-form prime prime-pos x (omega arith)

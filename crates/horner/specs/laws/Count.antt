@@ -1,30 +1,28 @@
--- The number of coefficients of a form that are not 0: how it goes under the operations, how large the box lets it be, and how large it lets the form be.
-use mathlib.Core.Bool.{Bool, true, false, cond, true≢false}
+-- The number of coefficients of a form that are not 0: how it goes under the operations, and how large the box lets it be.
+use mathlib.Core.Bool.{false, cond, true≢false}
 use mathlib.Core.List.{List, [], _∷_}
 use mathlib.Core.Path.{_≡_, refl, sym, _∙_, ap, ap₂}
 use Prim.Native.Nat.{ℕ, zero, suc, _+_, _-_, _≤_, _*_}
 use native.Mathlib.Nat as NatL
 use native.Mathlib.Omega.{arith}
-use Rattle.horner.specs.definitions.Form.{Form, int, pop, pow, size, isZero}
+use Rattle.horner.specs.definitions.Form.{Form, int, pop, pow, isZero}
 use Rattle.horner.specs.definitions.Measures.{box, one-if, count, Bounded}
-use Rattle.horner.specs.definitions.Normal.{IsPow, Lead, Normal}
+use Rattle.horner.specs.definitions.Normal.{Normal}
 use Rattle.horner.specs.definitions.Ring.{Ring}
 use Rattle.horner.specs.definitions.Value.{after}
 use Rattle.horner.specs.laws.Measure.{Size}
+use Rattle.horner.specs.laws.Normal.{lead-not-zero, pow-not-zero}
 use Rattle.horner.specs.laws.Ring.{mul-nil, nil-mul, neg-neg, neg-nil}
-use Rattle.horner.specs.laws.Value.{cond-cases}
+use Rattle.horner.specs.laws.Tests.{cond-cases}
 
-box-pos : (ds : List ℕ) → 1 ≤ box ds
+pub box-pos : (ds : List ℕ) → 1 ≤ box ds
 box-pos [] = omega arith
 box-pos (d ∷ ds) = omega (arith, NatL.suc-mul d (box ds), box-pos ds)
 
-box-after : (i : ℕ) (ds : List ℕ) → box (after i ds) ≤ box ds
+pub box-after : (i : ℕ) (ds : List ℕ) → box (after i ds) ≤ box ds
 box-after zero ds = omega arith
 box-after (suc i) [] = box-after i []
 box-after (suc i) (d ∷ ds) = omega (arith, box-after i ds, NatL.suc-mul d (box ds))
-
-abbrev pub rate : ℕ → ℕ
-rate n = 3 * n + 2
 
 module _ {A : Type 0} (R : Ring A) where
   open Ring R using (add, neg, mul, nil, isNil, add-nil, isNil-true, isNil-nil)
@@ -63,20 +61,10 @@ module _ {A : Type 0} (R : Ring A) where
   count-size = record { of-nil = one-if-nil nil refl; of-add = one-if-add; of-mul = one-if-mul; of-neg = one-if-neg }
 
   -- ---- at least one where the form is not 0
-  lead-not-zero : (x : Form A) → Lead R x → isZero R x ≡ false
-  lead-not-zero (int c) h = h
-  lead-not-zero (pop i p) h = refl
-  lead-not-zero (pow i p q) h = refl
-
-  pow-not-zero : (x : Form A) → IsPow x → isZero R x ≡ false
-  pow-not-zero (int c) h = absurd h
-  pow-not-zero (pop i p) h = refl
-  pow-not-zero (pow i p q) h = refl
-
   pub count-pos : (n : ℕ) (x : Form A) → Normal R n x → isZero R x ≡ false → 1 ≤ count R x
   count-pos n (int c) h z = cond-cases (isNil c) (λ w. 1 ≤ w) 0 1 (λ e. absurd (true≢false (sym e ∙ z))) (λ e. omega arith)
-  count-pos n (pop i p) h z = count-pos (n - i) p (h .2) (pow-not-zero p (h .1))
-  count-pos n (pow i p q) h z = omega (arith, count-pos n p (h .2) (lead-not-zero p (h .3)))
+  count-pos n (pop i p) h z = count-pos (n - i) p (h .2) (pow-not-zero R p (h .1))
+  count-pos n (pow i p q) h z = omega (arith, count-pos n p (h .2) (lead-not-zero R p (h .3)))
 
   -- ---- at most the box
   pub count-box : (n : ℕ) (ds : List ℕ) (x : Form A) → Normal R n x → Bounded ds x → count R x ≤ box ds
@@ -94,55 +82,3 @@ module _ {A : Type 0} (R : Ring A) where
     where
       fits : (d i : ℕ) → 1 ≤ i → i ≤ d → suc (suc (d - i)) ≤ suc d
       fits d i f g = omega arith
-
-  -- ---- the size of a normal form in n variables: at most (3 n + 2) for each coefficient, and 1
-  rate-step : (m n c : ℕ) → suc m ≤ n → rate m * c + 3 * c ≤ rate n * c
-  rate-step m n c h = omega (arith, NatL.mul-le-mul-right c (more m n h), NatL.add-mul (rate m) 3 c)
-    where
-      more : (m n : ℕ) → suc m ≤ n → 3 * m + 2 + 3 ≤ 3 * n + 2
-      more m n h = omega arith
-
-  zero-size : (x : Form A) → isZero R x ≡ true → size x ≡ 1
-  zero-size (int c) h = refl
-  zero-size (pop i p) h = absurd (true≢false (sym h))
-  zero-size (pow i p q) h = absurd (true≢false (sym h))
-
-  -- a POW, from what is known of its parts
-  pow-size : (n i : ℕ) (p q : Form A) → Normal R n (pow i p q) → size p + 1 ≤ rate n * count R p → size q ≤ rate (n - 1) * count R q + 1
-      → isZero R q ≡ false → size (pow i p q) + 1 ≤ rate n * count R (pow i p q)
-  pow-size n i p q h hp hq z =
-      omega (arith, hp, hq, rate-step (n - 1) n (count R q) (one-less n (h .1)), count-pos (n - 1) q (h .4) z, NatL.mul-add (rate n) (count R p) (count R q))
-    where
-      one-less : (n : ℕ) → 1 ≤ n → suc (n - 1) ≤ n
-      one-less n h = omega arith
-
-  pow-size-any : (n i : ℕ) (p q : Form A) → Normal R n (pow i p q) → size p + 1 ≤ rate n * count R p → size q ≤ rate (n - 1) * count R q + 1
-      → size (pow i p q) ≤ rate n * count R (pow i p q) + 1
-  pow-size-any n i p q h hp hq = at (isZero R q) refl
-    where
-      at : (b : Bool) → isZero R q ≡ b → size (pow i p q) ≤ rate n * count R (pow i p q) + 1
-      at true e = omega (arith, hp, zero-size q e, NatL.mul-add (rate n) (count R p) (count R q))
-      at false e = omega (arith, pow-size n i p q h hp hq e)
-
-  pub pow-level : (n : ℕ) (p : Form A) → IsPow p → Normal R n p → 1 ≤ n
-  pow-level n (int c) w h = absurd w
-  pow-level n (pop i p) w h = absurd w
-  pow-level n (pow i p q) w h = h .1
-
-  pop-size : (n i : ℕ) (p : Form A) → Normal R n (pop i p) → size p ≤ rate (n - i) * count R p + 1 → size (pop i p) + 1 ≤ rate n * count R p
-  pop-size n i p h hp =
-      omega (arith, hp, rate-step (n - i) n (count R p) (below n i (h .0) (pow-level (n - i) p (h .1) (h .2))), count-pos (n - i) p (h .2) (pow-not-zero p (h .1)))
-    where
-      below : (n i : ℕ) → 1 ≤ i → 1 ≤ n - i → suc (n - i) ≤ n
-      below n i f g = omega arith
-
-  mutual
-    pub size-any : (n : ℕ) (x : Form A) → Normal R n x → size x ≤ rate n * count R x + 1
-    size-any n (int c) h = omega arith
-    size-any n (pop i p) h = omega (arith, pop-size n i p h (size-any (n - i) p (h .2)))
-    size-any n (pow i p q) h = pow-size-any n i p q h (size-lead n p (h .2) (h .3)) (size-any (n - 1) q (h .4))
-
-    pub size-lead : (n : ℕ) (x : Form A) → Normal R n x → Lead R x → size x + 1 ≤ rate n * count R x
-    size-lead n (int c) h l = omega (arith, ap (λ b. rate n * cond b 0 1) l)
-    size-lead n (pop i p) h l = pop-size n i p h (size-any (n - i) p (h .2))
-    size-lead n (pow i p q) h l = pow-size n i p q h (size-lead n p (h .2) (h .3)) (size-any (n - 1) q (h .4)) l

@@ -9,6 +9,7 @@ use Rattle.horner.specs.definitions.Measures.{zeros, firstOr0, maxs, tot
 use Rattle.horner.specs.definitions.Normal.{Normal}
 use Rattle.horner.specs.definitions.Ring.{Ring}
 use Rattle.horner.specs.definitions.Value.{tl, after}
+use Rattle.horner.specs.laws.Normal.{pow-level}
 
 -- ---- longer bounds
 abbrev pub Below : List ℕ → List ℕ → Type 0
@@ -62,7 +63,7 @@ maxs-right [] (e ∷ es) h = absurd (omega arith)
 maxs-right (d ∷ ds) [] h = tt
 maxs-right (d ∷ ds) (e ∷ es) h = (omega arith, maxs-right ds es (omega arith))
 
-length-tl : (ds : List ℕ) → length (tl ds) ≡ length ds - 1
+pub length-tl : (ds : List ℕ) → length (tl ds) ≡ length ds - 1
 length-tl [] = omega arith
 length-tl (d ∷ ds) = omega arith
 
@@ -98,10 +99,54 @@ module _ {A : Type 0} (R : Ring A) where
         bounded-mono q (degrees (n - 1) q) _ (maxs-right (tl (degrees n p)) (degrees (n - 1) q) (lq ∙ sym lt)) (bounded-degrees (n - 1) q (h .4)),
       )
 
-all-le-mono : (K L : ℕ) (ds : List ℕ) → K ≤ L → AllLe K ds → AllLe L ds
+-- ---- no bounds are lower
+below-zeros : (n : ℕ) (ds : List ℕ) → length ds ≡ n → Below (zeros n []) ds
+below-zeros zero ds l = tt
+below-zeros (suc n) [] l = absurd (omega arith)
+below-zeros (suc n) (d ∷ ds) l = (omega arith, below-zeros n ds (omega arith))
+
+below-behind : (i : ℕ) (es ds : List ℕ) → 1 ≤ length es → length es ≡ length ds - i → Below es (after i ds) → Below (zeros i es) ds
+below-behind zero es ds p l h = h
+below-behind (suc i) es [] p l h = absurd (omega arith)
+below-behind (suc i) es (d ∷ ds) p l h = (omega arith, below-behind i es ds p (omega arith) h)
+
+below-maxs : (ds es fs : List ℕ) → Below ds fs → Below es fs → Below (maxs ds es) fs
+below-maxs [] es fs h g = tt
+below-maxs (d ∷ ds) [] fs h g = h
+below-maxs (d ∷ ds) (e ∷ es) [] h g = absurd h
+below-maxs (d ∷ ds) (e ∷ es) (f ∷ fs) h g = (omega (arith, h .0, g .0), below-maxs ds es fs (h .1) (g .1))
+
+below-parts : (es : List ℕ) (f : ℕ) (fs : List ℕ) → Below es (f ∷ fs) → (firstOr0 es ≤ f) × Below (tl es) fs
+below-parts [] f fs h = (omega arith, tt)
+below-parts (e ∷ es) f fs h = h
+
+length-after : (i : ℕ) (ds : List ℕ) → length (after i ds) ≡ length ds - i
+length-after zero ds = omega arith
+length-after (suc i) [] = length-after i [] ∙ omega arith
+length-after (suc i) (d ∷ ds) = length-after i ds ∙ omega arith
+
+module _ {A : Type 0} (R : Ring A) where
+  pub degrees-least : (n : ℕ) (ds : List ℕ) (x : Form A) → Normal R n x → length ds ≡ n → Bounded ds x → Below (degrees n x) ds
+  degrees-least n ds (int c) h l b = below-zeros n ds l
+  degrees-least n ds (pop i p) h l b =
+      let e : length (degrees (n - i) p) ≡ n - i = length-degrees R (n - i) p (h .2) in
+      below-behind i (degrees (n - i) p) ds (omega (arith, pow-level R (n - i) p (h .1) (h .2))) (omega arith)
+      (degrees-least (n - i) (after i ds) p (h .2) (length-after i ds ∙ ap (λ m. m - i) l) b)
+  degrees-least n [] (pow i p q) h l b = absurd b
+  degrees-least n (d ∷ ds) (pow i p q) h l b =
+      let r = below-parts (degrees n p) (d - i) ds (degrees-least n ((d - i) ∷ ds) p (h .2) l (b .1)) in
+      (omega (arith, r .0, b .0), below-maxs (tl (degrees n p)) (degrees (n - 1) q) ds (r .1) (degrees-least (n - 1) ds q (h .4) (omega arith) (b .2)))
+
+-- ---- all at most one number
+pub all-le-mono : (K L : ℕ) (ds : List ℕ) → K ≤ L → AllLe K ds → AllLe L ds
 all-le-mono K L [] h a = tt
 all-le-mono K L (d ∷ ds) h a = (omega (arith, a .0), all-le-mono K L ds h (a .1))
 
 pub all-le-total : (ds : List ℕ) → AllLe (total ds) ds
 all-le-total [] = tt
 all-le-total (d ∷ ds) = (omega arith, all-le-mono (total ds) (d + total ds) ds (omega arith) (all-le-total ds))
+
+pub all-le-below : (K : ℕ) (ds es : List ℕ) → Below ds es → AllLe K es → AllLe K ds
+all-le-below K [] es h a = tt
+all-le-below K (d ∷ ds) [] h a = absurd h
+all-le-below K (d ∷ ds) (e ∷ es) h a = (omega (arith, h .0, a .0), all-le-below K ds es (h .1) (a .1))

@@ -17,10 +17,11 @@ use Rattle.horner.specs.laws.Canonical.{pos-mul-nil, ℤ-regular}
 use Rattle.horner.specs.laws.Compare.{cmp-cases}
 use Rattle.horner.specs.laws.Equations.{prod-pop-int, prod-pop-pop, prod-pop-pow}
 use Rattle.horner.specs.laws.Grid.{All, vals, val-coefs, normal-coefs, zero-coefs}
-use Rattle.horner.specs.laws.Normal.{normal-lower}
+use Rattle.horner.specs.laws.Normal.{normal-lower, lead-not-zero}
 use Rattle.horner.specs.laws.Ring.{nil-add, add-left-comm, mul-left-comm, add-mul, mul-nil, nil-mul}
 use Rattle.horner.specs.laws.Roots.{horner, Regular, roots}
-use Rattle.horner.specs.laws.Value.{cond-cases, isZero-val, val-prod}
+use Rattle.horner.specs.laws.Tests.{cond-cases}
+use Rattle.horner.specs.laws.Value.{isZero-val, val-prod}
 
 module _ {A : Type 0} (R : Ring A) where
   open Ring R using (add, mul, nil, isNil, add-assoc, add-comm, add-nil, mul-assoc, mul-comm, mul-add, isNil-true, isNil-nil)
@@ -163,11 +164,6 @@ module _ {A : Type 0} (R : Ring A) where
         at true e = absurd (clash (prod-zero n x y hx hy e))
 
     -- ---- Definition 11 (4)
-    lead-not-zero : (p : Form A) → Lead R p → isZero R p ≡ false
-    lead-not-zero (int c) h = h
-    lead-not-zero (pop i p) h = refl
-    lead-not-zero (pow i p q) h = refl
-
     -- pow changes nothing at a p that leads
     mkpow-lead : (i : ℕ) (p q : Form A) → Lead R p → mkpow R i p q ≡ pow i p q
     mkpow-lead i (int c) q h = ap (λ b. cond b (mkpop 1 q) (pow i (int c) q)) h
@@ -208,7 +204,7 @@ module _ {A : Type 0} (R : Ring A) where
     lead-prod n i p (pow j r s) hx hq l =
         subst (Lead R) (sym (prod-pop-pow R i j p r s))
         (lead-mkpow j (prod R (pop (suc i) p) r) (prod R (lower i p) s)
-        (prod-not-zero n (pop (suc i) p) r hx (hq .2) refl (lead-not-zero r (hq .3)))
+        (prod-not-zero n (pop (suc i) p) r hx (hq .2) refl (lead-not-zero R r (hq .3)))
         (prod-not-zero (n - 1) (lower i p) s (normal-lower R n i p (hx .1) (hx .2)) (hq .4) (lower-not-zero i p (hx .1)) l))
 
     -- (4) as the paper has it: (a) at i = 0 here, `lower 0 p` being p, (b) above

@@ -9,11 +9,11 @@ use lib.ListN.{length, length-map}
 use Rattle.horner.specs.definitions.Coefficients.{shift, coefs}
 use Rattle.horner.specs.definitions.Form.{same, Form, int, pop, pow, lower, isZero, zeroForm}
 use Rattle.horner.specs.definitions.Measures.{AllLe, Bounded}
-use Rattle.horner.specs.definitions.Normal.{IsPow, Zero, Lead, Normal}
+use Rattle.horner.specs.definitions.Normal.{IsPow, Zero, Normal}
 use Rattle.horner.specs.definitions.Points.{InBox}
 use Rattle.horner.specs.definitions.Ring.{Ring, power}
 use Rattle.horner.specs.definitions.Value.{tl, after, hd, val, nats}
-use Rattle.horner.specs.laws.Normal.{normal-lower}
+use Rattle.horner.specs.laws.Normal.{normal-lower, lead-not-zero}
 use Rattle.horner.specs.laws.Ring.{nil-add, unit-mul, mul-nil}
 use Rattle.horner.specs.laws.Roots.{horner, AllNil, Regular, roots}
 use Rattle.horner.specs.laws.Value.{val-lower}
@@ -83,18 +83,12 @@ module _ {A : Type 0} (R : Ring A) where
   bounded-coefs d ds (pow zero p q) h = tt
   bounded-coefs d ds (pow (suc i) p q) h = (h .2, All-shift (Bounded ds) i (coefs R p) tt (bounded-coefs (d - suc i) ds p (h .1)))
 
-  length-coefs : (d : ℕ) (ds : List ℕ) (x : Form A) → Bounded (d ∷ ds) x → length (coefs R x) ≤ suc d
+  pub length-coefs : (d : ℕ) (ds : List ℕ) (x : Form A) → Bounded (d ∷ ds) x → length (coefs R x) ≤ suc d
   length-coefs d ds (int c) h = omega arith
   length-coefs d ds (pop zero p) h = omega arith
   length-coefs d ds (pop (suc i) p) h = omega arith
   length-coefs d ds (pow zero p q) h = omega arith
   length-coefs d ds (pow (suc i) p q) h = omega (arith, length-shift i (coefs R p), length-coefs (d - suc i) ds p (h .1), h .0)
-
-  -- a form that leads is not 0
-  lead-not-zero : (p : Form A) → Lead R p → isZero R p ≡ true → ⊥
-  lead-not-zero (int c) h e = true≢false (sym e ∙ h)
-  lead-not-zero (pop i p) h e = true≢false (sym e)
-  lead-not-zero (pow i p q) h e = true≢false (sym e)
 
   pow-lower : (i : ℕ) (p : Form A) → IsPow p → isZero R (lower i p) ≡ true → ⊥
   pow-lower zero (int c) h e = h
@@ -109,7 +103,7 @@ module _ {A : Type 0} (R : Ring A) where
   zero-coefs n (pop (suc i) p) h z = absurd (pow-lower i p (h .1) (z .0))
   zero-coefs n (pow zero p q) h z = absurd (omega (arith, h .0))
   zero-coefs n (pow (suc i) p q) h z =
-      absurd (lead-not-zero p (h .3) (zero-coefs n p (h .2) (All-unshift (Zero R) i (coefs R p) (z .1))))
+      absurd (true≢false (sym (zero-coefs n p (h .2) (All-unshift (Zero R) i (coefs R p) (z .1))) ∙ lead-not-zero R p (h .3)))
 
   -- ---- the theorem
   -- with no variable left a normal form is a number

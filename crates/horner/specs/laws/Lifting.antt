@@ -1,6 +1,6 @@
 -- Forms over the remainders by a prime stand for forms over the integers: within the limits, the normal form of a term over the remainders is that over
 -- the integers with each coefficient's remainder, and the integers come back from it.
-use mathlib.Core.Bool.{Bool, true, false, cond, true≢false}
+use mathlib.Core.Bool.{cond, true≢false}
 use mathlib.Core.List.{List, [], _∷_}
 use mathlib.Core.Path.{_≡_, refl, sym, _∙_, ap, ap₂, subst, fun-ext}
 use Prim.Native.Nat.{ℕ, zero, suc, _-_, _≤_, _<_, _*_, _%_}
@@ -21,7 +21,7 @@ use Rattle.horner.specs.laws.Limits.{weight-norm, length-degreesOf, boun
 use Rattle.horner.specs.laws.Prime.{P-regular}
 use Rattle.horner.specs.laws.Residues.{nat-red}
 use Rattle.horner.specs.laws.Term.{normal-norm, transfer}
-use Rattle.horner.specs.laws.Value.{cond-cases}
+use Rattle.horner.specs.laws.Tests.{cond-cases, is-true}
 
 pub bounded-map : {A B : Type 0} (f : A → B) (ds : List ℕ) (x : Form A) → Bounded ds x → Bounded ds (mapForm f x)
 bounded-map f ds (int c) h = tt
@@ -83,9 +83,6 @@ module _ (m : ℕ) (m-pos : 0 < m) where
       small : (n : ℕ) → n * 2 < m → n < m
       small n h = omega arith
 
-      is-true : (b : Bool) → T b → b ≡ true
-      is-true true t = refl
-      is-true false t = absurd t
   lift-red (negsuc n) h =
       ap (λ w. cond (ltb (w * 2) m) (pos w) (negsuc (m - suc w))) (neg-small n (small n h))
       ∙ cond-cases (ltb ((m - suc n) * 2) m) (λ w. w ≡ negsuc n) _ _

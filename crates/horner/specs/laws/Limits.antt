@@ -1,52 +1,23 @@
 -- The measures of terms (weight, degrees, worked out from the term alone), and that the normal form keeps within them.
 use mathlib.Core.Bool.{false}
 use mathlib.Core.List.{List, [], _∷_}
-use mathlib.Core.Path.{_≡_, refl, sym, _∙_, ap, ap₂, subst}
-use Prim.Native.Nat.{ℕ, zero, suc, _+_, _-_, _≤_, _*_}
+use mathlib.Core.Path.{_≡_, sym, _∙_, subst}
+use Prim.Native.Nat.{ℕ, suc, _-_, _≤_, _*_}
 use native.Mathlib.Nat as NatL
 use native.Mathlib.Omega.{arith}
-use lib.Dec.{T, ltb, ltb→lt}
-use lib.IntN.{ℤ, pos, negsuc, negℤ, _+ℤ_, _*ℤ_, subℕ, natAbs}
+use lib.IntN.{ℤ, pos, natAbs}
 use lib.ListN.{length, length-map}
-use Rattle.horner.specs.definitions.Form.{Form, int, pow, size, zeroForm, sum, negate, raise, letter}
+use Rattle.horner.specs.definitions.Form.{Form, int, pow, zeroForm, sum, negate, letter}
 use Rattle.horner.specs.definitions.Integers.{ℤ-ring}
-use Rattle.horner.specs.definitions.Measures.{zeros, maxs, sums, multiples, weightOf, degreesOf, boxOf, termsOf, weight, one-if, count, Bounded}
+use Rattle.horner.specs.definitions.Measures.{zeros, maxs, weightOf, degreesOf, boxOf, termsOf, weight, one-if, count, Bounded}
 use Rattle.horner.specs.definitions.Ring.{Ring}
 use Rattle.horner.specs.definitions.Term.{Term, num, var, minus, plus, diff, times, expt, Over, norm, normℤ}
-use Rattle.horner.specs.laws.Bounds.{bounded-mkpop, bounded-sum, bounded-negate, bounded-prod}
-use Rattle.horner.specs.laws.Count.{one-if-le, count-size, count-box, size-any}
+use Rattle.horner.specs.laws.Bounds.{bounded-mkpop, bounded-sum, bounded-negate, length-sums, bounded-prod, bounded-raise}
+use Rattle.horner.specs.laws.Count.{box-pos, one-if-le, count-size, count-box}
 use Rattle.horner.specs.laws.Degree.{bounded-mono, length-zeros, after-zeros, length-maxs, maxs-left, maxs-right}
-use Rattle.horner.specs.laws.Measure.{meas-mkpop, Size, meas-sum, meas-negate, meas-prod, meas-raise}
+use Rattle.horner.specs.laws.Measure.{meas-mkpop, meas-sum, meas-negate, meas-prod, meas-raise}
 use Rattle.horner.specs.laws.Term.{normal-norm}
-use Rattle.horner.specs.laws.Value.{cond-cases}
-
--- ---- the weight
-abs-neg : (n : ℕ) → natAbs (negℤ (pos n)) ≡ n
-abs-neg zero = refl
-abs-neg (suc n) = refl
-
-abs-sub : (a b : ℕ) → natAbs (subℕ a b) ≤ a + b
-abs-sub a b =
-    cond-cases (ltb a b) (λ z. natAbs z ≤ a + b) (negsuc (b - suc a)) (pos (a - b)) (λ e. omega (arith, ltb→lt a b (subst T (sym e) tt))) (λ e. omega arith)
-
-abs-add : (a b : ℤ) → natAbs (a +ℤ b) ≤ natAbs a + natAbs b
-abs-add (pos a) (pos b) = omega arith
-abs-add (pos a) (negsuc b) = abs-sub a (suc b)
-abs-add (negsuc a) (pos b) = omega (arith, abs-sub b (suc a))
-abs-add (negsuc a) (negsuc b) = omega arith
-
-abs-mul : (a b : ℤ) → natAbs (a *ℤ b) ≤ natAbs a * natAbs b
-abs-mul (pos a) (pos b) = omega arith
-abs-mul (pos a) (negsuc b) = omega (arith, abs-neg (a * suc b))
-abs-mul (negsuc a) (pos b) = omega (arith, abs-neg (suc a * b))
-abs-mul (negsuc a) (negsuc b) = omega arith
-
-abs-negate : (a : ℤ) → natAbs (negℤ a) ≡ natAbs a
-abs-negate (pos a) = abs-neg a
-abs-negate (negsuc a) = refl
-
-pub weight-size : Size ℤ-ring natAbs
-weight-size = record { of-nil = refl; of-add = abs-add; of-mul = abs-mul; of-neg = abs-negate }
+use Rattle.horner.specs.laws.Weight.{weight-size, mul-pos, pow-pos}
 
 pub weight-norm : (t : Term) → weight (normℤ t) ≤ weightOf t
 weight-norm (num z) = omega arith
@@ -60,11 +31,6 @@ weight-norm (expt s k) = meas-raise ℤ-ring natAbs weight-size (omega arith) (n
 
 -- ---- the degrees, in a row of n
 
-length-sums : (ds es : List ℕ) → length ds ≡ length es → length (sums ds es) ≡ length es
-length-sums ds [] h = h
-length-sums [] (e ∷ es) h = absurd (omega arith)
-length-sums (d ∷ ds) (e ∷ es) h = ap suc (length-sums ds es (omega arith))
-
 pub length-degreesOf : (n : ℕ) (t : Term) → Over n t → length (degreesOf n t) ≡ n
 length-degreesOf n (num z) h = length-zeros n [] ∙ omega arith
 length-degreesOf n (var i) h = length-zeros i (1 ∷ zeros (n - suc i) []) ∙ omega (arith, length-zeros (n - suc i) [])
@@ -75,15 +41,7 @@ length-degreesOf n (times s t) h =
     length-sums (degreesOf n s) (degreesOf n t) (length-degreesOf n s (h .0) ∙ sym (length-degreesOf n t (h .1))) ∙ length-degreesOf n t (h .1)
 length-degreesOf n (expt s k) h = length-map (degreesOf n s) (λ d. k * d) ∙ length-degreesOf n s h
 
-sums-multiples : (k : ℕ) (ds : List ℕ) → sums ds (multiples k ds) ≡ multiples (suc k) ds
-sums-multiples k [] = refl
-sums-multiples k (d ∷ ds) = ap₂ _∷_ (omega (arith, NatL.suc-mul k d)) (sums-multiples k ds)
-
 module _ {A : Type 0} (R : Ring A) (ι : ℤ → A) where
-  bounded-raise : (ds : List ℕ) (x : Form A) → Bounded ds x → (k : ℕ) → Bounded (multiples k ds) (raise R x k)
-  bounded-raise ds x h zero = tt
-  bounded-raise ds x h (suc k) = subst (λ z. Bounded z (raise R x (suc k))) (sums-multiples k ds) (bounded-prod R ds (multiples k ds) x (raise R x k) h (bounded-raise ds x h k))
-
   bounded-letter : (i : ℕ) (ds : List ℕ) → Bounded (zeros i (1 ∷ ds)) (letter R i)
   bounded-letter i ds = bounded-mkpop (zeros i (1 ∷ ds)) i (pow 1 (int (R .unit)) (zeroForm R)) (subst (λ z. Bounded z (pow 1 (int (R .unit)) (zeroForm R))) (sym (after-zeros i (1 ∷ ds))) (omega arith, tt, tt))
 
@@ -101,9 +59,20 @@ module _ {A : Type 0} (R : Ring A) (ι : ℤ → A) where
   bounded-norm n (diff s t) h =
       both n s t (h .0) (h .1) (norm R ι s) (negate R (norm R ι t)) (bounded-norm n s (h .0)) (bounded-negate R (degreesOf n t) (norm R ι t) (bounded-norm n t (h .1)))
   bounded-norm n (times s t) h = bounded-prod R (degreesOf n s) (degreesOf n t) (norm R ι s) (norm R ι t) (bounded-norm n s (h .0)) (bounded-norm n t (h .1))
-  bounded-norm n (expt s k) h = bounded-raise (degreesOf n s) (norm R ι s) (bounded-norm n s h) k
+  bounded-norm n (expt s k) h = bounded-raise R (degreesOf n s) (norm R ι s) (bounded-norm n s h) k
 
 -- ---- the terms: by the table, each row cut down to the box
+
+-- a term counts for 1 at least
+pub termsOf-pos : (n : ℕ) (t : Term) → 1 ≤ termsOf n t
+termsOf-pos n (num z) = omega arith
+termsOf-pos n (var i) = omega arith
+termsOf-pos n (minus s) = termsOf-pos n s
+termsOf-pos n (plus s t) = omega (arith, termsOf-pos n s, box-pos (degreesOf n (plus s t)))
+termsOf-pos n (diff s t) = omega (arith, termsOf-pos n s, box-pos (degreesOf n (diff s t)))
+termsOf-pos n (times s t) =
+    omega (arith, mul-pos (termsOf n s) (termsOf n t) (termsOf-pos n s) (termsOf-pos n t), box-pos (degreesOf n (times s t)))
+termsOf-pos n (expt s k) = omega (arith, pow-pos (termsOf n s) k (termsOf-pos n s), box-pos (degreesOf n (expt s k)))
 
 module _ {A : Type 0} (R : Ring A) (ι : ℤ → A) (u : R .isNil (R .unit) ≡ false) where
   in-box : (n : ℕ) (t : Term) → Over n t → count R (norm R ι t) ≤ boxOf n t
@@ -132,7 +101,3 @@ module _ {A : Type 0} (R : Ring A) (ι : ℤ → A) (u : R .isNil (R .unit) ≡ 
       omega (arith, meas-prod R (one-if R) (count-size R) (norm R ι s) (norm R ι t), NatL.mul-le-mul (count-norm n s (h .0)) (count-norm n t (h .1)), in-box n (times s t) h)
   count-norm n (expt s k) h =
       omega (arith, meas-raise R (one-if R) (count-size R) unit-le (norm R ι s) (termsOf n s) (count-norm n s h) k, in-box n (expt s k) h)
-
-  -- in four variables, a term of at most 256 terms has a form of at most 3,585 nodes
-  pub room : (t : Term) → Over 4 t → termsOf 4 t ≤ 256 → size (norm R ι t) ≤ 3585
-  room t h l = omega (arith, size-any R 4 (norm R ι t) (normal-norm R ι u 4 t h), count-norm 4 t h)

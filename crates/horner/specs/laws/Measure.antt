@@ -9,7 +9,8 @@ use Rattle.horner.specs.definitions.Form.{Form, int, pop, pow, size, mkp
 use Rattle.horner.specs.definitions.Measures.{meas}
 use Rattle.horner.specs.definitions.Ring.{Ring}
 use Rattle.horner.specs.laws.Compare.{cmp-cases}
-use Rattle.horner.specs.laws.Value.{cond-cases, size-pos, lower-fits, lower-fits′, size-mkpop}
+use Rattle.horner.specs.laws.Tests.{cond-cases}
+use Rattle.horner.specs.laws.Value.{size-pos, lower-fits, lower-fits′, size-mkpop}
 
 module _ {A : Type 0} (ν : A → ℕ) where
   pub meas-mkpop : (i : ℕ) (p : Form A) → meas ν (mkpop i p) ≡ meas ν p

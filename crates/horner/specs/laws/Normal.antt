@@ -8,7 +8,8 @@ use Rattle.horner.specs.definitions.Normal.{IsPow, Lead, Normal}
 use Rattle.horner.specs.definitions.Ring.{Ring}
 use Rattle.horner.specs.laws.Compare.{cmp-cases}
 use Rattle.horner.specs.laws.Ring.{neg-neg, neg-nil}
-use Rattle.horner.specs.laws.Value.{cond-cases, size-pos, lower-fits, lower-fits′, size-mkpop}
+use Rattle.horner.specs.laws.Tests.{cond-cases}
+use Rattle.horner.specs.laws.Value.{size-pos, lower-fits, lower-fits′, size-mkpop}
 
 module _ {A : Type 0} (R : Ring A) where
   open Ring R using (add, neg, mul, nil, unit, isNil, isNil-true, isNil-nil)
@@ -33,6 +34,23 @@ module _ {A : Type 0} (R : Ring A) where
   normal-mkpow n i (pop j p) q hi hn hp hq = (hi, hn, hp, tt, hq)
   normal-mkpow n i (pow j r s) q hi hn hp hq =
       cond-cases (isZero R s) (Normal R n) _ _ (λ e. (omega arith, hn, hp .2, hp .3, hq)) (λ e. (hi, hn, hp, e, hq))
+
+  -- a form that leads is not 0, and a POW is not
+  pub lead-not-zero : (x : Form A) → Lead R x → isZero R x ≡ false
+  lead-not-zero (int c) h = h
+  lead-not-zero (pop i p) h = refl
+  lead-not-zero (pow i p q) h = refl
+
+  pub pow-not-zero : (x : Form A) → IsPow x → isZero R x ≡ false
+  pow-not-zero (int c) h = absurd h
+  pow-not-zero (pop i p) h = refl
+  pow-not-zero (pow i p q) h = refl
+
+  -- a POW stands below the row's length
+  pub pow-level : (n : ℕ) (p : Form A) → IsPow p → Normal R n p → 1 ≤ n
+  pow-level n (int c) w h = absurd w
+  pow-level n (pop i p) w h = absurd w
+  pow-level n (pow i p q) w h = h .1
 
   -- ---- the sum
   pow-addInt : (a : A) (p : Form A) → IsPow p → IsPow (addInt R a p)

@@ -1,5 +1,5 @@
 -- The prime 2,147,483,647: the numbers 1 to 63 have inverses, so the grid theorem holds for forms over its remainders with degrees up to 63.
-use mathlib.Core.Bool.{Bool, true, false, _&&_}
+use mathlib.Core.Bool.{Bool, true, _&&_}
 use mathlib.Core.List.{List, [], _∷_}
 use mathlib.Core.Logic.{_⊎_, inl, inr}
 use mathlib.Core.Path.{_≡_, sym, _∙_, ap, subst}
@@ -11,6 +11,7 @@ use lib.ListN.{getD}
 use Rattle.horner.specs.definitions.Residues.{mulᵐ, prime, prime-pos, P-ring}
 use Rattle.horner.specs.laws.Residues.{nat-red, unit-regular}
 use Rattle.horner.specs.laws.Roots.{Regular}
+use Rattle.horner.specs.laws.Tests.{and-both}
 
 -- the inverse of k, at place k
 abbrev inverses : List ℕ
@@ -31,14 +32,10 @@ allBelow (suc n) t = t n && allBelow n t
 
 pub all-at : (n : ℕ) (t : ℕ → Bool) → T (allBelow n t) → (k : ℕ) → k < n → T (t k)
 all-at zero t h k g = absurd (omega arith)
-all-at (suc n) t h k g = by-case (NatL.eq-or-lt-of-le g) (all-at n t (both (t n) (allBelow n t) h .1) k)
+all-at (suc n) t h k g = by-case (NatL.eq-or-lt-of-le g) (all-at n t (and-both (t n) (allBelow n t) h .1) k)
   where
-    both : (a b : Bool) → T (a && b) → T a × T b
-    both true b f = (tt, f)
-    both false b f = absurd f
-
     by-case : (suc k ≡ suc n) ⊎ (suc k < suc n) → (k < n → T (t k)) → T (t k)
-    by-case (inl e) r = subst (λ z. T (t z)) (n-is e) (both (t n) (allBelow n t) h .0)
+    by-case (inl e) r = subst (λ z. T (t z)) (n-is e) (and-both (t n) (allBelow n t) h .0)
       where
         n-is : suc k ≡ suc n → n ≡ k
         n-is e = omega arith

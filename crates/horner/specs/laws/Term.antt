@@ -4,7 +4,7 @@ use mathlib.Core.Bool.{false}
 use mathlib.Core.List.{List, [], _∷_, map}
 use mathlib.Core.Logic.{_↔_}
 use mathlib.Core.Path.{_≡_, refl, sym, _∙_, ap, ap₂}
-use Prim.Native.Nat.{ℕ, zero, suc, _<_}
+use Prim.Native.Nat.{ℕ, zero, suc, _≤_, _<_}
 use native.Mathlib.Omega.{arith}
 use lib.IntN.{ℤ, pos, negℤ}
 use lib.ListN.{length, length-map}
@@ -14,8 +14,9 @@ use Rattle.horner.specs.definitions.Measures.{AllLe, Bounded}
 use Rattle.horner.specs.definitions.Normal.{Normal}
 use Rattle.horner.specs.definitions.Ring.{Ring, power, nat}
 use Rattle.horner.specs.definitions.Term.{Term, num, var, minus, plus, diff, times, expt, Over, evalp, norm, normℤ, evalℤ}
-use Rattle.horner.specs.definitions.Value.{after, hd, val, nats}
+use Rattle.horner.specs.definitions.Value.{after, evalh, hd, val, nats}
 use Rattle.horner.specs.laws.Canonical.{canon-box, canon-ℤ}
+use Rattle.horner.specs.laws.Evalh.{evalh-val}
 use Rattle.horner.specs.laws.Hom.{Hom, mapForm, map-after, map-hd, map-power, val-map}
 use Rattle.horner.specs.laws.Normal.{normal-mkpop, normal-sum, normal-negate, normal-prod, normal-raise}
 use Rattle.horner.specs.laws.Roots.{Regular}
@@ -47,6 +48,11 @@ module _ {A : Type 0} (R : Ring A) (ι : ℤ → A) where
   normal-norm u n (diff s t) h = normal-sum R n (norm R ι s) (negate R (norm R ι t)) (normal-norm u n s (h .0)) (normal-negate R n (norm R ι t) (normal-norm u n t (h .1)))
   normal-norm u n (times s t) h = normal-prod R n (norm R ι s) (norm R ι t) (normal-norm u n s (h .0)) (normal-norm u n t (h .1))
   normal-norm u n (expt s k) h = normal-raise R n (norm R ι s) k (normal-norm u n s h)
+
+-- Lemma 7: the normal form has the term's value
+module _ {A : Type 0} (R : Ring A) (ι : ℤ → A) (u : R .isNil (R .unit) ≡ false) where
+  pub evalh-norm : (n : ℕ) (t : Term) (N : List A) → Over n t → n ≤ length N → evalh R (norm R ι t) N ≡ evalp R ι t N
+  evalh-norm n t N o l = evalh-val R n (norm R ι t) N (normal-norm R ι u n t o) l ∙ val-norm R ι t N
 
 -- ---- the integers
 

@@ -1,7 +1,7 @@
 -- The value of a form (Definition 5), and that it is a homomorphism: theorem E.
 -- `val` reads a missing coordinate as 0, and its laws hold at every point. Definition 5's `evalh` gives 0 to a whole POW at the empty point; the two
 -- agree where the point is as long as the form has levels (Points.antt).
-use mathlib.Core.Bool.{Bool, true, false, cond, true≢false}
+use mathlib.Core.Bool.{true, true≢false}
 use mathlib.Core.List.{List}
 use mathlib.Core.Path.{_≡_, refl, sym, _∙_, ap, ap₂}
 use Prim.Native.Nat.{ℕ, zero, suc, _+_, _≤_}
@@ -12,11 +12,7 @@ use Rattle.horner.specs.definitions.Ring.{Ring, power}
 use Rattle.horner.specs.definitions.Value.{tl, after, hd, val}
 use Rattle.horner.specs.laws.Compare.{cmp-cases}
 use Rattle.horner.specs.laws.Ring.{nil-add, add-left-comm, mul-left-comm, add-mul, mul-nil, mul-neg, neg-of-add, power-add}
-
--- a test of a Boolean, with what it says
-pub cond-cases : {B : Type 0} (b : Bool) (P : B → Type 0) (x y : B) → (b ≡ true → P x) → (b ≡ false → P y) → P (cond b x y)
-cond-cases true P x y f g = f refl
-cond-cases false P x y f g = g refl
+use Rattle.horner.specs.laws.Tests.{cond-cases}
 
 module _ {A : Type 0} where
   pub size-pos : (x : Form A) → 1 ≤ size x
