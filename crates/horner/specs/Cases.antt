@@ -63,8 +63,8 @@ cases =
     has-value exampleForm (pos 1 ∷ pos 2 ∷ pos 3 ∷ []) (pos 186) ∷
     -- document 01: -z + x^3(z + x - 3y) has not the first example's form, but its own
     has-form
-      (plus (minus Z) (times (expt X 3) (diff (plus Z X) (times (k 3) Y))))
-      (pow 3 (pow 1 (n 1) (pow 1 (int (negsuc 2)) (pow 1 (n 1) (n 0)))) (pop 1 (pow 1 (int (negsuc 0)) (n 0)))) ∷
+    (plus (minus Z) (times (expt X 3) (diff (plus Z X) (times (k 3) Y))))
+    (pow 3 (pow 1 (n 1) (pow 1 (int (negsuc 2)) (pow 1 (n 1) (n 0)))) (pop 1 (pow 1 (int (negsuc 0)) (n 0)))) ∷
     -- document 01, "Pairs on either side of a line", the starred forms
     has-form Y (pop 1 (pow 1 (n 1) (n 0))) ∷
     has-form (times (plus X Y) (diff X Y)) (pow 2 (n 1) (pow 2 (int (negsuc 0)) (n 0))) ∷

@@ -82,7 +82,6 @@ module _ (m : ℕ) (m-pos : 0 < m) where
     where
       small : (n : ℕ) → n * 2 < m → n < m
       small n h = omega arith
-
   lift-red (negsuc n) h =
       ap (λ w. cond (ltb (w * 2) m) (pos w) (negsuc (m - suc w))) (neg-small n (small n h))
       ∙ cond-cases (ltb ((m - suc n) * 2) m) (λ w. w ≡ negsuc n) _ _

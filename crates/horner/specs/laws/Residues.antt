@@ -3,8 +3,8 @@ use mathlib.Core.Path.{_≡_, refl, sym, _∙_, ap}
 use Prim.Native.Nat.{ℕ, zero, suc, _+_, _<_, _*_, _%_}
 use native.Mathlib.Nat as NatL
 use native.Mathlib.Omega.{arith}
-use Rattle.horner.specs.definitions.Residues.{Res, red, addᵐ, mulᵐ, res-ext, below, mul-mod-l, mul-mod-r, mod-ring}
-use Rattle.horner.specs.definitions.Ring.{Ring, nat}
+use Rattle.horner.specs.definitions.Residues.{mulBy, powBy, Res, red, addᵐ, mulᵐ, res-ext, below, mul-mod-l, mul-mod-r, mod-ring}
+use Rattle.horner.specs.definitions.Ring.{Ring, power, nat}
 use Rattle.horner.specs.laws.Ring.{mul-nil}
 
 module _ (m : ℕ) (m-pos : 0 < m) where
@@ -24,6 +24,11 @@ module _ (m : ℕ) (m-pos : 0 < m) where
     where
       one-more : (n : ℕ) → 1 + n ≡ suc n
       one-more n = omega arith
+
+  -- a power in the ring is the power of the numbers; sums, products and negations are so by definition
+  pub power-powBy : (a : Res m) (n : ℕ) → power (mod-ring m m-pos) a n .0 ≡ powBy m (a .0) n
+  power-powBy a zero = refl
+  power-powBy a (suc n) = ap (mulBy m (a .0)) (power-powBy a n)
 
   -- what has an inverse divides no zero
   pub unit-regular : (k inv : ℕ) → (k * inv) % m ≡ 1 % m → (r : Res m) → mulᵐ m m-pos (red m m-pos k) r ≡ red m m-pos 0 → r ≡ red m m-pos 0
