@@ -1,0 +1,4 @@
+pub mod Widths
+pub mod Good
+pub mod Sizes
+pub mod Codes

@@ -1,0 +1,3 @@
+pub mod Negative
+pub mod Evaluation
+pub mod Scaling

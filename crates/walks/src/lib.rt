@@ -1,0 +1,89 @@
+// Functions that walk over one coded form: its negative, its value at a point, its product with a leaf.
+ghost use mathlib.Core.Path.{_≡_};
+ghost use Prim.Native.Nat.{_+_, _<_, _≤_, min};
+ghost use lib.ListN.{length};
+ghost use Rattle.coded.specs.Widths.{modulus};
+ghost use Rattle.coded.specs.Coding.{Coded, Made, Room, dec};
+ghost use Rattle.coded.specs.Operations.{negateOf, valueOf, scaleOf};
+ghost use Rattle.walks.specs.Points.{Leaves};
+
+// The lesser of two numbers.
+fn least(a: usize, b: usize) -> usize
+    ensures { λ r. ⌜ r ≡ min a b ⌝ }
+{
+    if a <= b { a } else { b }
+}
+
+// Writes the negative of the form x (Definition 10) at the front of out, and returns its length.
+pub fn negate(width: u32, x: &[u32], out: &mut [u32]) -> usize
+    requires { ⌜ Coded width (now x) ⌝ }
+    requires { ⌜ length (now x) ≤ length (now out) ⌝ }
+    ensures { λ r. ⌜ Made width (negateOf width (dec width (now (x .entry)))) r (now (out .exit)) ⌝ }
+{
+    let w = x[0];
+    if w < 2147483648 {
+        out[0] = coded::leaf_negation(width, w);
+        return 1;
+    }
+    let s = ((w - 2147483648) / 64) as usize;
+    out[0] = w;
+    if s == 0 {
+        let n = negate(width, &x[1..], &mut out[1..]);
+        return 1 + n;
+    }
+    let e = 1 + s;
+    let n = negate(width, &x[1..e], &mut out[1..]);
+    let f = 1 + n;
+    let m = negate(width, &x[e..], &mut out[f..]);
+    f + m
+}
+
+// The value of the form x at a point of leaves (Definition 5).
+pub fn value(width: u32, x: &[u32], point: &[u32]) -> u32
+    requires { ⌜ Coded width (now x) ⌝ }
+    requires { ⌜ Leaves width (now point) ⌝ }
+    ensures { λ r. ⌜ (r ≡ valueOf width (dec width (now (x .entry))) (now (point .entry))) × (r < modulus width) ⌝ }
+{
+    let w = x[0];
+    if w < 2147483648 {
+        return w;
+    }
+    let s = ((w - 2147483648) / 64) as usize;
+    let i = w % 64;
+    if s == 0 {
+        let k = least(i as usize, point.len());
+        return value(width, &x[1..], &point[k..]);
+    }
+    if point.len() == 0 {
+        return 0;
+    }
+    let n = coded::leaf_power(width, point[0], i);
+    let e = 1 + s;
+    let a = value(width, &x[1..e], point);
+    let b = value(width, &x[e..], &point[1..]);
+    coded::leaf_sum(width, coded::leaf_product(width, n, a), b)
+}
+
+// The product of a leaf and the form y (Definition 11 (1)).
+pub fn scale(width: u32, a: u32, y: &[u32], out: &mut [u32]) -> usize
+    requires { ⌜ a < modulus width ⌝ }
+    requires { ⌜ Coded width (now y) ⌝ }
+    requires { ⌜ Room (1 + length (now y)) (now out) ⌝ }
+    ensures { λ r. ⌜ Made width (scaleOf width a (dec width (now (y .entry)))) r (now (out .exit)) ⌝ }
+{
+    let w = y[0];
+    if w < 2147483648 {
+        out[0] = coded::leaf_product(width, a, w);
+        return 1;
+    }
+    let s = ((w - 2147483648) / 64) as usize;
+    if s == 0 {
+        let n = scale(width, a, &y[1..], &mut out[1..]);
+        return coded::make_pop(width, out, w % 64, n);
+    }
+    let e = 1 + s;
+    let n = scale(width, a, &y[1..e], &mut out[1..]);
+    let f = 1 + n;
+    let m = scale(width, a, &y[e..], &mut out[f..]);
+    coded::make_pow(width, out, w % 64, n, m)
+}
