@@ -122,6 +122,11 @@ fit-as f h =
 pub fit-y : {w n k : ℕ} {x y : Form (Leaf w)} → Fit w n k x y → Held w y
 fit-y f = fit-x (fit-sym f)
 
+-- (POP i p) has a word more than p
+pub fit-pop-words : {w n k : ℕ} {y : Form (Leaf w)} (i : ℕ) (p : Form (Leaf w)) → Fit w n k (pop i p) y → 1 + length (enc w p) ≤ 3073
+unfolding enc
+fit-pop-words i p f = omega (arith, fit-x f .words)
+
 -- ---- the parts of x; those of y go by fit-sym
 
 -- the p of a POW: its exponent is off the first degree
