@@ -11,7 +11,7 @@ use Rattle.fits.specs.Fit.{crossOf, Fit, Held}
 -- the words that a product in n variables, of degree k in the first, asks of the table that it is written to: a head word for each power of the first variable;
 -- for each variable below, a form that waits (3,073), its head word and those of that variable's powers; and the product itself
 abbrev pub wordsFor : ℕ → ℕ → ℕ
-wordsFor n k = k + 3138 * n + 3073
+wordsFor n k = k + 3137 * n + 3073
 
 -- a words in the first table, b in the second, two forms in the third, and none longer than a node's word can say
 pub record Tables (a b o t u : ℕ) : Type 0 where
