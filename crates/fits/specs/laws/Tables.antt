@@ -27,6 +27,10 @@ module _ {w : ℕ} {x y : Form (Leaf w)} {o t u : ℕ} where
   pub pop-space-sym : PopSpace w x y o t u → PopSpace w y x o t u
   pop-space-sym s = record { n = s .n; k = s .k; pos = s .pos; fit = fit-sym (s .fit); tables = s .tables }
 
+-- 15,684 words in the first two tables are enough for every product within the limits
+pub tables-for : {n k o t u : ℕ} → n ≤ 4 → k ≤ 63 → Tables 15684 15684 o t u → Tables (wordsFor n k) (wordsFor n k) o t u
+tables-for a b h = omega (arith, h)
+
 -- a POP and a POW stand below the row's length
 pop-vars : {w n c : ℕ} {ds : List ℕ} (i : ℕ) (p : Form (Leaf w)) → Within w n c ds (pop i p) → 1 ≤ n
 pop-vars {w} {n} i p h = omega (arith, pow-level (ringOf w) (n - i) p (h .normal .1) (h .normal .2))
