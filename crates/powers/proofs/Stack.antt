@@ -1,15 +1,15 @@
 -- Two forms in one table, one behind the other.
 -- Assumes nothing.
-use mathlib.Core.Path.{_≡_, refl, sym, ap, subst, _∙_}
-use mathlib.Core.List.{List, [], _∷_, _++_}
+use mathlib.Core.Path.{_≡_, sym, ap, subst, _∙_}
+use mathlib.Core.List.{List, [], _∷_}
 use Prim.Native.Nat.{ℕ, zero, suc, _+_, _-_, _≤_, _<_}
 use native.Mathlib.Omega.{arith}
 use lib.ListN.{length, take, drop, set, length-drop}
 use lib.Seq.{take-take, take-nil, take-set-le, set-split, drop-at, length-take-le}
 use borrow.Rule.Slice.PartMut.{putMid, take-put}
 use Rattle.horner.specs.definitions.Form.{Form}
-use Rattle.coded.specs.Coding.{enc, dec, Good, Codes, Coded, Begins, Made}
-use Rattle.coded.specs.Widths.{Leaf, leaf}
+use Rattle.coded.specs.Coding.{enc, dec, Good, Codes, Begins, Made}
+use Rattle.coded.specs.Widths.{Leaf}
 use Rattle.coded.specs.laws.Codes.{dec-enc, codes-length}
 use Rattle.coded.specs.laws.Widths.{leaf-number, modulus-big}
 use Rattle.coded.proofs.Lists.{begins-le, begins-as, begins-set}

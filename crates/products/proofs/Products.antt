@@ -1,13 +1,13 @@
 -- The code of a product, from the codes of its parts: what the functions that multiply forms return.
 -- Assumes nothing.
-use mathlib.Core.Path.{_≡_, refl, sym, ap, subst, _∙_}
-use mathlib.Core.List.{List, [], _∷_, _++_}
+use mathlib.Core.Path.{_≡_, sym, ap, _∙_}
+use mathlib.Core.List.{List, _∷_, _++_}
 use Prim.Native.Nat.{ℕ, suc, _+_, _-_, _%_, _≤_, _<_}
 use native.Mathlib.Omega.{arith}
 use lib.ListN.{length, getD, take, drop, set}
 use lib.Seq.{take-set-le, set-split, take-at, drop-at, length-take-le}
 use borrow.Rule.Slice.PartMut.{putMid, take-put}
-use Rattle.horner.specs.definitions.Form.{Form, pop, lower, mkpop}
+use Rattle.horner.specs.definitions.Form.{Form, pop, lower}
 use Rattle.coded.specs.Coding.{enc, Good, Codes, Begins}
 use Rattle.coded.specs.Operations.{popOf, powOf, scaleOf, zeroOf}
 use Rattle.coded.specs.Widths.{Leaf}

@@ -1,9 +1,7 @@
 -- `powers::multiply` meets its contract: that of `products::product`.
 -- Assumes nothing.
-use mathlib.Core.Path.{_≡_, _∙_, sym, ap, subst}
-use Prim.Native.Nat.{_-_}
-use native.Mathlib.Omega.{arith}
-use lib.ListN.{length, take, drop}
+use mathlib.Core.Path.{sym, ap, subst}
+use lib.ListN.{length, take}
 use lib.Seq.{length-take-le}
 use Rattle.coded.specs.Coding.{Coded, dec, enc}
 use Rattle.coded.specs.laws.Codes.{tail-part}

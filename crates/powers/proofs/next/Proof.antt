@@ -1,11 +1,10 @@
 -- `powers::next` meets its contract: `multiply` into out, and `coded::copy` behind x.
 -- Assumes nothing.
-use mathlib.Core.Path.{_≡_, _∙_, sym, ap, subst, refl}
+use mathlib.Core.Path.{_∙_, sym, ap, subst}
 use Prim.Native.Nat.{_+_, _-_, _≤_}
 use native.Mathlib.Omega.{arith}
 use lib.ListN.{length, take, drop}
 use lib.Seq.{length-take-le}
-use borrow.Rule.Slice.PartMut.{putMid}
 use Rattle.coded.specs.Coding.{Coded, Begins, dec, enc}
 use Rattle.coded.proofs.Lists.{begins-le, begins-as, length-tail-part}
 use Rattle.fits.specs.Fit.{prodOf}

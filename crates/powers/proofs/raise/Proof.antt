@@ -1,21 +1,19 @@
 -- `powers::raise` meets its contract. The loop's invariant: x stands at the front of s, and behind it its i-th power.
 -- Assumes nothing.
 use mathlib.Core.Path.{_≡_, _∙_, sym, ap, subst, refl}
-use Prim.Native.Nat.{ℕ, _+_, _-_, _≤_, _<_}
+use Prim.Native.Nat.{_+_, _-_, _≤_, _<_}
 use native.Mathlib.Omega.{arith}
-use lib.ListN.{length, take, drop, set, length-set}
+use lib.ListN.{length, take, set, length-set}
 use lib.Seq.{take-set-le}
 use Rattle.coded.specs.Coding.{Coded, Codes, Good, Begins, dec, enc}
 use Rattle.coded.specs.laws.Codes.{coded, dec-enc}
 use Rattle.coded.proofs.Lists.{begins-as}
-use Rattle.fits.specs.Fit.{prodOf}
 use Rattle.fits.specs.Tables.{Space}
 use Rattle.fits.specs.laws.Fit.{fit-y}
 use Rattle.fits.specs.laws.Tables.{space-at}
 use Rattle.powers.specs.Raise.{raiseOf, Raising, Stacked}
 use Rattle.powers.specs.laws.Raise.{raise-more, raise-fit, raise-space}
 use Rattle.powers.proofs.Stack.{made-one, stacked-one, stack-fits, stack-below, stack-above, stack-space, stack-product}
-use borrow.Author.Needs.{needs}
 use Rattle.powers.proofs.raise.Statement.{statement}
 use Rattle.powers.proofs.raise.Tie as tie
 use Rattle.powers.proofs.raise.Reads as reads

@@ -1,21 +1,20 @@
 -- A form fits with each of its powers below one that fits.
 use mathlib.Core.List.{List, [], _∷_}
 use mathlib.Core.Path.{_≡_, refl, sym, _∙_, ap, ap₂, subst}
-use Prim.Native.Nat.{ℕ, zero, suc, _+_, _-_, _*_, _^_, _<_, _≤_, min}
+use Prim.Native.Nat.{ℕ, zero, suc, _+_, _-_, _^_, _<_, _≤_}
 use native.Mathlib.Nat as NatL
 use native.Mathlib.Omega.{arith}
 use lib.ListN.{length}
 use Rattle.horner.specs.definitions.Form.{Form, int, raise}
-use Rattle.horner.specs.definitions.Measures.{sums, multiples, box, AllLe, one-if, count}
+use Rattle.horner.specs.definitions.Measures.{sums, multiples, box, AllLe, one-if}
 use Rattle.horner.specs.laws.Bounds.{bounded-raise}
 use Rattle.horner.specs.laws.Count.{count-size, one-if-le}
 use Rattle.horner.specs.laws.Degree.{Below, all-le-below}
 use Rattle.horner.specs.laws.Measure.{meas-raise}
 use Rattle.horner.specs.laws.Normal.{normal-raise}
 use Rattle.coded.specs.Widths.{Leaf, ringOf}
-use Rattle.fits.specs.Fit.{prodOf, Within, Fit, Held}
-use Rattle.fits.specs.Tables.{wordsFor, Tables, Space}
-use Rattle.fits.specs.laws.Fit.{fit-prod}
+use Rattle.fits.specs.Fit.{prodOf, Within, Fit}
+use Rattle.fits.specs.Tables.{Space}
 use Rattle.fits.specs.laws.Lists.{first-le, box-below}
 use Rattle.powers.specs.Raise.{raiseOf, Raising}
 

@@ -1,22 +1,21 @@
 -- The proof of the cycle of calls that multiplies two forms. The measure is 8 times the words of the two forms, and a rank.
 -- Assumes nothing.
 use mathlib.Core.Path.{_≡_, _∙_, sym, ap, refl, subst}
-use mathlib.Core.List.{List, [], _∷_, _++_}
-use Prim.Native.Nat.{ℕ, suc, _+_, _*_, _-_, _/_, _%_, _<_, _≤_}
+use Prim.Native.Nat.{ℕ, _+_, _*_, _-_, _/_, _%_, _<_, _≤_}
 use native.Mathlib.Omega.{arith}
 use lib.ListN.{length, getD, take, drop, set, length-set}
 use lib.Seq.{length-take-le}
 use borrow.Rule.Slice.PartMut.{putMid}
-use Rattle.horner.specs.definitions.Form.{Form, pop, pow, lower}
+use Rattle.horner.specs.definitions.Form.{pop, pow, lower}
 use Rattle.coded.specs.Coding.{dec, enc, Good, Codes, Begins}
 use Rattle.coded.specs.Operations.{popOf, powOf, sumOf, zeroOf}
-use Rattle.coded.specs.laws.Codes.{IsInt, IsPop, IsPow, some, int-view, pop-view, pow-view, pop-part, pow-left, pow-right, dec-enc, coded, codes-length}
+use Rattle.coded.specs.laws.Codes.{IsPop, IsPow, some, int-view, pop-view, pow-view, pop-part, pow-left, pow-right, dec-enc, coded, codes-length}
 use Rattle.coded.specs.laws.Good.{good-pop, good-pow}
 use Rattle.coded.proofs.Lists.{begins-le, begins-as, length-tail-part}
 use Rattle.coded.proofs.Making.{made-codes, kept-codes, mkpop-good, mkpop-enc, mkpow-good, mkpow-enc}
 use Rattle.sums.proofs.Sums.{pop-is, pow-is}
 use Rattle.fits.specs.Fit.{prodOf, leadOf, crossOf, Held}
-use Rattle.fits.specs.Tables.{Space, PopSpace, CrossSpace, PowWord}
+use Rattle.fits.specs.Tables.{Space, PopSpace}
 use Rattle.fits.specs.laws.Equations.{pops-eq, pops-gt, pops-lt, lower-1, lower-more, pows}
 use Rattle.fits.specs.laws.Fit.{fit-sym, fit-x, fit-y, fit-prod, fit-pop-words}
 use Rattle.fits.specs.laws.Summands.{lead-held, two-held}
@@ -218,6 +217,9 @@ is-pow·mul-any-pop t c = pow-view ((c .before .before .before .before .before .
 
 made·mul-pops : (t : ℕ) (c : mul-pops-lts.After-out (product-below t, product.Post, make-pop-reads.Asked, make-pop-reads.Learnt, mul-pops-gt-below t, mul-pops-gt.Post) (mul-pops-at t) mul-pops.Post) → Codes ((c .before .before .before .before .before .before .before .before .before .before .before) .args .width) (prodOf ((c .before .before .before .before .before .before .before .before .before .before .before) .args .width) (dec ((c .before .before .before .before .before .before .before .before .before .before .before) .args .width) ((c .before .before .before .before .before .before .before .before .before .before .before) .args .p .now)) (dec ((c .before .before .before .before .before .before .before .before .before .before .before) .args .width) ((c .before .before .before .before .before .before .before .before .before .before .before) .args .q .now))) (take ((c .before .product) .result) (drop 1 (putMid 1 (length ((c .before .before .before .before .before .before .before .before .before .before .before) .args .out .now) - 1) ((c .before .before .before .before .before .before .before .before .before .before .before) .args .out .now) ((c .before .product) .last .1 .1 .1 .0))))
 made·mul-pops t c = made-codes 1 ((c .before .before .before .before .before .before .before .before .before .before .before) .args .out .now) ((c .before .product) .last .1 .1 .1 .0) ((c .before .product) .result) (omega (arith, ((c .before .before .before .before .before .before .before .before .before .before .before) .pre .1 .1) .tables)) ((c .before .product) .ensures) (fit-prod ((space-pops ((c .before .before .before .before .before .before .before .before .before .before .before) .args .i) ((c .before .before .before .before .before .before .before .before .before .before .before) .args .j) (dec ((c .before .before .before .before .before .before .before .before .before .before .before) .args .width) ((c .before .before .before .before .before .before .before .before .before .before .before) .args .p .now)) (dec ((c .before .before .before .before .before .before .before .before .before .before .before) .args .width) ((c .before .before .before .before .before .before .before .before .before .before .before) .args .q .now)) ((c .before .before .before .before .before .before .before .before .before .before .before) .pre .1 .1) ((c .before .before .before .before .before .if1) .taken)) .fit) .good)
+
+below·mul-pops : (t : ℕ) (c : mul-pops-lts.Else2 (product-below t, product.Post, make-pop-reads.Asked, make-pop-reads.Learnt, mul-pops-gt-below t, mul-pops-gt.Post) (mul-pops-at t) mul-pops.Post) → ((c .before .before .before .before .before .before .before) .args .i) < ((c .before .before .before .before .before .before .before) .args .j)
+below·mul-pops t c = omega (arith, (c .before .if1) .left, (c .if2) .left)
 
 made·mul-pops-gt : (t : ℕ) (c : mul-pops-gt-lts.After-out (mul-pop-below t, mul-pop.Post, make-pop-reads.Asked, make-pop-reads.Learnt) (mul-pops-gt-at t) mul-pops-gt.Post) → Codes ((c .before .before .before .before .before .before .before .before .before .before) .args .width) (prodOf ((c .before .before .before .before .before .before .before .before .before .before) .args .width) (pop (((c .before .before .before .before .before .before .before .before .before .before) .args .i) - ((c .before .before .before .before .before .before .before .before .before .before) .args .j)) (dec ((c .before .before .before .before .before .before .before .before .before .before) .args .width) ((c .before .before .before .before .before .before .before .before .before .before) .args .p .now))) (dec ((c .before .before .before .before .before .before .before .before .before .before) .args .width) ((c .before .before .before .before .before .before .before .before .before .before) .args .q .now))) (take ((c .before .mul-pop) .result) (drop 1 (putMid 1 (length ((c .before .before .before .before .before .before .before .before .before .before) .args .out .now) - 1) ((c .before .before .before .before .before .before .before .before .before .before) .args .out .now) ((c .before .mul-pop) .last .1 .1 .1 .1 .0))))
 made·mul-pops-gt t c = made-codes 1 ((c .before .before .before .before .before .before .before .before .before .before) .args .out .now) ((c .before .mul-pop) .last .1 .1 .1 .1 .0) ((c .before .mul-pop) .result) (omega (arith, ((c .before .before .before .before .before .before .before .before .before .before) .pre .1 .1 .0) .tables)) ((c .before .mul-pop) .ensures) (fit-prod ((space-pops-gt ((c .before .before .before .before .before .before .before .before .before .before) .args .i) ((c .before .before .before .before .before .before .before .before .before .before) .args .j) (dec ((c .before .before .before .before .before .before .before .before .before .before) .args .width) ((c .before .before .before .before .before .before .before .before .before .before) .args .p .now)) (dec ((c .before .before .before .before .before .before .before .before .before .before) .args .width) ((c .before .before .before .before .before .before .before .before .before .before) .args .q .now)) ((c .before .before .before .before .before .before .before .before .before .before) .pre .1 .1 .0) ((c .before .before .before .before .before .before .before .before .before .before) .pre .1 .1 .1)) .fit) .good)
@@ -1012,7 +1014,7 @@ mul-pops-returns-2 t c = (c .before .before .before .before .before .before .mul
 
 -- src/lib.rt:134:5
 mul-pops-mul-pops-gt-requires-2 : (t : ℕ) → mul-pops-lts.Need-mul-pops-gt-requires-2 (product-below t, product.Post, make-pop-reads.Asked, make-pop-reads.Learnt, mul-pops-gt-below t, mul-pops-gt.Post) (mul-pops-at t) mul-pops.Post
-mul-pops-mul-pops-gt-requires-2 t c κs = (omega (arith, ((c .before .before .before .before .before .before .before .before .before .before) .pre .0)), ((((c .before .before .before .before .before .before .before .before .before .before) .pre .1 .0 .1), ((c .before .before .before .before .before .before .before .before .before .before) .pre .1 .0 .0)), (pop-space-sym ((c .before .before .before .before .before .before .before .before .before .before) .pre .1 .1), omega (arith, (c .before .before .before .before .if1) .left, (c .before .before .before .if2) .left))))
+mul-pops-mul-pops-gt-requires-2 t c κs = (omega (arith, ((c .before .before .before .before .before .before .before .before .before .before) .pre .0)), ((((c .before .before .before .before .before .before .before .before .before .before) .pre .1 .0 .1), ((c .before .before .before .before .before .before .before .before .before .before) .pre .1 .0 .0)), (pop-space-sym ((c .before .before .before .before .before .before .before .before .before .before) .pre .1 .1), below·mul-pops t (c .before .before .before))))
 
 -- src/lib.rt:113:1
 mul-pops-same-length-7 : (t : ℕ) → mul-pops-lts.Need-same-length-7 (product-below t, product.Post, make-pop-reads.Asked, make-pop-reads.Learnt, mul-pops-gt-below t, mul-pops-gt.Post) (mul-pops-at t) mul-pops.Post
@@ -1028,9 +1030,7 @@ mul-pops-same-length-9 t c = search needs
 
 -- src/lib.rt:113:1
 mul-pops-returns-3 : (t : ℕ) → mul-pops-lts.Need-returns-3 (product-below t, product.Post, make-pop-reads.Asked, make-pop-reads.Learnt, mul-pops-gt-below t, mul-pops-gt.Post) (mul-pops-at t) mul-pops.Post
-mul-pops-returns-3 t c =
-    let k : ((c .before .before .before .before .before .before .before .before .before .before .before .before .before .before .before .before .before) .args .i) < ((c .before .before .before .before .before .before .before .before .before .before .before .before .before .before .before .before .before) .args .j) = omega (arith, (c .before .before .before .before .before .before .before .before .before .before .before .if1) .left, (c .before .before .before .before .before .before .before .before .before .before .if2) .left) in
-    begins-as ((c .before .before .before .before .before .before .mul-pops-gt2) .ensures) (ap (enc ((c .before .before .before .before .before .before .before .before .before .before .before .before .before .before .before .before .before) .args .width)) (pops-gt ((c .before .before .before .before .before .before .before .before .before .before .before .before .before .before .before .before .before) .args .width) ((c .before .before .before .before .before .before .before .before .before .before .before .before .before .before .before .before .before) .args .j) ((c .before .before .before .before .before .before .before .before .before .before .before .before .before .before .before .before .before) .args .i) (dec ((c .before .before .before .before .before .before .before .before .before .before .before .before .before .before .before .before .before) .args .width) ((c .before .before .before .before .before .before .before .before .before .before .before .before .before .before .before .before .before) .args .q .now)) (dec ((c .before .before .before .before .before .before .before .before .before .before .before .before .before .before .before .before .before) .args .width) ((c .before .before .before .before .before .before .before .before .before .before .before .before .before .before .before .before .before) .args .p .now)) k ∙ sym (pops-lt ((c .before .before .before .before .before .before .before .before .before .before .before .before .before .before .before .before .before) .args .width) ((c .before .before .before .before .before .before .before .before .before .before .before .before .before .before .before .before .before) .args .i) ((c .before .before .before .before .before .before .before .before .before .before .before .before .before .before .before .before .before) .args .j) (dec ((c .before .before .before .before .before .before .before .before .before .before .before .before .before .before .before .before .before) .args .width) ((c .before .before .before .before .before .before .before .before .before .before .before .before .before .before .before .before .before) .args .p .now)) (dec ((c .before .before .before .before .before .before .before .before .before .before .before .before .before .before .before .before .before) .args .width) ((c .before .before .before .before .before .before .before .before .before .before .before .before .before .before .before .before .before) .args .q .now)) k)))
+mul-pops-returns-3 t c = begins-as ((c .before .before .before .before .before .before .mul-pops-gt2) .ensures) (ap (enc ((c .before .before .before .before .before .before .before .before .before .before .before .before .before .before .before .before .before) .args .width)) (pops-gt ((c .before .before .before .before .before .before .before .before .before .before .before .before .before .before .before .before .before) .args .width) ((c .before .before .before .before .before .before .before .before .before .before .before .before .before .before .before .before .before) .args .j) ((c .before .before .before .before .before .before .before .before .before .before .before .before .before .before .before .before .before) .args .i) (dec ((c .before .before .before .before .before .before .before .before .before .before .before .before .before .before .before .before .before) .args .width) ((c .before .before .before .before .before .before .before .before .before .before .before .before .before .before .before .before .before) .args .q .now)) (dec ((c .before .before .before .before .before .before .before .before .before .before .before .before .before .before .before .before .before) .args .width) ((c .before .before .before .before .before .before .before .before .before .before .before .before .before .before .before .before .before) .args .p .now)) (below·mul-pops t (c .before .before .before .before .before .before .before .before .before .before)) ∙ sym (pops-lt ((c .before .before .before .before .before .before .before .before .before .before .before .before .before .before .before .before .before) .args .width) ((c .before .before .before .before .before .before .before .before .before .before .before .before .before .before .before .before .before) .args .i) ((c .before .before .before .before .before .before .before .before .before .before .before .before .before .before .before .before .before) .args .j) (dec ((c .before .before .before .before .before .before .before .before .before .before .before .before .before .before .before .before .before) .args .width) ((c .before .before .before .before .before .before .before .before .before .before .before .before .before .before .before .before .before) .args .p .now)) (dec ((c .before .before .before .before .before .before .before .before .before .before .before .before .before .before .before .before .before) .args .width) ((c .before .before .before .before .before .before .before .before .before .before .before .before .before .before .before .before .before) .args .q .now)) (below·mul-pops t (c .before .before .before .before .before .before .before .before .before .before)))))
 
 -- src/lib.rt:153:28
 mul-pops-gt-sub-mul-pop : (t : ℕ) → mul-pops-gt-lts.Need-sub-mul-pop (mul-pop-below t, mul-pop.Post, make-pop-reads.Asked, make-pop-reads.Learnt) (mul-pops-gt-at t) mul-pops-gt.Post

@@ -1,13 +1,13 @@
 -- `products::scale_pop` meets its contract: `walks::scale`, and then `coded::make_pop`.
 -- Assumes nothing.
-use mathlib.Core.Path.{_∙_, refl, sym, ap, subst}
-use Prim.Native.Nat.{_+_, _-_, _≤_}
+use mathlib.Core.Path.{_∙_, sym, ap, subst}
+use Prim.Native.Nat.{_-_}
 use native.Mathlib.Omega.{arith}
 use lib.ListN.{length, take, drop}
 use borrow.Rule.Slice.PartMut.{putMid}
 use Rattle.horner.specs.definitions.Form.{pop}
 use Rattle.coded.specs.Coding.{dec, enc, Good, Codes}
-use Rattle.coded.specs.Operations.{popOf, scaleOf}
+use Rattle.coded.specs.Operations.{scaleOf}
 use Rattle.coded.specs.laws.Codes.{coded}
 use Rattle.coded.specs.laws.Good.{good-pop, scale-good}
 use Rattle.coded.proofs.Lists.{begins-le, begins-as, length-tail-part}

@@ -1,13 +1,9 @@
 -- `products::sum_back` meets its contract: `sums::sum` into u, and `coded::copy` back.
 -- Assumes nothing.
-use mathlib.Core.Path.{_≡_, _∙_, refl, sym, ap}
-use mathlib.Core.List.{List, _++_}
-use Prim.Native.Nat.{ℕ, _+_, _≤_}
+use mathlib.Core.Path.{sym}
 use native.Mathlib.Omega.{arith}
 use lib.ListN.{length, take, drop}
 use lib.Seq.{length-take-le}
-use Rattle.coded.specs.Coding.{enc, dec, Begins}
-use Rattle.coded.specs.Operations.{sumOf}
 use Rattle.coded.proofs.Lists.{begins-le}
 use Rattle.products.proofs.Products.{copied-front}
 use borrow.Author.Needs.{needs}
