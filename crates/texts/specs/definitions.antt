@@ -4,6 +4,7 @@ pub mod Numerals
 pub mod Tokens
 pub mod Tree
 pub mod Answer
+pub mod Meaning
 pub mod Reading
 pub mod Limits
 pub mod FormText

@@ -1,2 +1,5 @@
 pub mod Bytes
 pub mod Numerals
+pub mod Words
+pub mod Sofar
+pub mod Through
