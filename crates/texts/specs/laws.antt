@@ -3,3 +3,4 @@ pub mod Numerals
 pub mod Words
 pub mod Sofar
 pub mod Through
+pub mod Reading
