@@ -4,3 +4,5 @@ pub mod Words
 pub mod Sofar
 pub mod Through
 pub mod Reading
+pub mod Begun
+pub mod Places

@@ -46,16 +46,16 @@ module _ (known room : ℕ → Bool) where
   admits d (two p o c g x y) = room d && (admits (suc d) x && admits (suc d) y)
   admits d (power p o c x q n) = room d && admits (suc d) x
 
-  abbrev FrameOk : ℕ → Frame → Type 0
+  abbrev pub FrameOk : ℕ → Frame → Type 0
   FrameOk d (first p o g) = room d ≡ true
   FrameOk d (second p o g x) = (room d ≡ true) × (admits (suc d) x ≡ true)
   FrameOk d (base p o) = room d ≡ true
 
-  abbrev StackOk : List Frame → Type 0
+  abbrev pub StackOk : List Frame → Type 0
   StackOk [] = Unit {0}
   StackOk (f ∷ fs) = FrameOk (length fs) f × StackOk fs
 
-  abbrev SpotOk : ℕ → Spot → Type 0
+  abbrev pub SpotOk : ℕ → Spot → Type 0
   SpotOk d operand = Unit {0}
   SpotOk d (operator p) = room d ≡ true
   SpotOk d (exponent p o x) = (room d ≡ true) × (admits (suc d) x ≡ true)
@@ -63,7 +63,7 @@ module _ (known room : ℕ → Bool) where
   SpotOk d (raised p o x q n) = (room d ≡ true) × (admits (suc d) x ≡ true)
 
   -- after a token the state stands for the tokens ts
-  abbrev Held : Next → List Token → Type 0
+  abbrev pub Held : Next → List Token → Type 0
   Held off ts = Unit {0}
   Held (on s fs) ts = (soFar s fs ≡ ts) × (SpotOk (length fs) s × StackOk fs)
   Held (whole t) ts = (placed t ≡ ts) × (admits 0 t ≡ true)
