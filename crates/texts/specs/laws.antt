@@ -6,3 +6,4 @@ pub mod Through
 pub mod Reading
 pub mod Begun
 pub mod Places
+pub mod Refused
