@@ -6,4 +6,5 @@ pub mod Through
 pub mod Reading
 pub mod Begun
 pub mod Places
+pub mod Open
 pub mod Refused

@@ -59,5 +59,5 @@ pub record TooDeep (limit : ℕ) (ts : List Token) (p : ℕ) : Type 0 where
   pub before : List Token
   pub behind : List Token
   pub parts : ts ≡ before ++ (opening p ∷ behind)
-  pub open-before : openAfter 0 before ≡ limit
+  pub open-before : limit ≤ openAfter 0 before
   pub begun : Begun (before ++ (opening p ∷ []))

@@ -4,8 +4,9 @@ use mathlib.Core.List.{List, [], _∷_, _++_, append-assoc, append-nil}
 use mathlib.Core.Logic.{_⊎_, inl, inr}
 use mathlib.Core.Path.{_≡_, refl, sym, ap, subst, _∙_}
 use Prim.Native.Nat.{ℕ, zero, suc, _≤_, _<_}
+use native.Mathlib.Nat.{zero-add}
 use native.Mathlib.Omega.{arith}
-use borrow.Author.Tests.{leb-true, leb-false, lt-leb}
+use borrow.Author.Tests.{ltb-false, lt-leb}
 use lib.Dec.{leb, ltb}
 use lib.ListN.{length}
 use Rattle.texts.specs.definitions.Answer.{Reading, read, refused, fine}
@@ -15,8 +16,9 @@ use Rattle.texts.specs.definitions.Reading.{Frame, Spot, operand, operat
 use Rattle.texts.specs.definitions.Tokens.{Token, opening, closing, word, placeOf, tokens}
 use Rattle.texts.specs.definitions.Tree.{Tree, placed, letters}
 use Rattle.texts.specs.laws.Begun.{yes′, check-yes, capitals-admits, Live, begun-next}
+use Rattle.texts.specs.laws.Open.{open-placed, open-stack}
 use Rattle.texts.specs.laws.Places.{Reached, Refusal, early, bad, past, trace, refusal-parts}
-use Rattle.texts.specs.laws.Sofar.{soFar, admits, no-refusal}
+use Rattle.texts.specs.laws.Sofar.{stackTokens, soFar, admits, Held, held-step, no-refusal}
 use Rattle.texts.specs.laws.Through.{goOn, through-all}
 
 -- ---- the numbers of the checks
@@ -65,6 +67,21 @@ module _ (n : ℕ) where
         ends = λ b. no-term ks (k ∷ b .rest) x (b .term) 4 (placeOf k) r (b .capitals) (b .is ∙ append-assoc ks (k ∷ []) (b .rest)) (g (b .rest));
       }
 
+  -- the token that leads on from where the tokens ks lead
+  begun-with : (ks : List Token) (k : Token) (s : Spot) (fs : List Frame) (x : Next) → Reached n operand [] ks (on s fs) → step s fs k ≡ x → Live x → Begun (ks ++ (k ∷ []))
+  begun-with ks k s fs x r g l =
+      begun-next x (ks ++ (k ∷ [])) l
+      (subst (λ (y : Next). Held yes′ yes′ y (ks ++ (k ∷ []))) g
+      (rw (r .held .0) at (held-step yes′ yes′ s fs k (r .held .1 .0) (r .held .1 .1) (check-yes (length fs) k))))
+
+  -- a parenthesis may be opened only where an operand may come
+  open-depth : (p : ℕ) (s : Spot) (fs : List Frame) (ks : List Token) (x : Next) → soFar s fs ≡ ks → step s fs (opening p) ≡ x → Live x → openAfter 0 ks ≡ length fs
+  open-depth p operand fs ks x h g l = ap (openAfter 0) (sym h) ∙ open-stack fs 0 [] ∙ zero-add (length fs)
+  open-depth p (operator q) fs ks x h g l = absurd (rw (← g) at l)
+  open-depth p (exponent q o y) fs ks x h g l = absurd (rw (← g) at l)
+  open-depth p (ending q o i y z) fs ks x h g l = absurd (rw (← g) at l)
+  open-depth p (raised q o y r m) fs ks x h g l = absurd (rw (← g) at l)
+
 not-4 : {known room : ℕ → Bool} {d e : ℕ} {k : Token} → Checked known room d e k → e ≡ 4 → ⊥
 not-4 (deep p i r) e = omega arith
 not-4 (unknown p b i c l) e = omega arith
@@ -92,3 +109,44 @@ module _ (row s : List ℕ) where
   pub too-long : 4096 < length s → readTerm row s ≡ refused 3 0
   unfolding readTerm
   too-long h = rw (lt-leb (length s) 4096 h, readTerm)
+
+  place-5-of : (p : ℕ) → Refusal (length s) (inRow row) (λ d. ltb d 16) operand [] (tokens 0 s) 5 p → Unknown row (tokens 0 s) p
+  place-5-of p (early s′ fs′ q i j) = absurd (omega arith)
+  place-5-of p (bad ks k zs x f q g i j) = absurd (omega arith)
+  place-5-of p (past ks k zs s′ fs′ x f q g l i m j) = go k f (begun-with (length s) ks k s′ fs′ x q g l) (checked (inRow row) (λ d. ltb d 16) (length fs′) 5 k m i) j
+    where
+      go : (k : Token) → tokens 0 s ≡ ks ++ (k ∷ zs) → Begun (ks ++ (k ∷ [])) → Checked (inRow row) (λ d. ltb d 16) (length fs′) 5 k → p ≡ placeOf k → Unknown row (tokens 0 s) p
+      go k f b (deep r e o) j = absurd (omega arith)
+      go k f b (unknown r c e h o) j =
+          record {
+            before = ks;
+            letter = c;
+            behind = zs;
+            parts = f ∙ ap (λ (z : ℕ). ks ++ (word z (c ∷ []) ∷ zs)) (sym j);
+            is-capital = h;
+            not-in-row = o;
+            begun = rw j b;
+          }
+
+  pub place-5 : (p : ℕ) → readTerm row s ≡ refused 5 p → Unknown row (tokens 0 s) p
+  place-5 p r = place-5-of p (ran 5 p (omega arith) r)
+
+  place-6-of : (p : ℕ) → Refusal (length s) (inRow row) (λ d. ltb d 16) operand [] (tokens 0 s) 6 p → TooDeep 16 (tokens 0 s) p
+  place-6-of p (early s′ fs′ q i j) = absurd (omega arith)
+  place-6-of p (bad ks k zs x f q g i j) = absurd (omega arith)
+  place-6-of p (past ks k zs s′ fs′ x f q g l i m j) = go k f g (begun-with (length s) ks k s′ fs′ x q g l) (checked (inRow row) (λ d. ltb d 16) (length fs′) 6 k m i) j
+    where
+      go : (k : Token) → tokens 0 s ≡ ks ++ (k ∷ zs) → step s′ fs′ k ≡ x → Begun (ks ++ (k ∷ [])) → Checked (inRow row) (λ d. ltb d 16) (length fs′) 6 k → p ≡ placeOf k → TooDeep 16 (tokens 0 s) p
+      go k f g b (deep r e o) j =
+          let d = open-depth (length s) r s′ fs′ ks x (q .held .0) g l in
+          record {
+            before = ks;
+            behind = zs;
+            parts = f ∙ ap (λ (z : ℕ). ks ++ (opening z ∷ zs)) (sym j);
+            open-before = omega (arith, ltb-false (length fs′) 16 o);
+            begun = rw j b;
+          }
+      go k f g b (unknown r c e h o) j = absurd (omega arith)
+
+  pub place-6 : (p : ℕ) → readTerm row s ≡ refused 6 p → TooDeep 16 (tokens 0 s) p
+  place-6 p r = place-6-of p (ran 6 p (omega arith) r)
