@@ -1,5 +1,6 @@
 pub mod Bytes
 pub mod Numerals
+pub mod Prefixes
 pub mod Words
 pub mod Sofar
 pub mod Through
@@ -8,3 +9,4 @@ pub mod Begun
 pub mod Places
 pub mod Open
 pub mod Refused
+pub mod FormSofar

@@ -98,7 +98,7 @@ unfolding dec
 value-dec n = value-decF (suc n) n (omega arith)
 
 -- digits that do not begin with 0
-abbrev Leading : List ℕ → Type 0
+abbrev pub Leading : List ℕ → Type 0
 Leading [] = ⊥
 Leading (x ∷ w) = (eqb x 48 ≡ false) × (digit x ≡ true) × (all digit w ≡ true)
 
@@ -113,7 +113,7 @@ decF-leading (suc k) n h p =
     (λ s. rw (decF-short k n s) (ne-eqb (48 + n) 48 (omega arith), range-digit (48 + n) (omega arith) (omega arith), refl))
     (λ l. rw (decF-long k n l) (leading-more (decF k (n / 10)) (48 + n % 10) (decF-leading k (n / 10) (omega arith) (omega arith)) (range-digit (48 + n % 10) (omega arith) (omega arith))))
 
-leading-canonical : (w : List ℕ) → Leading w → canonical w ≡ true
+pub leading-canonical : (w : List ℕ) → Leading w → canonical w ≡ true
 leading-canonical [] l = absurd l
 leading-canonical (x ∷ w) l = rw (l .0, canonical) (and-i (l .1) (l .2))
 
@@ -121,6 +121,10 @@ pub canonical-dec : (n : ℕ) → canonical (dec n) ≡ true
 unfolding dec
 canonical-dec zero = refl
 canonical-dec (suc n) = leading-canonical (dec (suc n)) (decF-leading (suc (suc n)) (suc n) (omega arith) (omega arith))
+
+pub leading-dec : (n : ℕ) → Leading (dec (suc n))
+unfolding dec
+leading-dec n = decF-leading (suc (suc n)) (suc n) (omega arith) (omega arith)
 
 pub read-dec : (n : ℕ) → readNat (dec n) ≡ some n
 unfolding readNat
@@ -142,7 +146,7 @@ canonical-front x w c = go (eqb x 48) refl
     go true e = omega (arith, eqb-true x 48 e)
     go false e = let d : (digit x && all digit w) ≡ true = rw (e, canonical) at c in digit-range x (and-l (digit x) (all digit w) d) .0
 
-read-unsigned : (w : List ℕ) → canonical w ≡ true → readInt w ≡ from0 (readNat w)
+pub read-unsigned : (w : List ℕ) → canonical w ≡ true → readInt w ≡ from0 (readNat w)
 unfolding readInt
 read-unsigned [] c = absurd (true≢false (sym c))
 read-unsigned (x ∷ w) c = let h = canonical-front x w c in rw (ne-eqb x 45 (omega arith), readInt)
