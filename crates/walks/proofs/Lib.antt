@@ -1,3 +1,3 @@
 pub mod Negative
 pub mod Evaluation
-pub mod Scaling
+pub mod Carrying

@@ -1,1 +1,3 @@
 pub mod Points
+pub mod Carrying
+pub mod laws
