@@ -1,11 +1,13 @@
 // Functions that walk over one coded form: its negative, its value at a point, its product with a leaf, and the same form in another ring.
 ghost use mathlib.Core.Path.{_≡_};
-ghost use Prim.Native.Nat.{_+_, _<_, _≤_, min};
+ghost use Prim.Native.Nat.{ℕ, _+_, _<_, _≤_, min};
 ghost use lib.ListN.{length};
-ghost use Rattle.coded.specs.Widths.{modulus, leaf};
+ghost use Rattle.horner.specs.definitions.Form.{int, isZero};
+ghost use Rattle.coded.specs.Widths.{modulus, ringOf, leaf};
 ghost use Rattle.coded.specs.Coding.{Coded, Made, Room, dec};
 ghost use Rattle.coded.specs.Operations.{negateOf, valueOf, scaleOf};
 ghost use Rattle.walks.specs.Points.{Leaves};
+ghost use Rattle.walks.specs.Shapes.{Decides, letterOf};
 ghost use Rattle.walks.specs.Carrying.{carried, carryOf, reduceOf};
 
 // The lesser of two numbers.
@@ -135,4 +137,59 @@ pub fn reduce(width: u32, x: &[u32], out: &mut [u32]) -> usize
     ensures { λ r. ⌜ Made width (reduceOf width (dec 0 (now (x .entry)))) r (now (out .exit)) ⌝ }
 {
     carry(0, width, 1, x, out)
+}
+
+// Whether x and y are one code, and so of one form.
+pub fn same(x: &[u32], y: &[u32]) -> bool
+    ensures { λ r. ⌜ Decides r (now (x .entry) ≡ now (y .entry)) ⌝ }
+    ensures { λ r. ⌜ ((w : ℕ) → Coded w (now (x .entry)) → Coded w (now (y .entry)) → Decides r (dec w (now (x .entry)) ≡ dec w (now (y .entry)))) ⌝ }
+{
+    if x.len() != y.len() {
+        return false;
+    }
+    let mut k = 0;
+    while k < x.len() {
+        if x[k] != y[k] {
+            return false;
+        }
+        k += 1;
+    }
+    true
+}
+
+// Whether the form x is 0.
+pub fn is_zero(width: u32, x: &[u32]) -> bool
+    requires { ⌜ Coded width (now x) ⌝ }
+    ensures { λ r. ⌜ r ≡ isZero (ringOf width) (dec width (now (x .entry))) ⌝ }
+{
+    x[0] == 0
+}
+
+// The number a as a form.
+pub fn integer(width: u32, a: u32, out: &mut [u32]) -> usize
+    requires { ⌜ a < modulus width ⌝ }
+    requires { ⌜ 1 ≤ length (now out) ⌝ }
+    ensures { λ r. ⌜ Made width (int (leaf width a)) r (now (out .exit)) ⌝ }
+{
+    out[0] = a;
+    1
+}
+
+// The i-th variable as a form: pop(i, (POW 1 1 0)).
+pub fn letter(width: u32, i: u32, out: &mut [u32]) -> usize
+    requires { ⌜ i ≤ 3 ⌝ }
+    requires { ⌜ 4 ≤ length (now out) ⌝ }
+    ensures { λ r. ⌜ Made width (letterOf width i) r (now (out .exit)) ⌝ }
+{
+    if i == 0 {
+        out[0] = 2147483713;
+        out[1] = 1;
+        out[2] = 0;
+        return 3;
+    }
+    out[0] = 2147483648 + i;
+    out[1] = 2147483713;
+    out[2] = 1;
+    out[3] = 0;
+    4
 }
