@@ -1,5 +1,5 @@
 -- The reading of a term with numbers for its states (texts/specs/definitions/Reading has it with what was read): what code runs.
-use mathlib.Core.Path.{_≡_}
+use mathlib.Core.Path.{_≡_, ap}
 use mathlib.Core.Bool.{Bool, true, false, not, cond}
 use mathlib.Core.List.{List, [], _∷_}
 use Prim.Native.Nat.{ℕ, suc, _+_, _-_, _*_, _/_, _%_, _≤_, _<_}
@@ -16,77 +16,60 @@ use Rattle.syntax.specs.declared.Moved.the-variants.{On, Whole, Off}
 use Rattle.syntax.specs.declared.Turning.{Turning}
 use Rattle.syntax.specs.declared.Turning.the-variants as T
 
+-- one of two, by a test. It stays shut, so that a proof goes by the two laws
+unfoldable pub pick : {A : Type 0} → Bool → A → A → A
+pick true a b = a
+pick false a b = b
+
+pub pick-yes : {A : Type 0} {t : Bool} (a b : A) → t ≡ true → pick t a b ≡ a
+unfolding pick
+pick-yes a b e = ap (λ t. pick t a b) e
+
+pub pick-no : {A : Type 0} {t : Bool} (a b : A) → t ≡ false → pick t a b ≡ b
+unfolding pick
+pick-no a b e = ap (λ t. pick t a b) e
+
+abbrev pub goes : ℕ → ℕ → ℕ → Moved
+goes spot stack depth = On (record { spot = spot; stack = stack; depth = depth })
+
+-- a finished operand: the whole term; the first operand; the second; the base of EXPT
 abbrev pub deliverC : ℕ → ℕ → Moved
 deliverC stack depth =
-    elim (eqb depth 0) [
-      | true ↦ Whole
-      | false ↦
-          elim (ltb (stack % 8) 4) [
-            | true ↦ On (record { spot = 0; stack = stack + 3; depth = depth })
-            | false ↦
-                elim (ltb (stack % 8) 7) [
-                  | true ↦ On (record { spot = 3; stack = stack / 8; depth = depth - 1 })
-                  | false ↦ On (record { spot = 2; stack = stack / 8; depth = depth - 1 })
-                ]
-          ]
-    ]
+    pick (eqb depth 0) Whole
+    (pick (ltb (stack % 8) 4) (goes 0 (stack + 3) depth)
+    (pick (ltb (stack % 8) 7) (goes 3 (stack / 8) (depth - 1)) (goes 2 (stack / 8) (depth - 1))))
 
 -- the end of `(- x`
 abbrev pub closeShortC : ℕ → ℕ → Moved
-closeShortC stack depth =
-    elim (eqb depth 0) [ true ↦ Off 4 | false ↦ elim (eqb (stack % 8) 5) [ true ↦ deliverC (stack / 8) (depth - 1) | false ↦ Off 4 ] ]
+closeShortC stack depth = pick (eqb depth 0) (Off 4) (pick (eqb (stack % 8) 5) (deliverC (stack / 8) (depth - 1)) (Off 4))
 
 abbrev pub closeC : State → Moved
-closeC st =
-    elim (eqb (st .spot) 3) [
-      | true ↦ deliverC (st .stack) (st .depth)
-      | false ↦ elim (eqb (st .spot) 0) [ true ↦ closeShortC (st .stack) (st .depth) | false ↦ Off 4 ]
-    ]
+closeC st = pick (eqb (st .spot) 3) (deliverC (st .stack) (st .depth)) (pick (eqb (st .spot) 0) (closeShortC (st .stack) (st .depth)) (Off 4))
 
 -- a capital letter of the row
 abbrev pub letterC : List ℕ → ℕ → ℕ → ℕ → Moved
-letterC row b stack depth =
-    elim (capital b) [ true ↦ elim (ltb (indexIn row b) (length row)) [ true ↦ deliverC stack depth | false ↦ Off 5 ] | false ↦ Off 4 ]
+letterC row b stack depth = pick (capital b) (pick (ltb (indexIn row b) (length row)) (deliverC stack depth) (Off 5)) (Off 4)
 
 abbrev pub leafC : List ℕ → List ℕ → ℕ → ℕ → Moved
-leafC row w stack depth =
-    elim (isInteger w) [ true ↦ deliverC stack depth | false ↦ elim (eqb (length w) 1) [ true ↦ letterC row (getD w 0 0) stack depth | false ↦ Off 4 ] ]
+leafC row w stack depth = pick (isInteger w) (deliverC stack depth) (pick (eqb (length w) 1) (letterC row (getD w 0 0) stack depth) (Off 4))
 
+-- g is 1 to 3 for an operator, 4 for EXPT
 abbrev pub pushC : ℕ → ℕ → ℕ → Moved
-pushC g stack depth =
-    elim (eqb g 0) [
-      | true ↦ Off 4
-      | false ↦
-          elim (eqb g 4) [
-            | true ↦ On (record { spot = 0; stack = stack * 8 + 7; depth = depth + 1 })
-            | false ↦ On (record { spot = 0; stack = stack * 8 + g; depth = depth + 1 })
-          ]
-    ]
+pushC g stack depth = pick (eqb g 0) (Off 4) (pick (eqb g 4) (goes 0 (stack * 8 + 7) (depth + 1)) (goes 0 (stack * 8 + g) (depth + 1)))
 
 abbrev pub operatorC : List ℕ → ℕ → ℕ → Moved
 operatorC w stack depth = pushC (operatorOf w) stack depth
 
+abbrev pub exponentC : List ℕ → ℕ → ℕ → Moved
+exponentC w stack depth = pick (canonical w) (goes 3 stack depth) (Off 4)
+
 abbrev pub wordC : List ℕ → List ℕ → State → Moved
 wordC row w st =
-    elim (eqb (st .spot) 0) [
-      | true ↦ leafC row w (st .stack) (st .depth)
-      | false ↦
-          elim (eqb (st .spot) 1) [
-            | true ↦ operatorC w (st .stack) (st .depth)
-            | false ↦
-                elim (eqb (st .spot) 2) [
-                  | true ↦ elim (canonical w) [ true ↦ On (record { spot = 3; stack = st .stack; depth = st .depth }) | false ↦ Off 4 ]
-                  | false ↦ Off 4
-                ]
-          ]
-    ]
+    pick (eqb (st .spot) 0) (leafC row w (st .stack) (st .depth))
+    (pick (eqb (st .spot) 1) (operatorC w (st .stack) (st .depth)) (pick (eqb (st .spot) 2) (exponentC w (st .stack) (st .depth)) (Off 4)))
 
 abbrev pub openC : State → Moved
-openC st =
-    elim (eqb (st .spot) 0) [
-      | true ↦ elim (ltb (st .depth) 16) [ true ↦ On (record { spot = 1; stack = st .stack; depth = st .depth }) | false ↦ Off 6 ]
-      | false ↦ Off 4
-    ]
+openC st = pick (eqb (st .spot) 0) (pick (ltb (st .depth) 16) (goes 1 (st .stack) (st .depth)) (Off 6)) (Off 4)
 
 abbrev pub turnOf : Moved → ℕ → Reader → Turning
 turnOf (On st) p nx = T.On st nx
