@@ -1,0 +1,85 @@
+-- The code of a product, from the codes of its parts: what the functions that multiply forms return.
+-- Assumes nothing.
+use mathlib.Core.Path.{_≡_, refl, sym, ap, subst, _∙_}
+use mathlib.Core.List.{List, [], _∷_, _++_}
+use Prim.Native.Nat.{ℕ, suc, _+_, _-_, _%_, _≤_, _<_}
+use native.Mathlib.Omega.{arith}
+use lib.ListN.{length, getD, take, drop, set}
+use lib.Seq.{take-set-le, set-split, take-at, drop-at, length-take-le}
+use borrow.Rule.Slice.PartMut.{putMid, take-put}
+use Rattle.horner.specs.definitions.Form.{Form, pop, lower, mkpop}
+use Rattle.coded.specs.Coding.{enc, Good, Codes, Begins}
+use Rattle.coded.specs.Operations.{popOf, powOf, scaleOf, zeroOf}
+use Rattle.coded.specs.Widths.{Leaf}
+use Rattle.coded.specs.laws.Codes.{IsInt, IsPop, IsPow}
+use Rattle.coded.proofs.Lists.{begins-le}
+use Rattle.coded.proofs.Making.{zero-codes}
+use Rattle.coded.proofs.Regions.{region-sub}
+use Rattle.fits.specs.Fit.{prodOf}
+use Rattle.fits.specs.laws.Equations.{int-any, any-int, pop-pow, pow-pop}
+
+-- (1) and (2)
+module _ {w : ℕ} {h : Form (Leaf w)} {x : ℕ} (v : IsInt w h x) (y : Form (Leaf w)) where
+  pub int-times : enc w (scaleOf w x y) ≡ enc w (prodOf w h y)
+  int-times = ap (enc w) (sym (int-any w x y) ∙ ap (λ z. prodOf w z y) (sym (v .is)))
+
+  pub times-int : enc w (scaleOf w x y) ≡ enc w (prodOf w y h)
+  times-int = ap (enc w) (sym (any-int w x y) ∙ ap (λ z. prodOf w y z) (sym (v .is)))
+
+-- (4) and (5)
+module _ {w : ℕ} {h : Form (Leaf w)} {l : List ℕ} (v : IsPow w h l) (i : ℕ) (p : Form (Leaf w)) (pos : 0 < i) where
+  pub pop-times : (k : ℕ) → k ≡ v .i → prodOf w (pop i p) h ≡ powOf w k (prodOf w (pop i p) (v .p)) (prodOf w (lower (i - 1) p) (v .q))
+  pop-times k e = rw (v .is, e) (pop-pow w i (v .i) p (v .p) (v .q) pos)
+
+  pub times-swap : prodOf w (pop i p) h ≡ prodOf w h (pop i p)
+  times-swap = rw (v .is) (sym (pow-pop w i (v .i) p (v .p) (v .q) pos))
+
+-- what stands before a part that is lent is kept
+pub front-codes : {w : ℕ} {h : Form (Leaf w)} (n : ℕ) (d e : List ℕ) (k : ℕ) → n ≤ length d → Codes w h (take n d) → Codes w h (take n (putMid n k d e))
+front-codes n d e k l c = record { is = take-put n k d e l ∙ c .is; good = c .good }
+
+pub made-front : {w : ℕ} {h : Form (Leaf w)} (n : ℕ) (d : List ℕ) → Begins n (enc w h) d → Good w h → Codes w h (take n d)
+made-front n d m g = record { is = m .is; good = g }
+
+-- pop(1, .), by the head word
+
+pub up-int : {w : ℕ} {h : Form (Leaf w)} {x : ℕ} → IsInt w h x → popOf w 1 h ≡ h
+unfolding popOf
+up-int v = rw (v .is)
+
+pub up-pop : {w : ℕ} {h : Form (Leaf w)} {l : List ℕ} (v : IsPop w h l) {p : Form (Leaf w)} → p ≡ v .p → popOf w 1 h ≡ pop (1 + getD l 0 0 % 64) p
+unfolding popOf
+up-pop {l = l} v e =
+    let i : 1 + getD l 0 0 % 64 ≡ 1 + v .i = omega (arith, v .word, v .small) in
+    rw (v .is, e, i)
+
+pub up-pow : {w : ℕ} {h : Form (Leaf w)} {l : List ℕ} → IsPow w h l → popOf w 1 h ≡ pop 1 h
+unfolding popOf
+up-pow v = rw (v .is)
+
+-- a store after a form, and the leaf 0 that it makes
+
+pub stored-before : {w : ℕ} {h : Form (Leaf w)} (a m f x : ℕ) (d : List ℕ) → a + m ≤ f → Codes w h (take m (drop a d)) → Codes w h (take m (drop a (set d f x)))
+stored-before a m f x d l c =
+    let z : 0 + a ≡ a = omega arith in
+    record {
+      is =
+          ap (λ k. take m (drop k (set d f x))) (sym z)
+          ∙ sym (region-sub 0 f a m (set d f x) l)
+          ∙ ap (λ k. take m (drop a k)) (take-set-le f d f x (omega arith))
+          ∙ region-sub 0 f a m d l
+          ∙ ap (λ k. take m (drop k d)) z
+          ∙ c .is;
+      good = c .good;
+    }
+
+pub stored-zero : (w f : ℕ) (d : List ℕ) → f < length d → Codes w (zeroOf w) (take 1 (drop f (set d f 0)))
+stored-zero w f d l =
+    record {
+      is = ap (take 1) (ap (drop f) (set-split d f 0 l) ∙ drop-at (take f d) (0 ∷ drop (suc f) d) f (length-take-le f d (omega arith))) ∙ zero-codes w .is;
+      good = zero-codes w .good;
+    }
+
+-- a front, copied
+pub copied-front : {n : ℕ} {l d e : List ℕ} (r : List ℕ) → Begins n l d → e ≡ take n d ++ r → Begins n l e
+copied-front {n} {l} {d} {e} r m q = record { size = m .size; is = rw q (take-at (take n d) r n (length-take-le n d (begins-le m)) ∙ m .is) }
