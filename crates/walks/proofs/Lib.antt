@@ -1,3 +1,4 @@
+pub mod Shapes
 pub mod Negative
 pub mod Evaluation
-pub mod Scaling
+pub mod Carrying

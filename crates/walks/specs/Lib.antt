@@ -1,1 +1,4 @@
 pub mod Points
+pub mod Shapes
+pub mod Carrying
+pub mod laws

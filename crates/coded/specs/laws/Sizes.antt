@@ -16,7 +16,7 @@ use Rattle.coded.specs.Widths.{Leaf, ringOf, leaf}
 module _ {A : Type 0} (R : Ring A) where
   open Ring R using (isNil)
 
-  size-mkpop : (i : ℕ) (h : Form A) → size (mkpop i h) ≤ 1 + size h
+  pub size-mkpop : (i : ℕ) (h : Form A) → size (mkpop i h) ≤ 1 + size h
   size-mkpop zero h = omega arith
   size-mkpop (suc i) (int r) = omega arith
   size-mkpop (suc i) (pop j q) = omega arith
@@ -26,14 +26,14 @@ module _ {A : Type 0} (R : Ring A) where
   abbrev Fits : ℕ → Form A → Type 0
   Fits m h = size h ≤ m
 
-  size-mkpow : (i : ℕ) (p q : Form A) → size (mkpow R i p q) ≤ 1 + size p + size q
+  pub size-mkpow : (i : ℕ) (p q : Form A) → size (mkpow R i p q) ≤ 1 + size p + size q
   size-mkpow i (int c) q =
       cond-cases (isNil c) (Fits (1 + 1 + size q)) _ _ (λ e. omega (arith, size-mkpop 1 q)) (λ e. omega arith)
   size-mkpow i (pop j p) q = omega arith
   size-mkpow i (pow j r s) q =
       cond-cases (isZero R s) (Fits (1 + suc (size r + size s) + size q)) _ _ (λ e. omega (arith, size-pos s)) (λ e. omega arith)
 
-  size-addInt : (a : A) (y : Form A) → size (addInt R a y) ≡ size y
+  pub size-addInt : (a : A) (y : Form A) → size (addInt R a y) ≡ size y
   size-addInt a (int b) = refl
   size-addInt a (pop i p) = omega (arith, size-addInt a p)
   size-addInt a (pow i p q) = omega (arith, size-addInt a q)
@@ -43,7 +43,7 @@ module _ {A : Type 0} (R : Ring A) where
   size-rest j q r zero p t h = omega (arith, h)
   size-rest j q r (suc i) p t h = omega (arith, h)
 
-  size-sumF : (k : ℕ) (x y : Form A) → size x + size y ≤ k → size (sumF R k x y) + 1 ≤ size x + size y
+  pub size-sumF : (k : ℕ) (x y : Form A) → size x + size y ≤ k → size (sumF R k x y) + 1 ≤ size x + size y
   size-sumF zero x y h = absurd (omega (arith, size-pos x))
   size-sumF (suc k) (int a) y h = omega (arith, size-addInt a y)
   size-sumF (suc k) (pop i p) (int b) h = omega (arith, size-addInt b p)
@@ -65,12 +65,12 @@ module _ {A : Type 0} (R : Ring A) where
       (λ d e. omega (arith, size-mkpow j (sumF R k (pow (suc d) p (zeroForm R)) r) (sumF R k q s), size-sumF k (pow (suc d) p (zeroForm R)) r (omega (arith, size-pos q)), size-sumF k q s (omega arith)))
       (λ d e. omega (arith, size-mkpow i (sumF R k (pow (suc d) r (zeroForm R)) p) (sumF R k s q), size-sumF k (pow (suc d) r (zeroForm R)) p (omega (arith, size-pos s)), size-sumF k s q (omega arith)))
 
-  size-negate : (x : Form A) → size (negate R x) ≡ size x
+  pub size-negate : (x : Form A) → size (negate R x) ≡ size x
   size-negate (int c) = refl
   size-negate (pop i p) = omega (arith, size-negate p)
   size-negate (pow i p q) = omega (arith, size-negate p, size-negate q)
 
-  size-scale : (a : A) (x : Form A) → size (scale R a x) ≤ size x
+  pub size-scale : (a : A) (x : Form A) → size (scale R a x) ≤ size x
   size-scale a (int b) = omega arith
   size-scale a (pop i p) = omega (arith, size-mkpop i (scale R a p), size-scale a p)
   size-scale a (pow i p q) = omega (arith, size-mkpow i (scale R a p) (scale R a q), size-scale a p, size-scale a q)

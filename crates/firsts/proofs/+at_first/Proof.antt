@@ -1,0 +1,140 @@
+-- `firsts::at_first` meets its contract: p with the number put is made in out, scaled into spare, and added to q. The measure is the number of words.
+-- Assumes nothing.
+use mathlib.Core.Path.{_≡_, _∙_, sym, ap}
+use Prim.Native.Nat.{ℕ, _+_, _-_, _<_, _≤_}
+use native.Mathlib.Omega.{arith}
+use lib.ListN.{length, take}
+use lib.Seq.{length-take-le}
+use Rattle.coded.specs.Coding.{dec, enc, Codes}
+use Rattle.coded.specs.Operations.{sumOf, scaleOf}
+use Rattle.coded.specs.laws.Codes.{some, int-view, dec-enc, coded, codes-length}
+use Rattle.coded.specs.laws.Good.{good-pop, scale-good}
+use Rattle.coded.specs.laws.Parts.{first, rest, PopAt, PowAt, pop-at, pow-at}
+use Rattle.coded.specs.laws.Sizes.{scale-length}
+use Rattle.coded.proofs.Lists.{begins-le, begins-as, begins-set}
+use Rattle.coded.proofs.Making.{leaf-code}
+use Rattle.firsts.specs.First.{atFirstOf}
+use Rattle.firsts.specs.laws.First.{first-length, first-good, first-int, first-pop, first-pow}
+use borrow.Author.Needs.{needs}
+use borrow.Fn.Kinds.{In}
+use borrow.Fn.PlainCycle.{Measures, is, falls, and}
+use Rattle.firsts.proofs.+at_first.{statement}
+use Rattle.firsts.proofs.+at_first.Tie.{close}
+use Rattle.firsts.proofs.at_first.Reads as at-first
+use Rattle.firsts.proofs.at_first.Kinds as at-first-kinds
+use Rattle.firsts.proofs.+at_first.Lts-at_first as at-first-lts
+use Rattle.coded.proofs.leaf_power.Reads as leaf-power-reads
+use Rattle.firsts.proofs.put_lower.Reads as put-lower-reads
+use Rattle.sums.proofs.sum.Reads as sum-reads
+use Rattle.walks.proofs.scale.Reads as scale-reads
+
+abbrev μ-at-first : Measures 3 at-first-kinds.ps ℕ
+μ-at-first κs a = length (a .1 .0 .now)
+
+abbrev at-first-at : ℕ → In 3 at-first-kinds.ps
+at-first-at t = and 3 at-first-kinds.ps (is 3 at-first-kinds.ps μ-at-first t) at-first.Pre
+
+abbrev at-first-below : ℕ → In 3 at-first-kinds.ps
+at-first-below t = and 3 at-first-kinds.ps (falls 3 at-first-kinds.ps _<_ μ-at-first t) at-first.Pre
+
+abbrev Then2·at-first : ℕ → Type 0
+Then2·at-first t = at-first-lts.Then2 (put-lower-reads.Asked, put-lower-reads.Learnt, at-first-below t, at-first.Post, leaf-power-reads.Asked, leaf-power-reads.Learnt, scale-reads.Asked, scale-reads.Learnt, sum-reads.Asked, sum-reads.Learnt) (at-first-at t) at-first.Post
+
+is-pop : (t : ℕ) (c : Then2·at-first t) → let s = c .before .before .before .before .before .before in PopAt (s .args .width) (s .args .x .now)
+is-pop t c = pop-at (c .before .before .before .before .before .before .pre .1 .1 .0) (c .before .if1 .left) (c .if2 .taken)
+
+abbrev Else2·at-first : ℕ → Type 0
+Else2·at-first t = at-first-lts.Else2 (put-lower-reads.Asked, put-lower-reads.Learnt, at-first-below t, at-first.Post, leaf-power-reads.Asked, leaf-power-reads.Learnt, scale-reads.Asked, scale-reads.Learnt, sum-reads.Asked, sum-reads.Learnt) (at-first-at t) at-first.Post
+
+is-pow : (t : ℕ) (c : Else2·at-first t) → let s = c .before .before .before .before .before .before in PowAt (s .args .width) (s .args .x .now)
+is-pow t c = pow-at (c .before .before .before .before .before .before .pre .1 .1 .0) (c .before .if1 .left) (c .if2 .left)
+
+abbrev After-at-first·at-first : ℕ → Type 0
+After-at-first·at-first t = at-first-lts.After-at-first (put-lower-reads.Asked, put-lower-reads.Learnt, at-first-below t, at-first.Post, leaf-power-reads.Asked, leaf-power-reads.Learnt, scale-reads.Asked, scale-reads.Learnt, sum-reads.Asked, sum-reads.Learnt) (at-first-at t) at-first.Post
+
+lent : (t : ℕ) (c : After-at-first·at-first t) →
+    let s = c .before .before .before .before .before .before .before .before .before .before in
+    (length (c .at-first .last .1 .1 .1 .0) ≡ length (s .args .out .now)) × (length (c .at-first .last .1 .1 .1 .1 .0) ≡ length (s .args .spare .now))
+lent t c = (c .at-first .kept .1 .1 .1 .0, c .at-first .kept .1 .1 .1 .1 .0)
+
+n-size : (t : ℕ) (c : at-first-lts.After-at-first (put-lower-reads.Asked, put-lower-reads.Learnt, at-first-below t, at-first.Post, leaf-power-reads.Asked, leaf-power-reads.Learnt, scale-reads.Asked, scale-reads.Learnt, sum-reads.Asked, sum-reads.Learnt) (at-first-at t) at-first.Post) → ((c .at-first) .result) ≤ length (first ((c .before .before .before .before .before .before .before .before .before .before) .args .x .now))
+n-size t c =
+    let v = is-pow t (c .before .before .before .before) in
+    omega (arith, (c .at-first) .ensures .size, first-length ((c .before .before .before .before .before .before .before .before .before .before) .args .width) (dec ((c .before .before .before .before .before .before .before .before .before .before) .args .width) (first ((c .before .before .before .before .before .before .before .before .before .before) .args .x .now))) ((c .before .before .before .before .before .before .before .before .before .before) .args .a), codes-length (v .left))
+
+made : (t : ℕ) (c : After-at-first·at-first t) →
+    let s = c .before .before .before .before .before .before .before .before .before .before in
+    Codes (s .args .width) (atFirstOf (s .args .width) (dec (s .args .width) (first (s .args .x .now))) (s .args .a))
+    (take (c .at-first .result) (c .at-first .last .1 .1 .1 .0))
+made t c =
+    let s = c .before .before .before .before .before .before .before .before .before .before in
+    record
+    { is = (c .at-first) .ensures .is; good = first-good (s .args .width) (dec (s .args .width) (first (s .args .x .now))) (s .args .a) (is-pow t (c .before .before .before .before) .left .good) }
+
+made2 : (t : ℕ) (c : at-first-lts.After-scale (put-lower-reads.Asked, put-lower-reads.Learnt, at-first-below t, at-first.Post, leaf-power-reads.Asked, leaf-power-reads.Learnt, scale-reads.Asked, scale-reads.Learnt, sum-reads.Asked, sum-reads.Learnt) (at-first-at t) at-first.Post) → Codes ((c .before .before .before .before .before .before .before .before .before .before .before .before .before .before .before .before .before .before) .args .width) (scaleOf ((c .before .before .before .before .before .before .before .before .before .before .before .before .before .before .before .before .before .before) .args .width) ((c .before .before .before .leaf-power) .result) (atFirstOf ((c .before .before .before .before .before .before .before .before .before .before .before .before .before .before .before .before .before .before) .args .width) (dec ((c .before .before .before .before .before .before .before .before .before .before .before .before .before .before .before .before .before .before) .args .width) (first ((c .before .before .before .before .before .before .before .before .before .before .before .before .before .before .before .before .before .before) .args .x .now))) ((c .before .before .before .before .before .before .before .before .before .before .before .before .before .before .before .before .before .before) .args .a))) (take ((c .scale) .result) ((c .scale) .last .1 .1 .1 .0))
+made2 t c =
+    let m = made t (c .before .before .before .before .before .before .before .before) in
+    record { is = (c .scale) .ensures .is ∙ ap (λ h. enc ((c .before .before .before .before .before .before .before .before .before .before .before .before .before .before .before .before .before .before) .args .width) (scaleOf ((c .before .before .before .before .before .before .before .before .before .before .before .before .before .before .before .before .before .before) .args .width) ((c .before .before .before .leaf-power) .result) h)) (dec-enc m); good = scale-good ((c .before .before .before .leaf-power) .result) (m .good) }
+
+m-size : (t : ℕ) (c : at-first-lts.After-scale (put-lower-reads.Asked, put-lower-reads.Learnt, at-first-below t, at-first.Post, leaf-power-reads.Asked, leaf-power-reads.Learnt, scale-reads.Asked, scale-reads.Learnt, sum-reads.Asked, sum-reads.Learnt) (at-first-at t) at-first.Post) → length (take ((c .scale) .result) ((c .scale) .last .1 .1 .1 .0)) ≤ length (first ((c .before .before .before .before .before .before .before .before .before .before .before .before .before .before .before .before .before .before) .args .x .now))
+m-size t c =
+    let v = is-pow t (c .before .before .before .before .before .before .before .before .before .before .before .before) in
+    omega (arith, codes-length (made2 t c), scale-length ((c .before .before .before .before .before .before .before .before .before .before .before .before .before .before .before .before .before .before) .args .width) ((c .before .before .before .leaf-power) .result) (atFirstOf ((c .before .before .before .before .before .before .before .before .before .before .before .before .before .before .before .before .before .before) .args .width) (dec ((c .before .before .before .before .before .before .before .before .before .before .before .before .before .before .before .before .before .before) .args .width) (first ((c .before .before .before .before .before .before .before .before .before .before .before .before .before .before .before .before .before .before) .args .x .now))) ((c .before .before .before .before .before .before .before .before .before .before .before .before .before .before .before .before .before .before) .args .a)), first-length ((c .before .before .before .before .before .before .before .before .before .before .before .before .before .before .before .before .before .before) .args .width) (dec ((c .before .before .before .before .before .before .before .before .before .before .before .before .before .before .before .before .before .before) .args .width) (first ((c .before .before .before .before .before .before .before .before .before .before .before .before .before .before .before .before .before .before) .args .x .now))) ((c .before .before .before .before .before .before .before .before .before .before .before .before .before .before .before .before .before .before) .args .a), codes-length (v .left))
+
+pub +at-first-spec : {M : Type 1} → statement M
++at-first-spec = close μ-at-first λ t.
+    at-first-lts.spec (put-lower-reads.Asked, put-lower-reads.Learnt, at-first-below t, at-first.Post, leaf-power-reads.Asked, leaf-power-reads.Learnt, scale-reads.Asked, scale-reads.Learnt, sum-reads.Asked, sum-reads.Learnt) (at-first-at t) at-first.Post
+    (λ c. omega (arith, some (c .before .before .before .before .pre .1 .1 .0)))
+    (λ c. omega (arith, some (c .before .before .before .before .before .pre .1 .1 .0)))
+    (λ c. search needs)
+    (λ c.
+    let s = c .before .before .before .before .before in
+    begins-as (begins-set (s .args .out .now) _ (omega (arith, some (s .pre .1 .1 .0))))
+    (leaf-code (int-view (s .pre .1 .1 .0) (c .if1 .taken)) ∙ ap (enc (s .args .width)) (first-int (s .args .width) (s .args .a) (int-view (s .pre .1 .1 .0) (c .if1 .taken)))))
+    (λ c. omega (arith, c .before .shared-slice-known2 .given 0))
+    (λ c. omega (arith, is-pop t c))
+    (λ c. omega (arith, is-pop t c))
+    (λ c. search needs)
+    (λ c κs.
+    let v = is-pop t (c .before .before) in
+    ((good-pop (v .node) .0, good-pop (v .node) .1 .0), (v .part, omega (arith, v))))
+    (λ c. search needs)
+    (λ c.
+    let s = c .before .before .before .before .before .before .before .before .before .before .before in
+    begins-as (c .before .before .put-lower .ensures)
+    (ap (enc (s .args .width)) (first-pop (s .args .width) (s .args .a) (is-pop t (c .before .before .before .before .before)))))
+    (λ c. omega (arith, is-pow t c))
+    (λ c. search needs)
+    (λ c. search needs)
+    (λ c. omega (arith, is-pow t c))
+    (λ c κs.
+    let v = is-pow t (c .before .before .before) in
+    (omega (arith, v), (c .before .before .before .before .before .before .before .before .before .pre .1 .0, (v .left, (omega (arith, v), omega (arith, v))))))
+    (λ c κs. (c .before .before .before .before .before .before .before .before .before .before .before .before .before .before .pre .1 .0))
+    (λ c. begins-le (c .before .before .before .before .before .at-first .ensures))
+    (λ c.
+    let s = c .before .before .before .before .before .before in
+    sym (length-take-le (s .at-first .result) (s .at-first .last .1 .1 .1 .0) (begins-le (s .at-first .ensures))))
+    (λ c κs.
+    let s = c .before .before .before .before .before .before .before in
+    let k = length-take-le (s .at-first .result) (s .at-first .last .1 .1 .1 .0) (begins-le (s .at-first .ensures)) in
+    (c .before .before .leaf-power .ensures .1, (coded (made t s), omega (arith, k, n-size t s, lent t s .1, is-pow t (c .before .before .before .before .before .before .before .before .before .before .before), c .before .before .before .before .before .before .before .before .before .before .before .before .before .before .before .before .before .pre .1 .1 .1 .1))))
+    (λ c. begins-le (c .before .before .scale .ensures))
+    (λ c. let s = c .before .before .before in sym (length-take-le (s .scale .result) (s .scale .last .1 .1 .1 .0) (begins-le (s .scale .ensures))))
+    (λ c.
+    omega (arith, is-pow t (c .before .before .before .before .before .before .before .before .before .before .before .before .before .before .before), c .before .before .before .before .before .before .before .before .before .before .before .before .before .before .before .before .before .before .before .before .before .good .1 .0))
+    (λ c. omega (arith, is-pow t (c .before .before .before .before .before .before .before .before .before .before .before .before .before .before .before)))
+    (λ c. omega (arith, is-pow t (c .before .before .before .before .before .before .before .before .before .before .before .before .before .before .before)))
+    (λ c. search needs)
+    (λ c κs.
+    let s = c .before .before .before .before .before in
+    let v = is-pow t (c .before .before .before .before .before .before .before .before .before .before .before .before .before .before .before .before .before) in
+    ((coded (made2 t s), v .right), omega (arith, m-size t s, v, lent t (c .before .before .before .before .before .before .before .before .before .before .before .before .before) .0, c .before .before .before .before .before .before .before .before .before .before .before .before .before .before .before .before .before .before .before .before .before .before .before .pre .1 .1 .1 .0)))
+    (λ c. search needs)
+    (λ c. search needs)
+    (λ c.
+    let s = c .before .before .before .before .before .before .before .before .before .before .before .before .before .before .before .before .before .before .before .before .before .before .before .before .before .before in
+    begins-as (c .before .before .sum .ensures)
+    (ap (λ h. enc (s .args .width) (sumOf (s .args .width) h (dec (s .args .width) (rest (s .args .x .now))))) (dec-enc (made2 t (c .before .before .before .before .before .before .before .before)) ∙ ap (λ z. scaleOf (s .args .width) z (atFirstOf (s .args .width) (dec (s .args .width) (first (s .args .x .now))) (s .args .a))) (c .before .before .before .before .before .before .before .before .before .before .before .leaf-power .ensures .0))
+    ∙ ap (enc (s .args .width))
+    (first-pow (s .args .width) (s .args .a) (is-pow t (c .before .before .before .before .before .before .before .before .before .before .before .before .before .before .before .before .before .before .before .before)) (s .pre .1 .0))))

@@ -1,0 +1,39 @@
+-- `firsts::put_lower` meets its contract: a copy, or a store and a copy after it.
+-- Assumes nothing.
+use mathlib.Core.Path.{sym, ap, _∙_}
+use Prim.Native.Nat.{_+_, _-_}
+use native.Mathlib.Omega.{arith}
+use lib.ListN.{length-set}
+use Rattle.coded.specs.Coding.{enc, dec}
+use Rattle.coded.proofs.Lists.{begins-as, begins-set, begins-tail, length-after-set}
+use Rattle.coded.proofs.Regions.{begins-copy}
+use Rattle.firsts.specs.laws.First.{lower-code, lower-same}
+use borrow.Author.Needs.{needs}
+use Rattle.firsts.proofs.put_lower.Statement.{statement}
+use Rattle.firsts.proofs.put_lower.Tie as tie
+
+pub put-lower-spec : {M : Type 1} → statement M
+put-lower-spec =
+    tie.close
+    (tie.spec
+    (λ c κs. search needs)
+    (λ c. search needs)
+    (λ c.
+    let s = c .before .before .before .before .before .before .before in
+    let b = c .before .before in
+    begins-as (begins-copy (s .args .p .now) _ (b .copy .last .1 .0) (b .copy .ensures))
+    (s .pre .1 .0 .is ∙ ap (enc (s .args .width)) (sym (lower-same (s .args .width) (s .args .i) (dec (s .args .width) (s .args .p .now)) (c .before .before .before .before .if1 .taken)))))
+    (λ c. search needs)
+    (λ c. search needs)
+    (λ c. simp length-set (omega (arith, c .before .before .before .pre .1 .1)))
+    (λ c. simp length-set (omega (arith, c .before .before .before .pre .1 .1)))
+    (λ c. search needs)
+    (λ c κs. let s = c .before .before .before .before in omega (arith, s .pre .1 .1, length-after-set (s .args .out .now) (2147483647 + (s .args .i))))
+    (λ c. search needs)
+    (λ c. c .before .out2 .given .1 ∙ simp length-set)
+    (λ c.
+    let s = c .before .before .before .before .before .before .before in
+    let b = c .before .before in
+    begins-as
+    (begins-tail (begins-set (s .args .out .now) (2147483647 + (s .args .i)) (omega (arith, s .pre .1 .1))) (begins-copy (s .args .p .now) _ (b .copy2 .last .1 .0) (b .copy2 .ensures)))
+    (lower-code (s .args .width) (s .args .i) (s .pre .1 .0) (omega (arith, s .pre .0 .0, c .before .before .before .before .if1 .left)))))

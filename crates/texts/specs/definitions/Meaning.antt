@@ -1,0 +1,63 @@
+-- What the readings are for, said without reading: a text is the text of a term when its tokens are the term's tokens at their places.
+use mathlib.Core.Bool.{Bool, true, false, _&&_}
+use mathlib.Core.List.{List, [], _∷_, _++_}
+use mathlib.Core.Path.{_≡_}
+use Prim.Native.Nat.{ℕ, suc, pred, _≤_}
+use lib.ListN.{length}
+use Rattle.texts.specs.definitions.Bytes.{capital, inRow}
+use Rattle.texts.specs.definitions.Tokens.{Token, opening, closing, word, placeOf, tokens}
+use Rattle.texts.specs.definitions.Tree.{Tree, placed, letters, nesting}
+
+-- s is the text of the term t over the row (laws/Reading, reads: exactly then it is read as t)
+pub record IsTerm (row s : List ℕ) (t : Tree) : Type 0 where
+  pub short : length s ≤ 4096
+  pub tokens-are : tokens 0 s ≡ placed t
+  pub in-row : letters (λ b. capital b && inRow row b) t ≡ true
+  pub shallow : nesting t ≤ 16
+
+-- "a term of any size begins with the tokens so far (an unknown capital counts as a letter here)": the tokens, some tokens behind them, are a term's
+pub record Begun (ks : List Token) : Type 0 where
+  pub term : Tree
+  pub rest : List Token
+  pub capitals : letters capital term ≡ true
+  pub is : placed term ≡ ks ++ rest
+
+-- "place 4 is the first token such that no term of any size begins with the tokens so far"
+pub record FirstBad (ts : List Token) (p : ℕ) : Type 0 where
+  pub before : List Token
+  pub token : Token
+  pub behind : List Token
+  pub parts : ts ≡ before ++ (token ∷ behind)
+  pub place : p ≡ placeOf token
+  pub begun : Begun before
+  pub ends : Begun (before ++ (token ∷ [])) → ⊥
+
+-- "or the text's length if it ends early"
+pub record EndsEarly (ts : List Token) : Type 0 where
+  pub begun : Begun ts
+  pub no-term : (t : Tree) → letters capital t ≡ true → placed t ≡ ts → ⊥
+
+-- "5: a capital letter not in the row, where a letter may stand", at "its token"
+pub record Unknown (row : List ℕ) (ts : List Token) (p : ℕ) : Type 0 where
+  pub before : List Token
+  pub letter : ℕ
+  pub behind : List Token
+  pub parts : ts ≡ before ++ (word p (letter ∷ []) ∷ behind)
+  pub is-capital : capital letter ≡ true
+  pub not-in-row : inRow row letter ≡ false
+  pub begun : Begun (before ++ (word p (letter ∷ []) ∷ []))
+
+-- how many parentheses are open behind the tokens, d being open before them
+abbrev pub openAfter : ℕ → List Token → ℕ
+openAfter d [] = d
+openAfter d (opening p ∷ ts) = openAfter (suc d) ts
+openAfter d (closing p ∷ ts) = openAfter (pred d) ts
+openAfter d (word p w ∷ ts) = openAfter d ts
+
+-- "6: a parenthesis opened beyond the limit", at "that byte"
+pub record TooDeep (limit : ℕ) (ts : List Token) (p : ℕ) : Type 0 where
+  pub before : List Token
+  pub behind : List Token
+  pub parts : ts ≡ before ++ (opening p ∷ behind)
+  pub open-before : limit ≤ openAfter 0 before
+  pub begun : Begun (before ++ (opening p ∷ []))

@@ -1,0 +1,12 @@
+pub mod Bytes
+pub mod Numerals
+pub mod Prefixes
+pub mod Words
+pub mod Sofar
+pub mod Through
+pub mod Reading
+pub mod Begun
+pub mod Places
+pub mod Open
+pub mod Refused
+pub mod FormSofar

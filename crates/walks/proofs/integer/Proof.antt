@@ -1,0 +1,21 @@
+-- `walks::integer` meets its contract.
+-- Assumes nothing.
+use mathlib.Core.Path.{refl}
+use Rattle.horner.specs.definitions.Form.{int}
+use Rattle.coded.specs.Widths.{leaf}
+use Rattle.coded.specs.laws.Codes.{IsInt}
+use Rattle.coded.proofs.Lists.{begins-as, begins-set}
+use Rattle.coded.proofs.Making.{leaf-code}
+use borrow.Author.Needs.{needs}
+use Rattle.walks.proofs.integer.Statement.{statement}
+use Rattle.walks.proofs.integer.Tie as tie
+
+pub integer-spec : {M : Type 1} → statement M
+integer-spec =
+    tie.close
+    (tie.spec
+    (λ c. search needs)
+    (λ c. search needs)
+    (λ c.
+    let v : IsInt (c .args .width) (int (leaf (c .args .width) (c .args .a))) (c .args .a) = record { is = refl; below = c .pre .0 } in
+    begins-as (begins-set (c .args .out .now) (c .args .a) (c .pre .1)) (leaf-code v)))

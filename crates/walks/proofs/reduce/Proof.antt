@@ -1,0 +1,20 @@
+-- `walks::reduce` meets its contract: it carries the form from the remainders by P, times 1.
+-- Assumes nothing.
+use mathlib.Core.Path.{ap}
+use Rattle.coded.specs.Coding.{enc, dec}
+use Rattle.coded.specs.laws.Widths.{modulus-big}
+use Rattle.coded.proofs.Lists.{begins-as}
+use Rattle.walks.specs.laws.Carrying.{carry-reduce}
+use borrow.Author.Needs.{needs}
+use Rattle.walks.proofs.reduce.Statement.{statement}
+use Rattle.walks.proofs.reduce.Tie as tie
+
+pub reduce-spec : {M : Type 1} → statement M
+reduce-spec =
+    tie.close
+    (tie.spec
+    (λ c κs. let s = c .before .before .before in (modulus-big (s .args .width), (s .pre .0, s .pre .1)))
+    (λ c. search needs)
+    (λ c.
+    let s = c .before .before .before .before .before .before in
+    begins-as (c .before .before .carry .ensures) (ap (enc (s .args .width)) (carry-reduce (s .args .width) (dec 0 (s .args .x .now))))))
