@@ -1,21 +1,22 @@
 -- The proof of the cycle of calls that multiplies two forms. The measure is 8 times the words of the two forms, and a rank.
 -- Assumes nothing.
 use mathlib.Core.Path.{_≡_, _∙_, sym, ap, refl, subst}
-use Prim.Native.Nat.{ℕ, _+_, _*_, _-_, _/_, _%_, _<_, _≤_}
+use mathlib.Core.List.{List, [], _∷_, _++_}
+use Prim.Native.Nat.{ℕ, suc, _+_, _*_, _-_, _/_, _%_, _<_, _≤_}
 use native.Mathlib.Omega.{arith}
 use lib.ListN.{length, getD, take, drop, set, length-set}
 use lib.Seq.{length-take-le}
 use borrow.Rule.Slice.PartMut.{putMid}
-use Rattle.horner.specs.definitions.Form.{pop, pow, lower}
+use Rattle.horner.specs.definitions.Form.{Form, pop, pow, lower}
 use Rattle.coded.specs.Coding.{dec, enc, Good, Codes, Begins}
 use Rattle.coded.specs.Operations.{popOf, powOf, sumOf, zeroOf}
-use Rattle.coded.specs.laws.Codes.{IsPop, IsPow, some, int-view, pop-view, pow-view, pop-part, pow-left, pow-right, dec-enc, coded, codes-length}
+use Rattle.coded.specs.laws.Codes.{some, int-view, dec-enc, coded, codes-length}
 use Rattle.coded.specs.laws.Good.{good-pop, good-pow}
+use Rattle.coded.specs.laws.Parts.{inner, first, rest, PopAt, PowAt, pop-at, pow-at}
 use Rattle.coded.proofs.Lists.{begins-le, begins-as, length-tail-part}
-use Rattle.coded.proofs.Making.{made-codes, kept-codes, mkpop-good, mkpop-enc, mkpow-good, mkpow-enc}
-use Rattle.sums.proofs.Sums.{pop-is, pow-is}
+use Rattle.coded.proofs.Making.{made-codes, one-put, two-put, two-made, pop-asks, pop-gives, pow-asks, pow-gives}
 use Rattle.fits.specs.Fit.{prodOf, leadOf, crossOf, Held}
-use Rattle.fits.specs.Tables.{Space, PopSpace}
+use Rattle.fits.specs.Tables.{Space, PopSpace, CrossSpace, PowWord}
 use Rattle.fits.specs.laws.Equations.{pops-eq, pops-gt, pops-lt, lower-1, lower-more, pows}
 use Rattle.fits.specs.laws.Fit.{fit-sym, fit-x, fit-y, fit-prod, fit-pop-words}
 use Rattle.fits.specs.laws.Summands.{lead-held, two-held}
@@ -188,107 +189,59 @@ product-at t = and 5 product-kinds.ps (is 5 product-kinds.ps μ-product t) produ
 abbrev product-below : ℕ → In 5 product-kinds.ps
 product-below t = and 5 product-kinds.ps (falls 5 product-kinds.ps _<_ μ-product t) product.Pre
 
-is-pop·product : (t : ℕ) (c : product-lts.Then2 (scale-reads.Asked, scale-reads.Learnt, mul-pop-below t, mul-pop.Post, mul-pow-below t, mul-pow.Post) (product-at t) product.Post) → IsPop ((c .before .before .before .before .before .before .before .before) .args .width) (dec ((c .before .before .before .before .before .before .before .before) .args .width) ((c .before .before .before .before .before .before .before .before) .args .x .now)) ((c .before .before .before .before .before .before .before .before) .args .x .now)
-is-pop·product t c = pop-view ((c .before .before .before .before .before .before .before .before) .pre .1 .0 .0) ((c .before .if1) .left) ((c .if2) .taken)
+is-pop·product : (t : ℕ) (c : product-lts.Then2 (scale-reads.Asked, scale-reads.Learnt, mul-pop-below t, mul-pop.Post, mul-pow-below t, mul-pow.Post) (product-at t) product.Post) → PopAt ((c .before .before .before .before .before .before .before .before) .args .width) ((c .before .before .before .before .before .before .before .before) .args .x .now)
+is-pop·product t c = pop-at ((c .before .before .before .before .before .before .before .before) .pre .1 .0 .0) ((c .before .if1) .left) ((c .if2) .taken)
 
-inner·product : (t : ℕ) (c : product-lts.Then2 (scale-reads.Asked, scale-reads.Learnt, mul-pop-below t, mul-pop.Post, mul-pow-below t, mul-pow.Post) (product-at t) product.Post) → Codes ((c .before .before .before .before .before .before .before .before) .args .width) (is-pop·product t c .p) (take (length ((c .before .before .before .before .before .before .before .before) .args .x .now) - 1) (drop 1 ((c .before .before .before .before .before .before .before .before) .args .x .now)))
-inner·product t c = pop-part (is-pop·product t c)
+is-pow·product : (t : ℕ) (c : product-lts.Else2 (scale-reads.Asked, scale-reads.Learnt, mul-pop-below t, mul-pop.Post, mul-pow-below t, mul-pow.Post) (product-at t) product.Post) → PowAt ((c .before .before .before .before .before .before .before .before) .args .width) ((c .before .before .before .before .before .before .before .before) .args .x .now)
+is-pow·product t c = pow-at ((c .before .before .before .before .before .before .before .before) .pre .1 .0 .0) ((c .before .if1) .left) ((c .if2) .left)
 
-is-pow·product : (t : ℕ) (c : product-lts.Else2 (scale-reads.Asked, scale-reads.Learnt, mul-pop-below t, mul-pop.Post, mul-pow-below t, mul-pow.Post) (product-at t) product.Post) → IsPow ((c .before .before .before .before .before .before .before .before) .args .width) (dec ((c .before .before .before .before .before .before .before .before) .args .width) ((c .before .before .before .before .before .before .before .before) .args .x .now)) ((c .before .before .before .before .before .before .before .before) .args .x .now)
-is-pow·product t c = pow-view ((c .before .before .before .before .before .before .before .before) .pre .1 .0 .0) ((c .before .if1) .left) ((c .if2) .left)
+is-pop·mul-pop : (t : ℕ) (c : mul-pop-lts.Then2 (scale-pop-reads.Asked, scale-pop-reads.Learnt, mul-pops-below t, mul-pops.Post, mul-pop-pow-below t, mul-pop-pow.Post) (mul-pop-at t) mul-pop.Post) → PopAt ((c .before .before .before .before .before .before .before .before) .args .width) ((c .before .before .before .before .before .before .before .before) .args .y .now)
+is-pop·mul-pop t c = pop-at ((c .before .before .before .before .before .before .before .before) .pre .1 .0 .1) ((c .before .if1) .left) ((c .if2) .taken)
 
-is-pop·mul-pop : (t : ℕ) (c : mul-pop-lts.Then2 (scale-pop-reads.Asked, scale-pop-reads.Learnt, mul-pops-below t, mul-pops.Post, mul-pop-pow-below t, mul-pop-pow.Post) (mul-pop-at t) mul-pop.Post) → IsPop ((c .before .before .before .before .before .before .before .before) .args .width) (dec ((c .before .before .before .before .before .before .before .before) .args .width) ((c .before .before .before .before .before .before .before .before) .args .y .now)) ((c .before .before .before .before .before .before .before .before) .args .y .now)
-is-pop·mul-pop t c = pop-view ((c .before .before .before .before .before .before .before .before) .pre .1 .0 .1) ((c .before .if1) .left) ((c .if2) .taken)
+is-pow·mul-pop : (t : ℕ) (c : mul-pop-lts.Else2 (scale-pop-reads.Asked, scale-pop-reads.Learnt, mul-pops-below t, mul-pops.Post, mul-pop-pow-below t, mul-pop-pow.Post) (mul-pop-at t) mul-pop.Post) → PowAt ((c .before .before .before .before .before .before .before .before) .args .width) ((c .before .before .before .before .before .before .before .before) .args .y .now)
+is-pow·mul-pop t c = pow-at ((c .before .before .before .before .before .before .before .before) .pre .1 .0 .1) ((c .before .if1) .left) ((c .if2) .left)
 
-inner·mul-pop : (t : ℕ) (c : mul-pop-lts.Then2 (scale-pop-reads.Asked, scale-pop-reads.Learnt, mul-pops-below t, mul-pops.Post, mul-pop-pow-below t, mul-pop-pow.Post) (mul-pop-at t) mul-pop.Post) → Codes ((c .before .before .before .before .before .before .before .before) .args .width) (is-pop·mul-pop t c .p) (take (length ((c .before .before .before .before .before .before .before .before) .args .y .now) - 1) (drop 1 ((c .before .before .before .before .before .before .before .before) .args .y .now)))
-inner·mul-pop t c = pop-part (is-pop·mul-pop t c)
+is-pop·mul-any-pop : (t : ℕ) (c : mul-any-pop-lts.Then2 (scale-pop-reads.Asked, scale-pop-reads.Learnt, mul-pops-below t, mul-pops.Post, mul-pop-pow-below t, mul-pop-pow.Post) (mul-any-pop-at t) mul-any-pop.Post) → PopAt ((c .before .before .before .before .before .before .before .before) .args .width) ((c .before .before .before .before .before .before .before .before) .args .x .now)
+is-pop·mul-any-pop t c = pop-at ((c .before .before .before .before .before .before .before .before) .pre .1 .0 .0) ((c .before .if1) .left) ((c .if2) .taken)
 
-is-pow·mul-pop : (t : ℕ) (c : mul-pop-lts.Else2 (scale-pop-reads.Asked, scale-pop-reads.Learnt, mul-pops-below t, mul-pops.Post, mul-pop-pow-below t, mul-pop-pow.Post) (mul-pop-at t) mul-pop.Post) → IsPow ((c .before .before .before .before .before .before .before .before) .args .width) (dec ((c .before .before .before .before .before .before .before .before) .args .width) ((c .before .before .before .before .before .before .before .before) .args .y .now)) ((c .before .before .before .before .before .before .before .before) .args .y .now)
-is-pow·mul-pop t c = pow-view ((c .before .before .before .before .before .before .before .before) .pre .1 .0 .1) ((c .before .if1) .left) ((c .if2) .left)
+is-pow·mul-any-pop : (t : ℕ) (c : mul-any-pop-lts.Else2 (scale-pop-reads.Asked, scale-pop-reads.Learnt, mul-pops-below t, mul-pops.Post, mul-pop-pow-below t, mul-pop-pow.Post) (mul-any-pop-at t) mul-any-pop.Post) → PowAt ((c .before .before .before .before .before .before .before .before) .args .width) ((c .before .before .before .before .before .before .before .before) .args .x .now)
+is-pow·mul-any-pop t c = pow-at ((c .before .before .before .before .before .before .before .before) .pre .1 .0 .0) ((c .before .if1) .left) ((c .if2) .left)
 
-is-pop·mul-any-pop : (t : ℕ) (c : mul-any-pop-lts.Then2 (scale-pop-reads.Asked, scale-pop-reads.Learnt, mul-pops-below t, mul-pops.Post, mul-pop-pow-below t, mul-pop-pow.Post) (mul-any-pop-at t) mul-any-pop.Post) → IsPop ((c .before .before .before .before .before .before .before .before) .args .width) (dec ((c .before .before .before .before .before .before .before .before) .args .width) ((c .before .before .before .before .before .before .before .before) .args .x .now)) ((c .before .before .before .before .before .before .before .before) .args .x .now)
-is-pop·mul-any-pop t c = pop-view ((c .before .before .before .before .before .before .before .before) .pre .1 .0 .0) ((c .before .if1) .left) ((c .if2) .taken)
-
-inner·mul-any-pop : (t : ℕ) (c : mul-any-pop-lts.Then2 (scale-pop-reads.Asked, scale-pop-reads.Learnt, mul-pops-below t, mul-pops.Post, mul-pop-pow-below t, mul-pop-pow.Post) (mul-any-pop-at t) mul-any-pop.Post) → Codes ((c .before .before .before .before .before .before .before .before) .args .width) (is-pop·mul-any-pop t c .p) (take (length ((c .before .before .before .before .before .before .before .before) .args .x .now) - 1) (drop 1 ((c .before .before .before .before .before .before .before .before) .args .x .now)))
-inner·mul-any-pop t c = pop-part (is-pop·mul-any-pop t c)
-
-is-pow·mul-any-pop : (t : ℕ) (c : mul-any-pop-lts.Else2 (scale-pop-reads.Asked, scale-pop-reads.Learnt, mul-pops-below t, mul-pops.Post, mul-pop-pow-below t, mul-pop-pow.Post) (mul-any-pop-at t) mul-any-pop.Post) → IsPow ((c .before .before .before .before .before .before .before .before) .args .width) (dec ((c .before .before .before .before .before .before .before .before) .args .width) ((c .before .before .before .before .before .before .before .before) .args .x .now)) ((c .before .before .before .before .before .before .before .before) .args .x .now)
-is-pow·mul-any-pop t c = pow-view ((c .before .before .before .before .before .before .before .before) .pre .1 .0 .0) ((c .before .if1) .left) ((c .if2) .left)
-
-made·mul-pops : (t : ℕ) (c : mul-pops-lts.After-out (product-below t, product.Post, make-pop-reads.Asked, make-pop-reads.Learnt, mul-pops-gt-below t, mul-pops-gt.Post) (mul-pops-at t) mul-pops.Post) → Codes ((c .before .before .before .before .before .before .before .before .before .before .before) .args .width) (prodOf ((c .before .before .before .before .before .before .before .before .before .before .before) .args .width) (dec ((c .before .before .before .before .before .before .before .before .before .before .before) .args .width) ((c .before .before .before .before .before .before .before .before .before .before .before) .args .p .now)) (dec ((c .before .before .before .before .before .before .before .before .before .before .before) .args .width) ((c .before .before .before .before .before .before .before .before .before .before .before) .args .q .now))) (take ((c .before .product) .result) (drop 1 (putMid 1 (length ((c .before .before .before .before .before .before .before .before .before .before .before) .args .out .now) - 1) ((c .before .before .before .before .before .before .before .before .before .before .before) .args .out .now) ((c .before .product) .last .1 .1 .1 .0))))
+made·mul-pops : (t : ℕ) (c : mul-pops-lts.After-out (product-below t, product.Post, make-pop-reads.Asked, make-pop-reads.Learnt, mul-pops-gt-below t, mul-pops-gt.Post) (mul-pops-at t) mul-pops.Post) → Codes ((c .before .before .before .before .before .before .before .before .before .before .before) .args .width) (prodOf ((c .before .before .before .before .before .before .before .before .before .before .before) .args .width) (dec ((c .before .before .before .before .before .before .before .before .before .before .before) .args .width) ((c .before .before .before .before .before .before .before .before .before .before .before) .args .p .now)) (dec ((c .before .before .before .before .before .before .before .before .before .before .before) .args .width) ((c .before .before .before .before .before .before .before .before .before .before .before) .args .q .now))) (take ((c .before .product) .result) (drop 1 (one-put ((c .before .before .before .before .before .before .before .before .before .before .before) .args .out .now) ((c .before .product) .last .1 .1 .1 .0))))
 made·mul-pops t c = made-codes 1 ((c .before .before .before .before .before .before .before .before .before .before .before) .args .out .now) ((c .before .product) .last .1 .1 .1 .0) ((c .before .product) .result) (omega (arith, ((c .before .before .before .before .before .before .before .before .before .before .before) .pre .1 .1) .tables)) ((c .before .product) .ensures) (fit-prod ((space-pops ((c .before .before .before .before .before .before .before .before .before .before .before) .args .i) ((c .before .before .before .before .before .before .before .before .before .before .before) .args .j) (dec ((c .before .before .before .before .before .before .before .before .before .before .before) .args .width) ((c .before .before .before .before .before .before .before .before .before .before .before) .args .p .now)) (dec ((c .before .before .before .before .before .before .before .before .before .before .before) .args .width) ((c .before .before .before .before .before .before .before .before .before .before .before) .args .q .now)) ((c .before .before .before .before .before .before .before .before .before .before .before) .pre .1 .1) ((c .before .before .before .before .before .if1) .taken)) .fit) .good)
 
 below·mul-pops : (t : ℕ) (c : mul-pops-lts.Else2 (product-below t, product.Post, make-pop-reads.Asked, make-pop-reads.Learnt, mul-pops-gt-below t, mul-pops-gt.Post) (mul-pops-at t) mul-pops.Post) → ((c .before .before .before .before .before .before .before) .args .i) < ((c .before .before .before .before .before .before .before) .args .j)
 below·mul-pops t c = omega (arith, (c .before .if1) .left, (c .if2) .left)
 
-made·mul-pops-gt : (t : ℕ) (c : mul-pops-gt-lts.After-out (mul-pop-below t, mul-pop.Post, make-pop-reads.Asked, make-pop-reads.Learnt) (mul-pops-gt-at t) mul-pops-gt.Post) → Codes ((c .before .before .before .before .before .before .before .before .before .before) .args .width) (prodOf ((c .before .before .before .before .before .before .before .before .before .before) .args .width) (pop (((c .before .before .before .before .before .before .before .before .before .before) .args .i) - ((c .before .before .before .before .before .before .before .before .before .before) .args .j)) (dec ((c .before .before .before .before .before .before .before .before .before .before) .args .width) ((c .before .before .before .before .before .before .before .before .before .before) .args .p .now))) (dec ((c .before .before .before .before .before .before .before .before .before .before) .args .width) ((c .before .before .before .before .before .before .before .before .before .before) .args .q .now))) (take ((c .before .mul-pop) .result) (drop 1 (putMid 1 (length ((c .before .before .before .before .before .before .before .before .before .before) .args .out .now) - 1) ((c .before .before .before .before .before .before .before .before .before .before) .args .out .now) ((c .before .mul-pop) .last .1 .1 .1 .1 .0))))
+made·mul-pops-gt : (t : ℕ) (c : mul-pops-gt-lts.After-out (mul-pop-below t, mul-pop.Post, make-pop-reads.Asked, make-pop-reads.Learnt) (mul-pops-gt-at t) mul-pops-gt.Post) → Codes ((c .before .before .before .before .before .before .before .before .before .before) .args .width) (prodOf ((c .before .before .before .before .before .before .before .before .before .before) .args .width) (pop (((c .before .before .before .before .before .before .before .before .before .before) .args .i) - ((c .before .before .before .before .before .before .before .before .before .before) .args .j)) (dec ((c .before .before .before .before .before .before .before .before .before .before) .args .width) ((c .before .before .before .before .before .before .before .before .before .before) .args .p .now))) (dec ((c .before .before .before .before .before .before .before .before .before .before) .args .width) ((c .before .before .before .before .before .before .before .before .before .before) .args .q .now))) (take ((c .before .mul-pop) .result) (drop 1 (one-put ((c .before .before .before .before .before .before .before .before .before .before) .args .out .now) ((c .before .mul-pop) .last .1 .1 .1 .1 .0))))
 made·mul-pops-gt t c = made-codes 1 ((c .before .before .before .before .before .before .before .before .before .before) .args .out .now) ((c .before .mul-pop) .last .1 .1 .1 .1 .0) ((c .before .mul-pop) .result) (omega (arith, ((c .before .before .before .before .before .before .before .before .before .before) .pre .1 .1 .0) .tables)) ((c .before .mul-pop) .ensures) (fit-prod ((space-pops-gt ((c .before .before .before .before .before .before .before .before .before .before) .args .i) ((c .before .before .before .before .before .before .before .before .before .before) .args .j) (dec ((c .before .before .before .before .before .before .before .before .before .before) .args .width) ((c .before .before .before .before .before .before .before .before .before .before) .args .p .now)) (dec ((c .before .before .before .before .before .before .before .before .before .before) .args .width) ((c .before .before .before .before .before .before .before .before .before .before) .args .q .now)) ((c .before .before .before .before .before .before .before .before .before .before) .pre .1 .1 .0) ((c .before .before .before .before .before .before .before .before .before .before) .pre .1 .1 .1)) .fit) .good)
 
-is-pow·mul-pop-pow : (t : ℕ) (c : mul-pop-pow-lts.Start (mul-pop-below t, mul-pop.Post, mul-less-below t, mul-less.Post, make-pow-reads.Asked, make-pow-reads.Learnt) (mul-pop-pow-at t) mul-pop-pow.Post) → IsPow (c .args .width) (dec (c .args .width) (c .args .y .now)) (c .args .y .now)
-is-pow·mul-pop-pow t c = pow-view (c .pre .1 .0 .1) ((c .pre .1 .1 .1) .node) ((c .pre .1 .1 .1) .sized)
+is-pow·mul-pop-pow : (t : ℕ) (c : mul-pop-pow-lts.Start (mul-pop-below t, mul-pop.Post, mul-less-below t, mul-less.Post, make-pow-reads.Asked, make-pow-reads.Learnt) (mul-pop-pow-at t) mul-pop-pow.Post) → PowAt (c .args .width) (c .args .y .now)
+is-pow·mul-pop-pow t c = pow-at (c .pre .1 .0 .1) ((c .pre .1 .1 .1) .node) ((c .pre .1 .1 .1) .sized)
 
-left·mul-pop-pow : (t : ℕ) (c : mul-pop-pow-lts.Start (mul-pop-below t, mul-pop.Post, mul-less-below t, mul-less.Post, make-pow-reads.Asked, make-pow-reads.Learnt) (mul-pop-pow-at t) mul-pop-pow.Post) → Codes (c .args .width) ((is-pow·mul-pop-pow t c) .p) (take ((1 + ((getD (c .args .y .now) 0 0) - 2147483648) / 64) - 1) (drop 1 (c .args .y .now)))
-left·mul-pop-pow t c = pow-left (is-pow·mul-pop-pow t c) ((1 + ((getD (c .args .y .now) 0 0) - 2147483648) / 64) - 1) (omega (arith, (is-pow·mul-pop-pow t c)))
-
-right·mul-pop-pow : (t : ℕ) (c : mul-pop-pow-lts.Start (mul-pop-below t, mul-pop.Post, mul-less-below t, mul-less.Post, make-pow-reads.Asked, make-pow-reads.Learnt) (mul-pop-pow-at t) mul-pop-pow.Post) → Codes (c .args .width) ((is-pow·mul-pop-pow t c) .q) (take (length (c .args .y .now) - (1 + ((getD (c .args .y .now) 0 0) - 2147483648) / 64)) (drop (1 + ((getD (c .args .y .now) 0 0) - 2147483648) / 64) (c .args .y .now)))
-right·mul-pop-pow t c = pow-right (is-pow·mul-pop-pow t c) (1 + ((getD (c .args .y .now) 0 0) - 2147483648) / 64) (omega (arith, (is-pow·mul-pop-pow t c)))
-
-space-pow·mul-pop-pow : (t : ℕ) (c : mul-pop-pow-lts.Start (mul-pop-below t, mul-pop.Post, mul-less-below t, mul-less.Post, make-pow-reads.Asked, make-pow-reads.Learnt) (mul-pop-pow-at t) mul-pop-pow.Post) → PopSpace (c .args .width) (pop (c .args .i) (dec (c .args .width) (c .args .p .now))) (pow ((is-pow·mul-pop-pow t c) .i) ((is-pow·mul-pop-pow t c) .p) ((is-pow·mul-pop-pow t c) .q)) (length (c .args .out .now)) (length (c .args .t .now)) (length (c .args .u .now))
+space-pow·mul-pop-pow : (t : ℕ) (c : mul-pop-pow-lts.Start (mul-pop-below t, mul-pop.Post, mul-less-below t, mul-less.Post, make-pow-reads.Asked, make-pow-reads.Learnt) (mul-pop-pow-at t) mul-pop-pow.Post) → PopSpace (c .args .width) (pop (c .args .i) (dec (c .args .width) (c .args .p .now))) (pow ((getD (c .args .y .now) 0 0) % 64) (dec (c .args .width) (first (c .args .y .now))) (dec (c .args .width) (rest (c .args .y .now)))) (length (c .args .out .now)) (length (c .args .t .now)) (length (c .args .u .now))
 space-pow·mul-pop-pow t c = subst (λ h. PopSpace (c .args .width) (pop (c .args .i) (dec (c .args .width) (c .args .p .now))) h (length (c .args .out .now)) (length (c .args .t .now)) (length (c .args .u .now))) ((is-pow·mul-pop-pow t c) .is) (c .pre .1 .1 .0)
 
-ens1·mul-pop-pow : (t : ℕ) (c : mul-pop-pow-lts.After-u (mul-pop-below t, mul-pop.Post, mul-less-below t, mul-less.Post, make-pow-reads.Asked, make-pow-reads.Learnt) (mul-pop-pow-at t) mul-pop-pow.Post) → Begins ((c .before .before .before .before .before .mul-pop) .result) (enc ((c .before .before .before .before .before .before .before .before .before .before .before .before .before .before .before .before) .args .width) (prodOf ((c .before .before .before .before .before .before .before .before .before .before .before .before .before .before .before .before) .args .width) (pop ((c .before .before .before .before .before .before .before .before .before .before .before .before .before .before .before .before) .args .i) (dec ((c .before .before .before .before .before .before .before .before .before .before .before .before .before .before .before .before) .args .width) ((c .before .before .before .before .before .before .before .before .before .before .before .before .before .before .before .before) .args .p .now))) ((is-pow·mul-pop-pow t (c .before .before .before .before .before .before .before .before .before .before .before .before .before .before .before .before)) .p))) ((c .before .before .before .before .before .mul-pop) .last .1 .1 .1 .1 .0)
-ens1·mul-pop-pow t c = begins-as ((c .before .before .before .before .before .mul-pop) .ensures) (ap (λ h. enc ((c .before .before .before .before .before .before .before .before .before .before .before .before .before .before .before .before) .args .width) (prodOf ((c .before .before .before .before .before .before .before .before .before .before .before .before .before .before .before .before) .args .width) (pop ((c .before .before .before .before .before .before .before .before .before .before .before .before .before .before .before .before) .args .i) (dec ((c .before .before .before .before .before .before .before .before .before .before .before .before .before .before .before .before) .args .width) ((c .before .before .before .before .before .before .before .before .before .before .before .before .before .before .before .before) .args .p .now))) h)) (dec-enc (left·mul-pop-pow t (c .before .before .before .before .before .before .before .before .before .before .before .before .before .before .before .before))))
-
 few-a·mul-pop-pow : (t : ℕ) (c : mul-pop-pow-lts.After-u (mul-pop-below t, mul-pop.Post, mul-less-below t, mul-less.Post, make-pow-reads.Asked, make-pow-reads.Learnt) (mul-pop-pow-at t) mul-pop-pow.Post) → ((c .before .before .before .before .before .mul-pop) .result) ≤ 3073
-few-a·mul-pop-pow t c = omega (arith, ens1·mul-pop-pow t c .size, fit-prod ((pop-space-pow ((c .before .before .before .before .before .before .before .before .before .before .before .before .before .before .before .before) .args .i) ((is-pow·mul-pop-pow t (c .before .before .before .before .before .before .before .before .before .before .before .before .before .before .before .before)) .i) (dec ((c .before .before .before .before .before .before .before .before .before .before .before .before .before .before .before .before) .args .width) ((c .before .before .before .before .before .before .before .before .before .before .before .before .before .before .before .before) .args .p .now)) ((is-pow·mul-pop-pow t (c .before .before .before .before .before .before .before .before .before .before .before .before .before .before .before .before)) .p) ((is-pow·mul-pop-pow t (c .before .before .before .before .before .before .before .before .before .before .before .before .before .before .before .before)) .q) (space-pow·mul-pop-pow t (c .before .before .before .before .before .before .before .before .before .before .before .before .before .before .before .before))) .fit) .words)
+few-a·mul-pop-pow t c = omega (arith, (c .before .before .before .before .before .mul-pop) .ensures .size, fit-prod ((pop-space-pow ((c .before .before .before .before .before .before .before .before .before .before .before .before .before .before .before .before) .args .i) ((getD ((c .before .before .before .before .before .before .before .before .before .before .before .before .before .before .before .before) .args .y .now) 0 0) % 64) (dec ((c .before .before .before .before .before .before .before .before .before .before .before .before .before .before .before .before) .args .width) ((c .before .before .before .before .before .before .before .before .before .before .before .before .before .before .before .before) .args .p .now)) (dec ((c .before .before .before .before .before .before .before .before .before .before .before .before .before .before .before .before) .args .width) (first ((c .before .before .before .before .before .before .before .before .before .before .before .before .before .before .before .before) .args .y .now))) (dec ((c .before .before .before .before .before .before .before .before .before .before .before .before .before .before .before .before) .args .width) (rest ((c .before .before .before .before .before .before .before .before .before .before .before .before .before .before .before .before) .args .y .now))) (space-pow·mul-pop-pow t (c .before .before .before .before .before .before .before .before .before .before .before .before .before .before .before .before))) .fit) .words)
 
-a-size·mul-pop-pow : (t : ℕ) (c : mul-pop-pow-lts.After-u (mul-pop-below t, mul-pop.Post, mul-less-below t, mul-less.Post, make-pow-reads.Asked, make-pow-reads.Learnt) (mul-pop-pow-at t) mul-pop-pow.Post) → (1 + ((c .before .before .before .before .before .mul-pop) .result)) ≤ length (putMid 1 (length ((c .before .before .before .before .before .before .before .before .before .before .before .before .before .before .before .before) .args .out .now) - 1) ((c .before .before .before .before .before .before .before .before .before .before .before .before .before .before .before .before) .args .out .now) ((c .before .before .before .before .before .mul-pop) .last .1 .1 .1 .1 .0))
+a-size·mul-pop-pow : (t : ℕ) (c : mul-pop-pow-lts.After-u (mul-pop-below t, mul-pop.Post, mul-less-below t, mul-less.Post, make-pow-reads.Asked, make-pow-reads.Learnt) (mul-pop-pow-at t) mul-pop-pow.Post) → (1 + ((c .before .before .before .before .before .mul-pop) .result)) ≤ length (one-put ((c .before .before .before .before .before .before .before .before .before .before .before .before .before .before .before .before) .args .out .now) ((c .before .before .before .before .before .mul-pop) .last .1 .1 .1 .1 .0))
 a-size·mul-pop-pow t c = omega (arith, few-a·mul-pop-pow t c, (c .before .before .before .before .out) .given .1, ((c .before .before .before .before .before .before .before .before .before .before .before .before .before .before .before .before) .pre .1 .1 .0) .tables)
 
-rest·mul-pop-pow : (t : ℕ) (c : mul-pop-pow-lts.After-u (mul-pop-below t, mul-pop.Post, mul-less-below t, mul-less.Post, make-pow-reads.Asked, make-pow-reads.Learnt) (mul-pop-pow-at t) mul-pop-pow.Post) → length ((c .before .before .before .before .before .before .before .before .before .before .before .before .before .before .before .before) .args .out .now) - (1 + ((c .before .before .before .before .before .mul-pop) .result)) ≡ length (take (length (putMid 1 (length ((c .before .before .before .before .before .before .before .before .before .before .before .before .before .before .before .before) .args .out .now) - 1) ((c .before .before .before .before .before .before .before .before .before .before .before .before .before .before .before .before) .args .out .now) ((c .before .before .before .before .before .mul-pop) .last .1 .1 .1 .1 .0)) - (1 + ((c .before .before .before .before .before .mul-pop) .result))) (drop (1 + ((c .before .before .before .before .before .mul-pop) .result)) (putMid 1 (length ((c .before .before .before .before .before .before .before .before .before .before .before .before .before .before .before .before) .args .out .now) - 1) ((c .before .before .before .before .before .before .before .before .before .before .before .before .before .before .before .before) .args .out .now) ((c .before .before .before .before .before .mul-pop) .last .1 .1 .1 .1 .0))))
-rest·mul-pop-pow t c = omega (arith, length-tail-part (1 + ((c .before .before .before .before .before .mul-pop) .result)) (putMid 1 (length ((c .before .before .before .before .before .before .before .before .before .before .before .before .before .before .before .before) .args .out .now) - 1) ((c .before .before .before .before .before .before .before .before .before .before .before .before .before .before .before .before) .args .out .now) ((c .before .before .before .before .before .mul-pop) .last .1 .1 .1 .1 .0)), (c .before .before .before .before .out) .given .1)
+behind·mul-pop-pow : (t : ℕ) (c : mul-pop-pow-lts.After-u (mul-pop-below t, mul-pop.Post, mul-less-below t, mul-less.Post, make-pow-reads.Asked, make-pow-reads.Learnt) (mul-pop-pow-at t) mul-pop-pow.Post) → length ((c .before .before .before .before .before .before .before .before .before .before .before .before .before .before .before .before) .args .out .now) - (1 + ((c .before .before .before .before .before .mul-pop) .result)) ≡ length (take (length (one-put ((c .before .before .before .before .before .before .before .before .before .before .before .before .before .before .before .before) .args .out .now) ((c .before .before .before .before .before .mul-pop) .last .1 .1 .1 .1 .0)) - (1 + ((c .before .before .before .before .before .mul-pop) .result))) (drop (1 + ((c .before .before .before .before .before .mul-pop) .result)) (one-put ((c .before .before .before .before .before .before .before .before .before .before .before .before .before .before .before .before) .args .out .now) ((c .before .before .before .before .before .mul-pop) .last .1 .1 .1 .1 .0))))
+behind·mul-pop-pow t c = omega (arith, length-tail-part (1 + ((c .before .before .before .before .before .mul-pop) .result)) (one-put ((c .before .before .before .before .before .before .before .before .before .before .before .before .before .before .before .before) .args .out .now) ((c .before .before .before .before .before .mul-pop) .last .1 .1 .1 .1 .0)), (c .before .before .before .before .out) .given .1)
 
-ens2·mul-pop-pow : (t : ℕ) (c : mul-pop-pow-lts.After-u2 (mul-pop-below t, mul-pop.Post, mul-less-below t, mul-less.Post, make-pow-reads.Asked, make-pow-reads.Learnt) (mul-pop-pow-at t) mul-pop-pow.Post) → Begins ((c .before .before .before .before .before .mul-less) .result) (enc ((c .before .before .before .before .before .before .before .before .before .before .before .before .before .before .before .before .before .before .before .before .before .before .before .before .before .before .before) .args .width) (prodOf ((c .before .before .before .before .before .before .before .before .before .before .before .before .before .before .before .before .before .before .before .before .before .before .before .before .before .before .before) .args .width) (lower (((c .before .before .before .before .before .before .before .before .before .before .before .before .before .before .before .before .before .before .before .before .before .before .before .before .before .before .before) .args .i) - 1) (dec ((c .before .before .before .before .before .before .before .before .before .before .before .before .before .before .before .before .before .before .before .before .before .before .before .before .before .before .before) .args .width) ((c .before .before .before .before .before .before .before .before .before .before .before .before .before .before .before .before .before .before .before .before .before .before .before .before .before .before .before) .args .p .now))) ((is-pow·mul-pop-pow t (c .before .before .before .before .before .before .before .before .before .before .before .before .before .before .before .before .before .before .before .before .before .before .before .before .before .before .before)) .q))) ((c .before .before .before .before .before .mul-less) .last .1 .1 .1 .1 .0)
-ens2·mul-pop-pow t c = begins-as ((c .before .before .before .before .before .mul-less) .ensures) (ap (λ h. enc ((c .before .before .before .before .before .before .before .before .before .before .before .before .before .before .before .before .before .before .before .before .before .before .before .before .before .before .before) .args .width) (prodOf ((c .before .before .before .before .before .before .before .before .before .before .before .before .before .before .before .before .before .before .before .before .before .before .before .before .before .before .before) .args .width) (lower (((c .before .before .before .before .before .before .before .before .before .before .before .before .before .before .before .before .before .before .before .before .before .before .before .before .before .before .before) .args .i) - 1) (dec ((c .before .before .before .before .before .before .before .before .before .before .before .before .before .before .before .before .before .before .before .before .before .before .before .before .before .before .before) .args .width) ((c .before .before .before .before .before .before .before .before .before .before .before .before .before .before .before .before .before .before .before .before .before .before .before .before .before .before .before) .args .p .now))) h)) (dec-enc (right·mul-pop-pow t (c .before .before .before .before .before .before .before .before .before .before .before .before .before .before .before .before .before .before .before .before .before .before .before .before .before .before .before))))
+made·mul-pop-pow : (t : ℕ) (c : mul-pop-pow-lts.After-u2 (mul-pop-below t, mul-pop.Post, mul-less-below t, mul-less.Post, make-pow-reads.Asked, make-pow-reads.Learnt) (mul-pop-pow-at t) mul-pop-pow.Post) → Codes ((c .before .before .before .before .before .before .before .before .before .before .before .before .before .before .before .before .before .before .before .before .before .before .before .before .before .before .before) .args .width) (prodOf ((c .before .before .before .before .before .before .before .before .before .before .before .before .before .before .before .before .before .before .before .before .before .before .before .before .before .before .before) .args .width) (pop ((c .before .before .before .before .before .before .before .before .before .before .before .before .before .before .before .before .before .before .before .before .before .before .before .before .before .before .before) .args .i) (dec ((c .before .before .before .before .before .before .before .before .before .before .before .before .before .before .before .before .before .before .before .before .before .before .before .before .before .before .before) .args .width) ((c .before .before .before .before .before .before .before .before .before .before .before .before .before .before .before .before .before .before .before .before .before .before .before .before .before .before .before) .args .p .now))) (dec ((c .before .before .before .before .before .before .before .before .before .before .before .before .before .before .before .before .before .before .before .before .before .before .before .before .before .before .before) .args .width) (first ((c .before .before .before .before .before .before .before .before .before .before .before .before .before .before .before .before .before .before .before .before .before .before .before .before .before .before .before) .args .y .now)))) (take ((c .before .before .before .before .before .before .before .before .before .before .before .before .before .before .before .before .mul-pop) .result) (drop 1 (two-put ((c .before .before .before .before .before .before .before .before .before .before .before .before .before .before .before .before .before .before .before .before .before .before .before .before .before .before .before) .args .out .now) ((c .before .before .before .before .before .before .before .before .before .before .before .before .before .before .before .before .mul-pop) .last .1 .1 .1 .1 .0) ((c .before .before .before .before .before .mul-less) .last .1 .1 .1 .1 .0) ((c .before .before .before .before .before .before .before .before .before .before .before .before .before .before .before .before .mul-pop) .result)))) × Codes ((c .before .before .before .before .before .before .before .before .before .before .before .before .before .before .before .before .before .before .before .before .before .before .before .before .before .before .before) .args .width) (prodOf ((c .before .before .before .before .before .before .before .before .before .before .before .before .before .before .before .before .before .before .before .before .before .before .before .before .before .before .before) .args .width) (lower (((c .before .before .before .before .before .before .before .before .before .before .before .before .before .before .before .before .before .before .before .before .before .before .before .before .before .before .before) .args .i) - 1) (dec ((c .before .before .before .before .before .before .before .before .before .before .before .before .before .before .before .before .before .before .before .before .before .before .before .before .before .before .before) .args .width) ((c .before .before .before .before .before .before .before .before .before .before .before .before .before .before .before .before .before .before .before .before .before .before .before .before .before .before .before) .args .p .now))) (dec ((c .before .before .before .before .before .before .before .before .before .before .before .before .before .before .before .before .before .before .before .before .before .before .before .before .before .before .before) .args .width) (rest ((c .before .before .before .before .before .before .before .before .before .before .before .before .before .before .before .before .before .before .before .before .before .before .before .before .before .before .before) .args .y .now)))) (take ((c .before .before .before .before .before .mul-less) .result) (drop (1 + ((c .before .before .before .before .before .before .before .before .before .before .before .before .before .before .before .before .mul-pop) .result)) (two-put ((c .before .before .before .before .before .before .before .before .before .before .before .before .before .before .before .before .before .before .before .before .before .before .before .before .before .before .before) .args .out .now) ((c .before .before .before .before .before .before .before .before .before .before .before .before .before .before .before .before .mul-pop) .last .1 .1 .1 .1 .0) ((c .before .before .before .before .before .mul-less) .last .1 .1 .1 .1 .0) ((c .before .before .before .before .before .before .before .before .before .before .before .before .before .before .before .before .mul-pop) .result))))
+made·mul-pop-pow t c = two-made ((c .before .before .before .before .before .before .before .before .before .before .before .before .before .before .before .before .before .before .before .before .before .before .before .before .before .before .before) .args .out .now) ((c .before .before .before .before .before .before .before .before .before .before .before .before .before .before .before .before .mul-pop) .last .1 .1 .1 .1 .0) ((c .before .before .before .before .before .mul-less) .last .1 .1 .1 .1 .0) ((c .before .before .before .before .before .before .before .before .before .before .before .before .before .before .before .before .mul-pop) .result) ((c .before .before .before .before .before .mul-less) .result) (omega (arith, ((c .before .before .before .before .before .before .before .before .before .before .before .before .before .before .before .before .before .before .before .before .before .before .before .before .before .before .before) .pre .1 .1 .0) .tables)) (a-size·mul-pop-pow t (c .before .before .before .before .before .before .before .before .before .before .before)) ((c .before .before .before .before .before .before .before .before .before .before .before .before .before .before .before .before .mul-pop) .ensures) (fit-prod ((pop-space-pow ((c .before .before .before .before .before .before .before .before .before .before .before .before .before .before .before .before .before .before .before .before .before .before .before .before .before .before .before) .args .i) ((getD ((c .before .before .before .before .before .before .before .before .before .before .before .before .before .before .before .before .before .before .before .before .before .before .before .before .before .before .before) .args .y .now) 0 0) % 64) (dec ((c .before .before .before .before .before .before .before .before .before .before .before .before .before .before .before .before .before .before .before .before .before .before .before .before .before .before .before) .args .width) ((c .before .before .before .before .before .before .before .before .before .before .before .before .before .before .before .before .before .before .before .before .before .before .before .before .before .before .before) .args .p .now)) (dec ((c .before .before .before .before .before .before .before .before .before .before .before .before .before .before .before .before .before .before .before .before .before .before .before .before .before .before .before) .args .width) (first ((c .before .before .before .before .before .before .before .before .before .before .before .before .before .before .before .before .before .before .before .before .before .before .before .before .before .before .before) .args .y .now))) (dec ((c .before .before .before .before .before .before .before .before .before .before .before .before .before .before .before .before .before .before .before .before .before .before .before .before .before .before .before) .args .width) (rest ((c .before .before .before .before .before .before .before .before .before .before .before .before .before .before .before .before .before .before .before .before .before .before .before .before .before .before .before) .args .y .now))) (space-pow·mul-pop-pow t (c .before .before .before .before .before .before .before .before .before .before .before .before .before .before .before .before .before .before .before .before .before .before .before .before .before .before .before))) .fit) .good) ((c .before .before .before .before .before .mul-less) .ensures) (fit-prod ((space-lower ((c .before .before .before .before .before .before .before .before .before .before .before .before .before .before .before .before .before .before .before .before .before .before .before .before .before .before .before) .args .i) ((getD ((c .before .before .before .before .before .before .before .before .before .before .before .before .before .before .before .before .before .before .before .before .before .before .before .before .before .before .before) .args .y .now) 0 0) % 64) (dec ((c .before .before .before .before .before .before .before .before .before .before .before .before .before .before .before .before .before .before .before .before .before .before .before .before .before .before .before) .args .width) ((c .before .before .before .before .before .before .before .before .before .before .before .before .before .before .before .before .before .before .before .before .before .before .before .before .before .before .before) .args .p .now)) (dec ((c .before .before .before .before .before .before .before .before .before .before .before .before .before .before .before .before .before .before .before .before .before .before .before .before .before .before .before) .args .width) (first ((c .before .before .before .before .before .before .before .before .before .before .before .before .before .before .before .before .before .before .before .before .before .before .before .before .before .before .before) .args .y .now))) (dec ((c .before .before .before .before .before .before .before .before .before .before .before .before .before .before .before .before .before .before .before .before .before .before .before .before .before .before .before) .args .width) (rest ((c .before .before .before .before .before .before .before .before .before .before .before .before .before .before .before .before .before .before .before .before .before .before .before .before .before .before .before) .args .y .now))) (space-pow·mul-pop-pow t (c .before .before .before .before .before .before .before .before .before .before .before .before .before .before .before .before .before .before .before .before .before .before .before .before .before .before .before)) ((c .before .before .before .before .before .before .before .before .before .before .before .before .before .before .before .before .mul-pop) .result) (few-a·mul-pop-pow t (c .before .before .before .before .before .before .before .before .before .before .before))) .fit) .good)
 
-kept-a·mul-pop-pow : (t : ℕ) (c : mul-pop-pow-lts.After-u2 (mul-pop-below t, mul-pop.Post, mul-less-below t, mul-less.Post, make-pow-reads.Asked, make-pow-reads.Learnt) (mul-pop-pow-at t) mul-pop-pow.Post) → Codes ((c .before .before .before .before .before .before .before .before .before .before .before .before .before .before .before .before .before .before .before .before .before .before .before .before .before .before .before) .args .width) (prodOf ((c .before .before .before .before .before .before .before .before .before .before .before .before .before .before .before .before .before .before .before .before .before .before .before .before .before .before .before) .args .width) (pop ((c .before .before .before .before .before .before .before .before .before .before .before .before .before .before .before .before .before .before .before .before .before .before .before .before .before .before .before) .args .i) (dec ((c .before .before .before .before .before .before .before .before .before .before .before .before .before .before .before .before .before .before .before .before .before .before .before .before .before .before .before) .args .width) ((c .before .before .before .before .before .before .before .before .before .before .before .before .before .before .before .before .before .before .before .before .before .before .before .before .before .before .before) .args .p .now))) ((is-pow·mul-pop-pow t (c .before .before .before .before .before .before .before .before .before .before .before .before .before .before .before .before .before .before .before .before .before .before .before .before .before .before .before)) .p)) (take ((c .before .before .before .before .before .before .before .before .before .before .before .before .before .before .before .before .mul-pop) .result) (drop 1 (putMid (1 + ((c .before .before .before .before .before .before .before .before .before .before .before .before .before .before .before .before .mul-pop) .result)) (length (putMid 1 (length ((c .before .before .before .before .before .before .before .before .before .before .before .before .before .before .before .before .before .before .before .before .before .before .before .before .before .before .before) .args .out .now) - 1) ((c .before .before .before .before .before .before .before .before .before .before .before .before .before .before .before .before .before .before .before .before .before .before .before .before .before .before .before) .args .out .now) ((c .before .before .before .before .before .before .before .before .before .before .before .before .before .before .before .before .mul-pop) .last .1 .1 .1 .1 .0)) - (1 + ((c .before .before .before .before .before .before .before .before .before .before .before .before .before .before .before .before .mul-pop) .result))) (putMid 1 (length ((c .before .before .before .before .before .before .before .before .before .before .before .before .before .before .before .before .before .before .before .before .before .before .before .before .before .before .before) .args .out .now) - 1) ((c .before .before .before .before .before .before .before .before .before .before .before .before .before .before .before .before .before .before .before .before .before .before .before .before .before .before .before) .args .out .now) ((c .before .before .before .before .before .before .before .before .before .before .before .before .before .before .before .before .mul-pop) .last .1 .1 .1 .1 .0)) ((c .before .before .before .before .before .mul-less) .last .1 .1 .1 .1 .0))))
-kept-a·mul-pop-pow t c = kept-codes 1 ((c .before .before .before .before .before .before .before .before .before .before .before .before .before .before .before .before .mul-pop) .result) (1 + ((c .before .before .before .before .before .before .before .before .before .before .before .before .before .before .before .before .mul-pop) .result)) (length (putMid 1 (length ((c .before .before .before .before .before .before .before .before .before .before .before .before .before .before .before .before .before .before .before .before .before .before .before .before .before .before .before) .args .out .now) - 1) ((c .before .before .before .before .before .before .before .before .before .before .before .before .before .before .before .before .before .before .before .before .before .before .before .before .before .before .before) .args .out .now) ((c .before .before .before .before .before .before .before .before .before .before .before .before .before .before .before .before .mul-pop) .last .1 .1 .1 .1 .0)) - (1 + ((c .before .before .before .before .before .before .before .before .before .before .before .before .before .before .before .before .mul-pop) .result))) (putMid 1 (length ((c .before .before .before .before .before .before .before .before .before .before .before .before .before .before .before .before .before .before .before .before .before .before .before .before .before .before .before) .args .out .now) - 1) ((c .before .before .before .before .before .before .before .before .before .before .before .before .before .before .before .before .before .before .before .before .before .before .before .before .before .before .before) .args .out .now) ((c .before .before .before .before .before .before .before .before .before .before .before .before .before .before .before .before .mul-pop) .last .1 .1 .1 .1 .0)) ((c .before .before .before .before .before .mul-less) .last .1 .1 .1 .1 .0) (made-codes 1 ((c .before .before .before .before .before .before .before .before .before .before .before .before .before .before .before .before .before .before .before .before .before .before .before .before .before .before .before) .args .out .now) ((c .before .before .before .before .before .before .before .before .before .before .before .before .before .before .before .before .mul-pop) .last .1 .1 .1 .1 .0) ((c .before .before .before .before .before .before .before .before .before .before .before .before .before .before .before .before .mul-pop) .result) (omega (arith, ((c .before .before .before .before .before .before .before .before .before .before .before .before .before .before .before .before .before .before .before .before .before .before .before .before .before .before .before) .pre .1 .1 .0) .tables)) (ens1·mul-pop-pow t (c .before .before .before .before .before .before .before .before .before .before .before)) (fit-prod ((pop-space-pow ((c .before .before .before .before .before .before .before .before .before .before .before .before .before .before .before .before .before .before .before .before .before .before .before .before .before .before .before) .args .i) ((is-pow·mul-pop-pow t (c .before .before .before .before .before .before .before .before .before .before .before .before .before .before .before .before .before .before .before .before .before .before .before .before .before .before .before)) .i) (dec ((c .before .before .before .before .before .before .before .before .before .before .before .before .before .before .before .before .before .before .before .before .before .before .before .before .before .before .before) .args .width) ((c .before .before .before .before .before .before .before .before .before .before .before .before .before .before .before .before .before .before .before .before .before .before .before .before .before .before .before) .args .p .now)) ((is-pow·mul-pop-pow t (c .before .before .before .before .before .before .before .before .before .before .before .before .before .before .before .before .before .before .before .before .before .before .before .before .before .before .before)) .p) ((is-pow·mul-pop-pow t (c .before .before .before .before .before .before .before .before .before .before .before .before .before .before .before .before .before .before .before .before .before .before .before .before .before .before .before)) .q) (space-pow·mul-pop-pow t (c .before .before .before .before .before .before .before .before .before .before .before .before .before .before .before .before .before .before .before .before .before .before .before .before .before .before .before))) .fit) .good)) (omega arith) (a-size·mul-pop-pow t (c .before .before .before .before .before .before .before .before .before .before .before))
+is-pop·mul-pow : (t : ℕ) (c : mul-pow-lts.Then2 (scale-reads.Asked, scale-reads.Learnt, mul-pop-pow-below t, mul-pop-pow.Post, mul-pows-below t, mul-pows.Post) (mul-pow-at t) mul-pow.Post) → PopAt ((c .before .before .before .before .before .before .before .before) .args .width) ((c .before .before .before .before .before .before .before .before) .args .y .now)
+is-pop·mul-pow t c = pop-at ((c .before .before .before .before .before .before .before .before) .pre .1 .0 .1) ((c .before .if1) .left) ((c .if2) .taken)
 
-made-b·mul-pop-pow : (t : ℕ) (c : mul-pop-pow-lts.After-u2 (mul-pop-below t, mul-pop.Post, mul-less-below t, mul-less.Post, make-pow-reads.Asked, make-pow-reads.Learnt) (mul-pop-pow-at t) mul-pop-pow.Post) → Codes ((c .before .before .before .before .before .before .before .before .before .before .before .before .before .before .before .before .before .before .before .before .before .before .before .before .before .before .before) .args .width) (prodOf ((c .before .before .before .before .before .before .before .before .before .before .before .before .before .before .before .before .before .before .before .before .before .before .before .before .before .before .before) .args .width) (lower (((c .before .before .before .before .before .before .before .before .before .before .before .before .before .before .before .before .before .before .before .before .before .before .before .before .before .before .before) .args .i) - 1) (dec ((c .before .before .before .before .before .before .before .before .before .before .before .before .before .before .before .before .before .before .before .before .before .before .before .before .before .before .before) .args .width) ((c .before .before .before .before .before .before .before .before .before .before .before .before .before .before .before .before .before .before .before .before .before .before .before .before .before .before .before) .args .p .now))) ((is-pow·mul-pop-pow t (c .before .before .before .before .before .before .before .before .before .before .before .before .before .before .before .before .before .before .before .before .before .before .before .before .before .before .before)) .q)) (take ((c .before .before .before .before .before .mul-less) .result) (drop (1 + ((c .before .before .before .before .before .before .before .before .before .before .before .before .before .before .before .before .mul-pop) .result)) (putMid (1 + ((c .before .before .before .before .before .before .before .before .before .before .before .before .before .before .before .before .mul-pop) .result)) (length (putMid 1 (length ((c .before .before .before .before .before .before .before .before .before .before .before .before .before .before .before .before .before .before .before .before .before .before .before .before .before .before .before) .args .out .now) - 1) ((c .before .before .before .before .before .before .before .before .before .before .before .before .before .before .before .before .before .before .before .before .before .before .before .before .before .before .before) .args .out .now) ((c .before .before .before .before .before .before .before .before .before .before .before .before .before .before .before .before .mul-pop) .last .1 .1 .1 .1 .0)) - (1 + ((c .before .before .before .before .before .before .before .before .before .before .before .before .before .before .before .before .mul-pop) .result))) (putMid 1 (length ((c .before .before .before .before .before .before .before .before .before .before .before .before .before .before .before .before .before .before .before .before .before .before .before .before .before .before .before) .args .out .now) - 1) ((c .before .before .before .before .before .before .before .before .before .before .before .before .before .before .before .before .before .before .before .before .before .before .before .before .before .before .before) .args .out .now) ((c .before .before .before .before .before .before .before .before .before .before .before .before .before .before .before .before .mul-pop) .last .1 .1 .1 .1 .0)) ((c .before .before .before .before .before .mul-less) .last .1 .1 .1 .1 .0))))
-made-b·mul-pop-pow t c = made-codes (1 + ((c .before .before .before .before .before .before .before .before .before .before .before .before .before .before .before .before .mul-pop) .result)) (putMid 1 (length ((c .before .before .before .before .before .before .before .before .before .before .before .before .before .before .before .before .before .before .before .before .before .before .before .before .before .before .before) .args .out .now) - 1) ((c .before .before .before .before .before .before .before .before .before .before .before .before .before .before .before .before .before .before .before .before .before .before .before .before .before .before .before) .args .out .now) ((c .before .before .before .before .before .before .before .before .before .before .before .before .before .before .before .before .mul-pop) .last .1 .1 .1 .1 .0)) ((c .before .before .before .before .before .mul-less) .last .1 .1 .1 .1 .0) ((c .before .before .before .before .before .mul-less) .result) (a-size·mul-pop-pow t (c .before .before .before .before .before .before .before .before .before .before .before)) (ens2·mul-pop-pow t c) (fit-prod ((space-lower ((c .before .before .before .before .before .before .before .before .before .before .before .before .before .before .before .before .before .before .before .before .before .before .before .before .before .before .before) .args .i) ((is-pow·mul-pop-pow t (c .before .before .before .before .before .before .before .before .before .before .before .before .before .before .before .before .before .before .before .before .before .before .before .before .before .before .before)) .i) (dec ((c .before .before .before .before .before .before .before .before .before .before .before .before .before .before .before .before .before .before .before .before .before .before .before .before .before .before .before) .args .width) ((c .before .before .before .before .before .before .before .before .before .before .before .before .before .before .before .before .before .before .before .before .before .before .before .before .before .before .before) .args .p .now)) ((is-pow·mul-pop-pow t (c .before .before .before .before .before .before .before .before .before .before .before .before .before .before .before .before .before .before .before .before .before .before .before .before .before .before .before)) .p) ((is-pow·mul-pop-pow t (c .before .before .before .before .before .before .before .before .before .before .before .before .before .before .before .before .before .before .before .before .before .before .before .before .before .before .before)) .q) (space-pow·mul-pop-pow t (c .before .before .before .before .before .before .before .before .before .before .before .before .before .before .before .before .before .before .before .before .before .before .before .before .before .before .before)) ((c .before .before .before .before .before .before .before .before .before .before .before .before .before .before .before .before .mul-pop) .result) (few-a·mul-pop-pow t (c .before .before .before .before .before .before .before .before .before .before .before))) .fit) .good)
+is-pow·mul-pow : (t : ℕ) (c : mul-pow-lts.Else2 (scale-reads.Asked, scale-reads.Learnt, mul-pop-pow-below t, mul-pop-pow.Post, mul-pows-below t, mul-pows.Post) (mul-pow-at t) mul-pow.Post) → PowAt ((c .before .before .before .before .before .before .before .before) .args .width) ((c .before .before .before .before .before .before .before .before) .args .y .now)
+is-pow·mul-pow t c = pow-at ((c .before .before .before .before .before .before .before .before) .pre .1 .0 .1) ((c .before .if1) .left) ((c .if2) .left)
 
-times-is·mul-pop-pow : (t : ℕ) (c : mul-pop-pow-lts.Start (mul-pop-below t, mul-pop.Post, mul-less-below t, mul-less.Post, make-pow-reads.Asked, make-pow-reads.Learnt) (mul-pop-pow-at t) mul-pop-pow.Post) → prodOf (c .args .width) (pop (c .args .i) (dec (c .args .width) (c .args .p .now))) (dec (c .args .width) (c .args .y .now)) ≡ powOf (c .args .width) ((getD (c .args .y .now) 0 0) % 64) (prodOf (c .args .width) (pop (c .args .i) (dec (c .args .width) (c .args .p .now))) ((is-pow·mul-pop-pow t c) .p)) (prodOf (c .args .width) (lower ((c .args .i) - 1) (dec (c .args .width) (c .args .p .now))) ((is-pow·mul-pop-pow t c) .q))
-times-is·mul-pop-pow t c = pop-times (is-pow·mul-pop-pow t c) (c .args .i) (dec (c .args .width) (c .args .p .now)) (good-pop (c .args .width) (c .args .i) (dec (c .args .width) (c .args .p .now)) (fit-x ((c .pre .1 .1 .0) .fit) .good) .0) ((getD (c .args .y .now) 0 0) % 64) (omega (arith, (is-pow·mul-pop-pow t c)))
-
-is-pop·mul-pow : (t : ℕ) (c : mul-pow-lts.Then2 (scale-reads.Asked, scale-reads.Learnt, mul-pop-pow-below t, mul-pop-pow.Post, mul-pows-below t, mul-pows.Post) (mul-pow-at t) mul-pow.Post) → IsPop ((c .before .before .before .before .before .before .before .before) .args .width) (dec ((c .before .before .before .before .before .before .before .before) .args .width) ((c .before .before .before .before .before .before .before .before) .args .y .now)) ((c .before .before .before .before .before .before .before .before) .args .y .now)
-is-pop·mul-pow t c = pop-view ((c .before .before .before .before .before .before .before .before) .pre .1 .0 .1) ((c .before .if1) .left) ((c .if2) .taken)
-
-inner·mul-pow : (t : ℕ) (c : mul-pow-lts.Then2 (scale-reads.Asked, scale-reads.Learnt, mul-pop-pow-below t, mul-pop-pow.Post, mul-pows-below t, mul-pows.Post) (mul-pow-at t) mul-pow.Post) → Codes ((c .before .before .before .before .before .before .before .before) .args .width) (is-pop·mul-pow t c .p) (take (length ((c .before .before .before .before .before .before .before .before) .args .y .now) - 1) (drop 1 ((c .before .before .before .before .before .before .before .before) .args .y .now)))
-inner·mul-pow t c = pop-part (is-pop·mul-pow t c)
-
-is-pow·mul-pow : (t : ℕ) (c : mul-pow-lts.Else2 (scale-reads.Asked, scale-reads.Learnt, mul-pop-pow-below t, mul-pop-pow.Post, mul-pows-below t, mul-pows.Post) (mul-pow-at t) mul-pow.Post) → IsPow ((c .before .before .before .before .before .before .before .before) .args .width) (dec ((c .before .before .before .before .before .before .before .before) .args .width) ((c .before .before .before .before .before .before .before .before) .args .y .now)) ((c .before .before .before .before .before .before .before .before) .args .y .now)
-is-pow·mul-pow t c = pow-view ((c .before .before .before .before .before .before .before .before) .pre .1 .0 .1) ((c .before .if1) .left) ((c .if2) .left)
-
-v-pow·mul-pow : (t : ℕ) (c : mul-pow-lts.Start (scale-reads.Asked, scale-reads.Learnt, mul-pop-pow-below t, mul-pop-pow.Post, mul-pows-below t, mul-pows.Post) (mul-pow-at t) mul-pow.Post) → IsPow (c .args .width) (dec (c .args .width) (c .args .x .now)) (c .args .x .now)
-v-pow·mul-pow t c = pow-view (c .pre .1 .0 .0) ((c .pre .1 .1 .1) .node) ((c .pre .1 .1 .1) .sized)
-
-v-left·mul-pow : (t : ℕ) (c : mul-pow-lts.Start (scale-reads.Asked, scale-reads.Learnt, mul-pop-pow-below t, mul-pop-pow.Post, mul-pows-below t, mul-pows.Post) (mul-pow-at t) mul-pow.Post) → Codes (c .args .width) (v-pow·mul-pow t c .p) (take ((1 + ((getD (c .args .x .now) 0 0) - 2147483648) / 64) - 1) (drop 1 (c .args .x .now)))
-v-left·mul-pow t c = pow-left (v-pow·mul-pow t c) ((1 + ((getD (c .args .x .now) 0 0) - 2147483648) / 64) - 1) (omega (arith, v-pow·mul-pow t c))
-
-v-right·mul-pow : (t : ℕ) (c : mul-pow-lts.Start (scale-reads.Asked, scale-reads.Learnt, mul-pop-pow-below t, mul-pop-pow.Post, mul-pows-below t, mul-pows.Post) (mul-pow-at t) mul-pow.Post) → Codes (c .args .width) (v-pow·mul-pow t c .q) (take (length (c .args .x .now) - (1 + ((getD (c .args .x .now) 0 0) - 2147483648) / 64)) (drop (1 + ((getD (c .args .x .now) 0 0) - 2147483648) / 64) (c .args .x .now)))
-v-right·mul-pow t c = pow-right (v-pow·mul-pow t c) (1 + ((getD (c .args .x .now) 0 0) - 2147483648) / 64) (omega (arith, v-pow·mul-pow t c))
-
-left·mul-pow : (t : ℕ) (c : mul-pow-lts.Else2 (scale-reads.Asked, scale-reads.Learnt, mul-pop-pow-below t, mul-pop-pow.Post, mul-pows-below t, mul-pows.Post) (mul-pow-at t) mul-pow.Post) → Codes ((c .before .before .before .before .before .before .before .before) .args .width) (is-pow·mul-pow t c .p) (take ((1 + (((getD ((c .before .before .before .before .before .before .before .before) .args .y .now) 0 0) - 2147483648) / 64)) - 1) (drop 1 ((c .before .before .before .before .before .before .before .before) .args .y .now)))
-left·mul-pow t c = pow-left (is-pow·mul-pow t c) ((1 + (((getD ((c .before .before .before .before .before .before .before .before) .args .y .now) 0 0) - 2147483648) / 64)) - 1) (omega (arith, is-pow·mul-pow t c))
-
-right·mul-pow : (t : ℕ) (c : mul-pow-lts.Else2 (scale-reads.Asked, scale-reads.Learnt, mul-pop-pow-below t, mul-pop-pow.Post, mul-pows-below t, mul-pows.Post) (mul-pow-at t) mul-pow.Post) → Codes ((c .before .before .before .before .before .before .before .before) .args .width) (is-pow·mul-pow t c .q) (take (length ((c .before .before .before .before .before .before .before .before) .args .y .now) - (1 + (((getD ((c .before .before .before .before .before .before .before .before) .args .y .now) 0 0) - 2147483648) / 64))) (drop (1 + (((getD ((c .before .before .before .before .before .before .before .before) .args .y .now) 0 0) - 2147483648) / 64)) ((c .before .before .before .before .before .before .before .before) .args .y .now)))
-right·mul-pow t c = pow-right (is-pow·mul-pow t c) (1 + (((getD ((c .before .before .before .before .before .before .before .before) .args .y .now) 0 0) - 2147483648) / 64)) (omega (arith, is-pow·mul-pow t c))
-
-v-is·mul-pow : (t : ℕ) (c : mul-pow-lts.Else2 (scale-reads.Asked, scale-reads.Learnt, mul-pop-pow-below t, mul-pop-pow.Post, mul-pows-below t, mul-pows.Post) (mul-pow-at t) mul-pow.Post) → pow ((getD ((c .before .before .before .before .before .before .before .before) .args .x .now) 0 0) % 64) (dec ((c .before .before .before .before .before .before .before .before) .args .width) (take ((1 + ((getD ((c .before .before .before .before .before .before .before .before) .args .x .now) 0 0) - 2147483648) / 64) - 1) (drop 1 ((c .before .before .before .before .before .before .before .before) .args .x .now)))) (dec ((c .before .before .before .before .before .before .before .before) .args .width) (take (length ((c .before .before .before .before .before .before .before .before) .args .x .now) - (1 + ((getD ((c .before .before .before .before .before .before .before .before) .args .x .now) 0 0) - 2147483648) / 64)) (drop (1 + ((getD ((c .before .before .before .before .before .before .before .before) .args .x .now) 0 0) - 2147483648) / 64) ((c .before .before .before .before .before .before .before .before) .args .x .now)))) ≡ dec ((c .before .before .before .before .before .before .before .before) .args .width) ((c .before .before .before .before .before .before .before .before) .args .x .now)
-v-is·mul-pow t c = pow-is (v-pow·mul-pow t (c .before .before .before .before .before .before .before .before)) _ _ (dec-enc (v-left·mul-pow t (c .before .before .before .before .before .before .before .before))) (dec-enc (v-right·mul-pow t (c .before .before .before .before .before .before .before .before)))
-
-y-is·mul-pow : (t : ℕ) (c : mul-pow-lts.Else2 (scale-reads.Asked, scale-reads.Learnt, mul-pop-pow-below t, mul-pop-pow.Post, mul-pows-below t, mul-pows.Post) (mul-pow-at t) mul-pow.Post) → (pow ((getD ((c .before .before .before .before .before .before .before .before) .args .y .now) 0 0) % 64) (dec ((c .before .before .before .before .before .before .before .before) .args .width) (take ((1 + (((getD ((c .before .before .before .before .before .before .before .before) .args .y .now) 0 0) - 2147483648) / 64)) - 1) (drop 1 ((c .before .before .before .before .before .before .before .before) .args .y .now)))) (dec ((c .before .before .before .before .before .before .before .before) .args .width) (take (length ((c .before .before .before .before .before .before .before .before) .args .y .now) - (1 + (((getD ((c .before .before .before .before .before .before .before .before) .args .y .now) 0 0) - 2147483648) / 64))) (drop (1 + (((getD ((c .before .before .before .before .before .before .before .before) .args .y .now) 0 0) - 2147483648) / 64)) ((c .before .before .before .before .before .before .before .before) .args .y .now))))) ≡ dec ((c .before .before .before .before .before .before .before .before) .args .width) ((c .before .before .before .before .before .before .before .before) .args .y .now)
-y-is·mul-pow t c = pow-is (is-pow·mul-pow t c) _ _ (dec-enc (left·mul-pow t c)) (dec-enc (right·mul-pow t c))
+v-pow·mul-pow : (t : ℕ) (c : mul-pow-lts.Start (scale-reads.Asked, scale-reads.Learnt, mul-pop-pow-below t, mul-pop-pow.Post, mul-pows-below t, mul-pows.Post) (mul-pow-at t) mul-pow.Post) → PowAt (c .args .width) (c .args .x .now)
+v-pow·mul-pow t c = pow-at (c .pre .1 .0 .0) ((c .pre .1 .1 .1) .node) ((c .pre .1 .1 .1) .sized)
 
 one·mul-pows : (t : ℕ) (c : mul-pows-lts.After-mul-lead (mul-lead-below t, mul-lead.Post, add-cross-below t, add-cross.Post) (mul-pows-at t) mul-pows.Post) → Codes ((c .before .before .before .before .before .before .before .before .before .before .before) .args .width) (leadOf ((c .before .before .before .before .before .before .before .before .before .before .before) .args .width) ((c .before .before .before .before .before .before .before .before .before .before .before) .args .i) ((c .before .before .before .before .before .before .before .before .before .before .before) .args .j) (dec ((c .before .before .before .before .before .before .before .before .before .before .before) .args .width) ((c .before .before .before .before .before .before .before .before .before .before .before) .args .p .now)) (dec ((c .before .before .before .before .before .before .before .before .before .before .before) .args .width) ((c .before .before .before .before .before .before .before .before .before .before .before) .args .q .now)) (dec ((c .before .before .before .before .before .before .before .before .before .before .before) .args .width) ((c .before .before .before .before .before .before .before .before .before .before .before) .args .r .now)) (dec ((c .before .before .before .before .before .before .before .before .before .before .before) .args .width) ((c .before .before .before .before .before .before .before .before .before .before .before) .args .s .now))) (take ((c .mul-lead) .result) ((c .mul-lead) .last .1 .1 .1 .1 .1 .1 .1 .0))
 one·mul-pows t c = made-front ((c .mul-lead) .result) ((c .mul-lead) .last .1 .1 .1 .1 .1 .1 .1 .0) ((c .mul-lead) .ensures) (lead-held ((c .before .before .before .before .before .before .before .before .before .before .before) .args .i) ((c .before .before .before .before .before .before .before .before .before .before .before) .args .j) (dec ((c .before .before .before .before .before .before .before .before .before .before .before) .args .width) ((c .before .before .before .before .before .before .before .before .before .before .before) .args .p .now)) (dec ((c .before .before .before .before .before .before .before .before .before .before .before) .args .width) ((c .before .before .before .before .before .before .before .before .before .before .before) .args .q .now)) (dec ((c .before .before .before .before .before .before .before .before .before .before .before) .args .width) ((c .before .before .before .before .before .before .before .before .before .before .before) .args .r .now)) (dec ((c .before .before .before .before .before .before .before .before .before .before .before) .args .width) ((c .before .before .before .before .before .before .before .before .before .before .before) .args .s .now)) (((c .before .before .before .before .before .before .before .before .before .before .before) .pre .1 .1) .fit) .good)
@@ -314,17 +267,14 @@ behind-two·mul-pows t c = ap (λ z. z - ((c .add-cross) .result)) (sym (((c .ad
 few-a·mul-lead : (t : ℕ) (c : mul-lead-lts.After-u (product-below t, product.Post, make-pow-reads.Asked, make-pow-reads.Learnt) (mul-lead-at t) mul-lead.Post) → ((c .before .before .before .before .before .product) .result) ≤ 3073
 few-a·mul-lead t c = omega (arith, (c .before .before .before .before .before .product) .ensures .size, fit-prod ((space-leads ((c .before .before .before .before .before .before .before .before .before .before .before .before .before .before .before .before) .args .i) ((c .before .before .before .before .before .before .before .before .before .before .before .before .before .before .before .before) .args .j) (dec ((c .before .before .before .before .before .before .before .before .before .before .before .before .before .before .before .before) .args .width) ((c .before .before .before .before .before .before .before .before .before .before .before .before .before .before .before .before) .args .p .now)) (dec ((c .before .before .before .before .before .before .before .before .before .before .before .before .before .before .before .before) .args .width) ((c .before .before .before .before .before .before .before .before .before .before .before .before .before .before .before .before) .args .q .now)) (dec ((c .before .before .before .before .before .before .before .before .before .before .before .before .before .before .before .before) .args .width) ((c .before .before .before .before .before .before .before .before .before .before .before .before .before .before .before .before) .args .r .now)) (dec ((c .before .before .before .before .before .before .before .before .before .before .before .before .before .before .before .before) .args .width) ((c .before .before .before .before .before .before .before .before .before .before .before .before .before .before .before .before) .args .s .now)) ((c .before .before .before .before .before .before .before .before .before .before .before .before .before .before .before .before) .pre .1 .1)) .fit) .words)
 
-a-size·mul-lead : (t : ℕ) (c : mul-lead-lts.After-u (product-below t, product.Post, make-pow-reads.Asked, make-pow-reads.Learnt) (mul-lead-at t) mul-lead.Post) → (1 + ((c .before .before .before .before .before .product) .result)) ≤ length (putMid 1 (length ((c .before .before .before .before .before .before .before .before .before .before .before .before .before .before .before .before) .args .out .now) - 1) ((c .before .before .before .before .before .before .before .before .before .before .before .before .before .before .before .before) .args .out .now) ((c .before .before .before .before .before .product) .last .1 .1 .1 .0))
+a-size·mul-lead : (t : ℕ) (c : mul-lead-lts.After-u (product-below t, product.Post, make-pow-reads.Asked, make-pow-reads.Learnt) (mul-lead-at t) mul-lead.Post) → (1 + ((c .before .before .before .before .before .product) .result)) ≤ length (one-put ((c .before .before .before .before .before .before .before .before .before .before .before .before .before .before .before .before) .args .out .now) ((c .before .before .before .before .before .product) .last .1 .1 .1 .0))
 a-size·mul-lead t c = omega (arith, few-a·mul-lead t c, (c .before .before .before .before .out) .given .1, ((c .before .before .before .before .before .before .before .before .before .before .before .before .before .before .before .before) .pre .1 .1) .tables)
 
-rest·mul-lead : (t : ℕ) (c : mul-lead-lts.After-u (product-below t, product.Post, make-pow-reads.Asked, make-pow-reads.Learnt) (mul-lead-at t) mul-lead.Post) → length ((c .before .before .before .before .before .before .before .before .before .before .before .before .before .before .before .before) .args .out .now) - (1 + ((c .before .before .before .before .before .product) .result)) ≡ length (take (length (putMid 1 (length ((c .before .before .before .before .before .before .before .before .before .before .before .before .before .before .before .before) .args .out .now) - 1) ((c .before .before .before .before .before .before .before .before .before .before .before .before .before .before .before .before) .args .out .now) ((c .before .before .before .before .before .product) .last .1 .1 .1 .0)) - (1 + ((c .before .before .before .before .before .product) .result))) (drop (1 + ((c .before .before .before .before .before .product) .result)) (putMid 1 (length ((c .before .before .before .before .before .before .before .before .before .before .before .before .before .before .before .before) .args .out .now) - 1) ((c .before .before .before .before .before .before .before .before .before .before .before .before .before .before .before .before) .args .out .now) ((c .before .before .before .before .before .product) .last .1 .1 .1 .0))))
-rest·mul-lead t c = omega (arith, length-tail-part (1 + ((c .before .before .before .before .before .product) .result)) (putMid 1 (length ((c .before .before .before .before .before .before .before .before .before .before .before .before .before .before .before .before) .args .out .now) - 1) ((c .before .before .before .before .before .before .before .before .before .before .before .before .before .before .before .before) .args .out .now) ((c .before .before .before .before .before .product) .last .1 .1 .1 .0)), (c .before .before .before .before .out) .given .1)
+behind·mul-lead : (t : ℕ) (c : mul-lead-lts.After-u (product-below t, product.Post, make-pow-reads.Asked, make-pow-reads.Learnt) (mul-lead-at t) mul-lead.Post) → length ((c .before .before .before .before .before .before .before .before .before .before .before .before .before .before .before .before) .args .out .now) - (1 + ((c .before .before .before .before .before .product) .result)) ≡ length (take (length (one-put ((c .before .before .before .before .before .before .before .before .before .before .before .before .before .before .before .before) .args .out .now) ((c .before .before .before .before .before .product) .last .1 .1 .1 .0)) - (1 + ((c .before .before .before .before .before .product) .result))) (drop (1 + ((c .before .before .before .before .before .product) .result)) (one-put ((c .before .before .before .before .before .before .before .before .before .before .before .before .before .before .before .before) .args .out .now) ((c .before .before .before .before .before .product) .last .1 .1 .1 .0))))
+behind·mul-lead t c = omega (arith, length-tail-part (1 + ((c .before .before .before .before .before .product) .result)) (one-put ((c .before .before .before .before .before .before .before .before .before .before .before .before .before .before .before .before) .args .out .now) ((c .before .before .before .before .before .product) .last .1 .1 .1 .0)), (c .before .before .before .before .out) .given .1)
 
-kept-a·mul-lead : (t : ℕ) (c : mul-lead-lts.After-u2 (product-below t, product.Post, make-pow-reads.Asked, make-pow-reads.Learnt) (mul-lead-at t) mul-lead.Post) → Codes ((c .before .before .before .before .before .before .before .before .before .before .before .before .before .before .before .before .before .before .before .before .before .before .before .before .before .before) .args .width) (prodOf ((c .before .before .before .before .before .before .before .before .before .before .before .before .before .before .before .before .before .before .before .before .before .before .before .before .before .before) .args .width) (dec ((c .before .before .before .before .before .before .before .before .before .before .before .before .before .before .before .before .before .before .before .before .before .before .before .before .before .before) .args .width) ((c .before .before .before .before .before .before .before .before .before .before .before .before .before .before .before .before .before .before .before .before .before .before .before .before .before .before) .args .p .now)) (dec ((c .before .before .before .before .before .before .before .before .before .before .before .before .before .before .before .before .before .before .before .before .before .before .before .before .before .before) .args .width) ((c .before .before .before .before .before .before .before .before .before .before .before .before .before .before .before .before .before .before .before .before .before .before .before .before .before .before) .args .r .now))) (take ((c .before .before .before .before .before .before .before .before .before .before .before .before .before .before .before .product) .result) (drop 1 (putMid (1 + ((c .before .before .before .before .before .before .before .before .before .before .before .before .before .before .before .product) .result)) (length (putMid 1 (length ((c .before .before .before .before .before .before .before .before .before .before .before .before .before .before .before .before .before .before .before .before .before .before .before .before .before .before) .args .out .now) - 1) ((c .before .before .before .before .before .before .before .before .before .before .before .before .before .before .before .before .before .before .before .before .before .before .before .before .before .before) .args .out .now) ((c .before .before .before .before .before .before .before .before .before .before .before .before .before .before .before .product) .last .1 .1 .1 .0)) - (1 + ((c .before .before .before .before .before .before .before .before .before .before .before .before .before .before .before .product) .result))) (putMid 1 (length ((c .before .before .before .before .before .before .before .before .before .before .before .before .before .before .before .before .before .before .before .before .before .before .before .before .before .before) .args .out .now) - 1) ((c .before .before .before .before .before .before .before .before .before .before .before .before .before .before .before .before .before .before .before .before .before .before .before .before .before .before) .args .out .now) ((c .before .before .before .before .before .before .before .before .before .before .before .before .before .before .before .product) .last .1 .1 .1 .0)) ((c .before .before .before .before .before .product2) .last .1 .1 .1 .0))))
-kept-a·mul-lead t c = kept-codes 1 ((c .before .before .before .before .before .before .before .before .before .before .before .before .before .before .before .product) .result) (1 + ((c .before .before .before .before .before .before .before .before .before .before .before .before .before .before .before .product) .result)) (length (putMid 1 (length ((c .before .before .before .before .before .before .before .before .before .before .before .before .before .before .before .before .before .before .before .before .before .before .before .before .before .before) .args .out .now) - 1) ((c .before .before .before .before .before .before .before .before .before .before .before .before .before .before .before .before .before .before .before .before .before .before .before .before .before .before) .args .out .now) ((c .before .before .before .before .before .before .before .before .before .before .before .before .before .before .before .product) .last .1 .1 .1 .0)) - (1 + ((c .before .before .before .before .before .before .before .before .before .before .before .before .before .before .before .product) .result))) (putMid 1 (length ((c .before .before .before .before .before .before .before .before .before .before .before .before .before .before .before .before .before .before .before .before .before .before .before .before .before .before) .args .out .now) - 1) ((c .before .before .before .before .before .before .before .before .before .before .before .before .before .before .before .before .before .before .before .before .before .before .before .before .before .before) .args .out .now) ((c .before .before .before .before .before .before .before .before .before .before .before .before .before .before .before .product) .last .1 .1 .1 .0)) ((c .before .before .before .before .before .product2) .last .1 .1 .1 .0) (made-codes 1 ((c .before .before .before .before .before .before .before .before .before .before .before .before .before .before .before .before .before .before .before .before .before .before .before .before .before .before) .args .out .now) ((c .before .before .before .before .before .before .before .before .before .before .before .before .before .before .before .product) .last .1 .1 .1 .0) ((c .before .before .before .before .before .before .before .before .before .before .before .before .before .before .before .product) .result) (omega (arith, ((c .before .before .before .before .before .before .before .before .before .before .before .before .before .before .before .before .before .before .before .before .before .before .before .before .before .before) .pre .1 .1) .tables)) ((c .before .before .before .before .before .before .before .before .before .before .before .before .before .before .before .product) .ensures) (fit-prod ((space-leads ((c .before .before .before .before .before .before .before .before .before .before .before .before .before .before .before .before .before .before .before .before .before .before .before .before .before .before) .args .i) ((c .before .before .before .before .before .before .before .before .before .before .before .before .before .before .before .before .before .before .before .before .before .before .before .before .before .before) .args .j) (dec ((c .before .before .before .before .before .before .before .before .before .before .before .before .before .before .before .before .before .before .before .before .before .before .before .before .before .before) .args .width) ((c .before .before .before .before .before .before .before .before .before .before .before .before .before .before .before .before .before .before .before .before .before .before .before .before .before .before) .args .p .now)) (dec ((c .before .before .before .before .before .before .before .before .before .before .before .before .before .before .before .before .before .before .before .before .before .before .before .before .before .before) .args .width) ((c .before .before .before .before .before .before .before .before .before .before .before .before .before .before .before .before .before .before .before .before .before .before .before .before .before .before) .args .q .now)) (dec ((c .before .before .before .before .before .before .before .before .before .before .before .before .before .before .before .before .before .before .before .before .before .before .before .before .before .before) .args .width) ((c .before .before .before .before .before .before .before .before .before .before .before .before .before .before .before .before .before .before .before .before .before .before .before .before .before .before) .args .r .now)) (dec ((c .before .before .before .before .before .before .before .before .before .before .before .before .before .before .before .before .before .before .before .before .before .before .before .before .before .before) .args .width) ((c .before .before .before .before .before .before .before .before .before .before .before .before .before .before .before .before .before .before .before .before .before .before .before .before .before .before) .args .s .now)) ((c .before .before .before .before .before .before .before .before .before .before .before .before .before .before .before .before .before .before .before .before .before .before .before .before .before .before) .pre .1 .1)) .fit) .good)) (omega arith) (a-size·mul-lead t (c .before .before .before .before .before .before .before .before .before .before))
-
-made-b·mul-lead : (t : ℕ) (c : mul-lead-lts.After-u2 (product-below t, product.Post, make-pow-reads.Asked, make-pow-reads.Learnt) (mul-lead-at t) mul-lead.Post) → Codes ((c .before .before .before .before .before .before .before .before .before .before .before .before .before .before .before .before .before .before .before .before .before .before .before .before .before .before) .args .width) (prodOf ((c .before .before .before .before .before .before .before .before .before .before .before .before .before .before .before .before .before .before .before .before .before .before .before .before .before .before) .args .width) (dec ((c .before .before .before .before .before .before .before .before .before .before .before .before .before .before .before .before .before .before .before .before .before .before .before .before .before .before) .args .width) ((c .before .before .before .before .before .before .before .before .before .before .before .before .before .before .before .before .before .before .before .before .before .before .before .before .before .before) .args .q .now)) (dec ((c .before .before .before .before .before .before .before .before .before .before .before .before .before .before .before .before .before .before .before .before .before .before .before .before .before .before) .args .width) ((c .before .before .before .before .before .before .before .before .before .before .before .before .before .before .before .before .before .before .before .before .before .before .before .before .before .before) .args .s .now))) (take ((c .before .before .before .before .before .product2) .result) (drop (1 + ((c .before .before .before .before .before .before .before .before .before .before .before .before .before .before .before .product) .result)) (putMid (1 + ((c .before .before .before .before .before .before .before .before .before .before .before .before .before .before .before .product) .result)) (length (putMid 1 (length ((c .before .before .before .before .before .before .before .before .before .before .before .before .before .before .before .before .before .before .before .before .before .before .before .before .before .before) .args .out .now) - 1) ((c .before .before .before .before .before .before .before .before .before .before .before .before .before .before .before .before .before .before .before .before .before .before .before .before .before .before) .args .out .now) ((c .before .before .before .before .before .before .before .before .before .before .before .before .before .before .before .product) .last .1 .1 .1 .0)) - (1 + ((c .before .before .before .before .before .before .before .before .before .before .before .before .before .before .before .product) .result))) (putMid 1 (length ((c .before .before .before .before .before .before .before .before .before .before .before .before .before .before .before .before .before .before .before .before .before .before .before .before .before .before) .args .out .now) - 1) ((c .before .before .before .before .before .before .before .before .before .before .before .before .before .before .before .before .before .before .before .before .before .before .before .before .before .before) .args .out .now) ((c .before .before .before .before .before .before .before .before .before .before .before .before .before .before .before .product) .last .1 .1 .1 .0)) ((c .before .before .before .before .before .product2) .last .1 .1 .1 .0))))
-made-b·mul-lead t c = made-codes (1 + ((c .before .before .before .before .before .before .before .before .before .before .before .before .before .before .before .product) .result)) (putMid 1 (length ((c .before .before .before .before .before .before .before .before .before .before .before .before .before .before .before .before .before .before .before .before .before .before .before .before .before .before) .args .out .now) - 1) ((c .before .before .before .before .before .before .before .before .before .before .before .before .before .before .before .before .before .before .before .before .before .before .before .before .before .before) .args .out .now) ((c .before .before .before .before .before .before .before .before .before .before .before .before .before .before .before .product) .last .1 .1 .1 .0)) ((c .before .before .before .before .before .product2) .last .1 .1 .1 .0) ((c .before .before .before .before .before .product2) .result) (a-size·mul-lead t (c .before .before .before .before .before .before .before .before .before .before)) ((c .before .before .before .before .before .product2) .ensures) (fit-prod ((space-rests ((c .before .before .before .before .before .before .before .before .before .before .before .before .before .before .before .before .before .before .before .before .before .before .before .before .before .before) .args .i) ((c .before .before .before .before .before .before .before .before .before .before .before .before .before .before .before .before .before .before .before .before .before .before .before .before .before .before) .args .j) (dec ((c .before .before .before .before .before .before .before .before .before .before .before .before .before .before .before .before .before .before .before .before .before .before .before .before .before .before) .args .width) ((c .before .before .before .before .before .before .before .before .before .before .before .before .before .before .before .before .before .before .before .before .before .before .before .before .before .before) .args .p .now)) (dec ((c .before .before .before .before .before .before .before .before .before .before .before .before .before .before .before .before .before .before .before .before .before .before .before .before .before .before) .args .width) ((c .before .before .before .before .before .before .before .before .before .before .before .before .before .before .before .before .before .before .before .before .before .before .before .before .before .before) .args .q .now)) (dec ((c .before .before .before .before .before .before .before .before .before .before .before .before .before .before .before .before .before .before .before .before .before .before .before .before .before .before) .args .width) ((c .before .before .before .before .before .before .before .before .before .before .before .before .before .before .before .before .before .before .before .before .before .before .before .before .before .before) .args .r .now)) (dec ((c .before .before .before .before .before .before .before .before .before .before .before .before .before .before .before .before .before .before .before .before .before .before .before .before .before .before) .args .width) ((c .before .before .before .before .before .before .before .before .before .before .before .before .before .before .before .before .before .before .before .before .before .before .before .before .before .before) .args .s .now)) ((c .before .before .before .before .before .before .before .before .before .before .before .before .before .before .before .before .before .before .before .before .before .before .before .before .before .before) .pre .1 .1) ((c .before .before .before .before .before .before .before .before .before .before .before .before .before .before .before .product) .result) (few-a·mul-lead t (c .before .before .before .before .before .before .before .before .before .before))) .fit) .good)
+made·mul-lead : (t : ℕ) (c : mul-lead-lts.After-u2 (product-below t, product.Post, make-pow-reads.Asked, make-pow-reads.Learnt) (mul-lead-at t) mul-lead.Post) → Codes ((c .before .before .before .before .before .before .before .before .before .before .before .before .before .before .before .before .before .before .before .before .before .before .before .before .before .before) .args .width) (prodOf ((c .before .before .before .before .before .before .before .before .before .before .before .before .before .before .before .before .before .before .before .before .before .before .before .before .before .before) .args .width) (dec ((c .before .before .before .before .before .before .before .before .before .before .before .before .before .before .before .before .before .before .before .before .before .before .before .before .before .before) .args .width) ((c .before .before .before .before .before .before .before .before .before .before .before .before .before .before .before .before .before .before .before .before .before .before .before .before .before .before) .args .p .now)) (dec ((c .before .before .before .before .before .before .before .before .before .before .before .before .before .before .before .before .before .before .before .before .before .before .before .before .before .before) .args .width) ((c .before .before .before .before .before .before .before .before .before .before .before .before .before .before .before .before .before .before .before .before .before .before .before .before .before .before) .args .r .now))) (take ((c .before .before .before .before .before .before .before .before .before .before .before .before .before .before .before .product) .result) (drop 1 (two-put ((c .before .before .before .before .before .before .before .before .before .before .before .before .before .before .before .before .before .before .before .before .before .before .before .before .before .before) .args .out .now) ((c .before .before .before .before .before .before .before .before .before .before .before .before .before .before .before .product) .last .1 .1 .1 .0) ((c .before .before .before .before .before .product2) .last .1 .1 .1 .0) ((c .before .before .before .before .before .before .before .before .before .before .before .before .before .before .before .product) .result)))) × Codes ((c .before .before .before .before .before .before .before .before .before .before .before .before .before .before .before .before .before .before .before .before .before .before .before .before .before .before) .args .width) (prodOf ((c .before .before .before .before .before .before .before .before .before .before .before .before .before .before .before .before .before .before .before .before .before .before .before .before .before .before) .args .width) (dec ((c .before .before .before .before .before .before .before .before .before .before .before .before .before .before .before .before .before .before .before .before .before .before .before .before .before .before) .args .width) ((c .before .before .before .before .before .before .before .before .before .before .before .before .before .before .before .before .before .before .before .before .before .before .before .before .before .before) .args .q .now)) (dec ((c .before .before .before .before .before .before .before .before .before .before .before .before .before .before .before .before .before .before .before .before .before .before .before .before .before .before) .args .width) ((c .before .before .before .before .before .before .before .before .before .before .before .before .before .before .before .before .before .before .before .before .before .before .before .before .before .before) .args .s .now))) (take ((c .before .before .before .before .before .product2) .result) (drop (1 + ((c .before .before .before .before .before .before .before .before .before .before .before .before .before .before .before .product) .result)) (two-put ((c .before .before .before .before .before .before .before .before .before .before .before .before .before .before .before .before .before .before .before .before .before .before .before .before .before .before) .args .out .now) ((c .before .before .before .before .before .before .before .before .before .before .before .before .before .before .before .product) .last .1 .1 .1 .0) ((c .before .before .before .before .before .product2) .last .1 .1 .1 .0) ((c .before .before .before .before .before .before .before .before .before .before .before .before .before .before .before .product) .result))))
+made·mul-lead t c = two-made ((c .before .before .before .before .before .before .before .before .before .before .before .before .before .before .before .before .before .before .before .before .before .before .before .before .before .before) .args .out .now) ((c .before .before .before .before .before .before .before .before .before .before .before .before .before .before .before .product) .last .1 .1 .1 .0) ((c .before .before .before .before .before .product2) .last .1 .1 .1 .0) ((c .before .before .before .before .before .before .before .before .before .before .before .before .before .before .before .product) .result) ((c .before .before .before .before .before .product2) .result) (omega (arith, ((c .before .before .before .before .before .before .before .before .before .before .before .before .before .before .before .before .before .before .before .before .before .before .before .before .before .before) .pre .1 .1) .tables)) (a-size·mul-lead t (c .before .before .before .before .before .before .before .before .before .before)) ((c .before .before .before .before .before .before .before .before .before .before .before .before .before .before .before .product) .ensures) (fit-prod ((space-leads ((c .before .before .before .before .before .before .before .before .before .before .before .before .before .before .before .before .before .before .before .before .before .before .before .before .before .before) .args .i) ((c .before .before .before .before .before .before .before .before .before .before .before .before .before .before .before .before .before .before .before .before .before .before .before .before .before .before) .args .j) (dec ((c .before .before .before .before .before .before .before .before .before .before .before .before .before .before .before .before .before .before .before .before .before .before .before .before .before .before) .args .width) ((c .before .before .before .before .before .before .before .before .before .before .before .before .before .before .before .before .before .before .before .before .before .before .before .before .before .before) .args .p .now)) (dec ((c .before .before .before .before .before .before .before .before .before .before .before .before .before .before .before .before .before .before .before .before .before .before .before .before .before .before) .args .width) ((c .before .before .before .before .before .before .before .before .before .before .before .before .before .before .before .before .before .before .before .before .before .before .before .before .before .before) .args .q .now)) (dec ((c .before .before .before .before .before .before .before .before .before .before .before .before .before .before .before .before .before .before .before .before .before .before .before .before .before .before) .args .width) ((c .before .before .before .before .before .before .before .before .before .before .before .before .before .before .before .before .before .before .before .before .before .before .before .before .before .before) .args .r .now)) (dec ((c .before .before .before .before .before .before .before .before .before .before .before .before .before .before .before .before .before .before .before .before .before .before .before .before .before .before) .args .width) ((c .before .before .before .before .before .before .before .before .before .before .before .before .before .before .before .before .before .before .before .before .before .before .before .before .before .before) .args .s .now)) ((c .before .before .before .before .before .before .before .before .before .before .before .before .before .before .before .before .before .before .before .before .before .before .before .before .before .before) .pre .1 .1)) .fit) .good) ((c .before .before .before .before .before .product2) .ensures) (fit-prod ((space-rests ((c .before .before .before .before .before .before .before .before .before .before .before .before .before .before .before .before .before .before .before .before .before .before .before .before .before .before) .args .i) ((c .before .before .before .before .before .before .before .before .before .before .before .before .before .before .before .before .before .before .before .before .before .before .before .before .before .before) .args .j) (dec ((c .before .before .before .before .before .before .before .before .before .before .before .before .before .before .before .before .before .before .before .before .before .before .before .before .before .before) .args .width) ((c .before .before .before .before .before .before .before .before .before .before .before .before .before .before .before .before .before .before .before .before .before .before .before .before .before .before) .args .p .now)) (dec ((c .before .before .before .before .before .before .before .before .before .before .before .before .before .before .before .before .before .before .before .before .before .before .before .before .before .before) .args .width) ((c .before .before .before .before .before .before .before .before .before .before .before .before .before .before .before .before .before .before .before .before .before .before .before .before .before .before) .args .q .now)) (dec ((c .before .before .before .before .before .before .before .before .before .before .before .before .before .before .before .before .before .before .before .before .before .before .before .before .before .before) .args .width) ((c .before .before .before .before .before .before .before .before .before .before .before .before .before .before .before .before .before .before .before .before .before .before .before .before .before .before) .args .r .now)) (dec ((c .before .before .before .before .before .before .before .before .before .before .before .before .before .before .before .before .before .before .before .before .before .before .before .before .before .before) .args .width) ((c .before .before .before .before .before .before .before .before .before .before .before .before .before .before .before .before .before .before .before .before .before .before .before .before .before .before) .args .s .now)) ((c .before .before .before .before .before .before .before .before .before .before .before .before .before .before .before .before .before .before .before .before .before .before .before .before .before .before) .pre .1 .1) ((c .before .before .before .before .before .before .before .before .before .before .before .before .before .before .before .product) .result) (few-a·mul-lead t (c .before .before .before .before .before .before .before .before .before .before))) .fit) .good)
 
 kept·add-cross : (t : ℕ) (c : add-cross-lts.After-out (mul-cross-below t, mul-cross.Post, sum-back-reads.Asked, sum-back-reads.Learnt) (add-cross-at t) add-cross.Post) → Codes ((c .before .before .before .before .before .before .before .before .before .before .before .before) .args .width) (dec ((c .before .before .before .before .before .before .before .before .before .before .before .before) .args .width) (take ((c .before .before .before .before .before .before .before .before .before .before .before .before) .args .a) ((c .before .before .before .before .before .before .before .before .before .before .before .before) .args .out .now))) (take ((c .before .before .before .before .before .before .before .before .before .before .before .before) .args .a) (putMid ((c .before .before .before .before .before .before .before .before .before .before .before .before) .args .a) (length ((c .before .before .before .before .before .before .before .before .before .before .before .before) .args .out .now) - ((c .before .before .before .before .before .before .before .before .before .before .before .before) .args .a)) ((c .before .before .before .before .before .before .before .before .before .before .before .before) .args .out .now) ((c .before .before .before .mul-cross) .last .1 .1 .1 .1 .1 .0)))
 kept·add-cross t c = front-codes ((c .before .before .before .before .before .before .before .before .before .before .before .before) .args .a) ((c .before .before .before .before .before .before .before .before .before .before .before .before) .args .out .now) ((c .before .before .before .mul-cross) .last .1 .1 .1 .1 .1 .0) (length ((c .before .before .before .before .before .before .before .before .before .before .before .before) .args .out .now) - ((c .before .before .before .before .before .before .before .before .before .before .before .before) .args .a)) (omega (arith, ((c .before .before .before .before .before .before .before .before .before .before .before .before) .pre .1 .1 .1 .0) .tables)) ((c .before .before .before .before .before .before .before .before .before .before .before .before) .pre .1 .1 .0 .1)
@@ -338,26 +288,23 @@ sum-is·add-cross t c = ap (λ h. enc ((c .before .before .before .before .befor
 few-a·mul-cross : (t : ℕ) (c : mul-cross-lts.After-u (mul-by-pop-below t, mul-by-pop.Post, make-pow-reads.Asked, make-pow-reads.Learnt) (mul-cross-at t) mul-cross.Post) → ((c .before .before .before .before .before .mul-by-pop) .result) ≤ 3073
 few-a·mul-cross t c = omega (arith, (c .before .before .before .before .before .mul-by-pop) .ensures .size, fit-prod (((c .before .before .before .before .before .before .before .before .before .before .before .before .before .before) .pre .1 .1) .fit) .words)
 
-a-size·mul-cross : (t : ℕ) (c : mul-cross-lts.After-u (mul-by-pop-below t, mul-by-pop.Post, make-pow-reads.Asked, make-pow-reads.Learnt) (mul-cross-at t) mul-cross.Post) → (1 + ((c .before .before .before .before .before .mul-by-pop) .result)) < length (putMid 1 (length ((c .before .before .before .before .before .before .before .before .before .before .before .before .before .before) .args .out .now) - 1) ((c .before .before .before .before .before .before .before .before .before .before .before .before .before .before) .args .out .now) ((c .before .before .before .before .before .mul-by-pop) .last .1 .1 .1 .0))
+a-size·mul-cross : (t : ℕ) (c : mul-cross-lts.After-u (mul-by-pop-below t, mul-by-pop.Post, make-pow-reads.Asked, make-pow-reads.Learnt) (mul-cross-at t) mul-cross.Post) → (1 + ((c .before .before .before .before .before .mul-by-pop) .result)) < length (one-put ((c .before .before .before .before .before .before .before .before .before .before .before .before .before .before) .args .out .now) ((c .before .before .before .before .before .mul-by-pop) .last .1 .1 .1 .0))
 a-size·mul-cross t c = omega (arith, few-a·mul-cross t c, (c .before .before .before .before .out) .given .1, ((c .before .before .before .before .before .before .before .before .before .before .before .before .before .before) .pre .1 .1) .tables, ((c .before .before .before .before .before .before .before .before .before .before .before .before .before .before) .pre .1 .1) .pos)
 
-codes-a·mul-cross : (t : ℕ) (c : mul-cross-lts.After-u (mul-by-pop-below t, mul-by-pop.Post, make-pow-reads.Asked, make-pow-reads.Learnt) (mul-cross-at t) mul-cross.Post) → Codes ((c .before .before .before .before .before .before .before .before .before .before .before .before .before .before) .args .width) (prodOf ((c .before .before .before .before .before .before .before .before .before .before .before .before .before .before) .args .width) (dec ((c .before .before .before .before .before .before .before .before .before .before .before .before .before .before) .args .width) ((c .before .before .before .before .before .before .before .before .before .before .before .before .before .before) .args .p .now)) (popOf ((c .before .before .before .before .before .before .before .before .before .before .before .before .before .before) .args .width) 1 (dec ((c .before .before .before .before .before .before .before .before .before .before .before .before .before .before) .args .width) ((c .before .before .before .before .before .before .before .before .before .before .before .before .before .before) .args .s .now)))) (take ((c .before .before .before .before .before .mul-by-pop) .result) (drop 1 (set (putMid 1 (length ((c .before .before .before .before .before .before .before .before .before .before .before .before .before .before) .args .out .now) - 1) ((c .before .before .before .before .before .before .before .before .before .before .before .before .before .before) .args .out .now) ((c .before .before .before .before .before .mul-by-pop) .last .1 .1 .1 .0)) (1 + ((c .before .before .before .before .before .mul-by-pop) .result)) 0)))
-codes-a·mul-cross t c = stored-before 1 ((c .before .before .before .before .before .mul-by-pop) .result) (1 + ((c .before .before .before .before .before .mul-by-pop) .result)) 0 (putMid 1 (length ((c .before .before .before .before .before .before .before .before .before .before .before .before .before .before) .args .out .now) - 1) ((c .before .before .before .before .before .before .before .before .before .before .before .before .before .before) .args .out .now) ((c .before .before .before .before .before .mul-by-pop) .last .1 .1 .1 .0)) (omega arith) (made-codes 1 ((c .before .before .before .before .before .before .before .before .before .before .before .before .before .before) .args .out .now) ((c .before .before .before .before .before .mul-by-pop) .last .1 .1 .1 .0) ((c .before .before .before .before .before .mul-by-pop) .result) (omega (arith, ((c .before .before .before .before .before .before .before .before .before .before .before .before .before .before) .pre .1 .1) .tables)) ((c .before .before .before .before .before .mul-by-pop) .ensures) (fit-prod (((c .before .before .before .before .before .before .before .before .before .before .before .before .before .before) .pre .1 .1) .fit) .good))
+codes-a·mul-cross : (t : ℕ) (c : mul-cross-lts.After-u (mul-by-pop-below t, mul-by-pop.Post, make-pow-reads.Asked, make-pow-reads.Learnt) (mul-cross-at t) mul-cross.Post) → Codes ((c .before .before .before .before .before .before .before .before .before .before .before .before .before .before) .args .width) (prodOf ((c .before .before .before .before .before .before .before .before .before .before .before .before .before .before) .args .width) (dec ((c .before .before .before .before .before .before .before .before .before .before .before .before .before .before) .args .width) ((c .before .before .before .before .before .before .before .before .before .before .before .before .before .before) .args .p .now)) (popOf ((c .before .before .before .before .before .before .before .before .before .before .before .before .before .before) .args .width) 1 (dec ((c .before .before .before .before .before .before .before .before .before .before .before .before .before .before) .args .width) ((c .before .before .before .before .before .before .before .before .before .before .before .before .before .before) .args .s .now)))) (take ((c .before .before .before .before .before .mul-by-pop) .result) (drop 1 (set (one-put ((c .before .before .before .before .before .before .before .before .before .before .before .before .before .before) .args .out .now) ((c .before .before .before .before .before .mul-by-pop) .last .1 .1 .1 .0)) (1 + ((c .before .before .before .before .before .mul-by-pop) .result)) 0)))
+codes-a·mul-cross t c = stored-before 1 ((c .before .before .before .before .before .mul-by-pop) .result) (1 + ((c .before .before .before .before .before .mul-by-pop) .result)) 0 (one-put ((c .before .before .before .before .before .before .before .before .before .before .before .before .before .before) .args .out .now) ((c .before .before .before .before .before .mul-by-pop) .last .1 .1 .1 .0)) (omega arith) (made-codes 1 ((c .before .before .before .before .before .before .before .before .before .before .before .before .before .before) .args .out .now) ((c .before .before .before .before .before .mul-by-pop) .last .1 .1 .1 .0) ((c .before .before .before .before .before .mul-by-pop) .result) (omega (arith, ((c .before .before .before .before .before .before .before .before .before .before .before .before .before .before) .pre .1 .1) .tables)) ((c .before .before .before .before .before .mul-by-pop) .ensures) (fit-prod (((c .before .before .before .before .before .before .before .before .before .before .before .before .before .before) .pre .1 .1) .fit) .good))
 
-codes-0·mul-cross : (t : ℕ) (c : mul-cross-lts.After-u (mul-by-pop-below t, mul-by-pop.Post, make-pow-reads.Asked, make-pow-reads.Learnt) (mul-cross-at t) mul-cross.Post) → Codes ((c .before .before .before .before .before .before .before .before .before .before .before .before .before .before) .args .width) (zeroOf ((c .before .before .before .before .before .before .before .before .before .before .before .before .before .before) .args .width)) (take 1 (drop (1 + ((c .before .before .before .before .before .mul-by-pop) .result)) (set (putMid 1 (length ((c .before .before .before .before .before .before .before .before .before .before .before .before .before .before) .args .out .now) - 1) ((c .before .before .before .before .before .before .before .before .before .before .before .before .before .before) .args .out .now) ((c .before .before .before .before .before .mul-by-pop) .last .1 .1 .1 .0)) (1 + ((c .before .before .before .before .before .mul-by-pop) .result)) 0)))
-codes-0·mul-cross t c = stored-zero ((c .before .before .before .before .before .before .before .before .before .before .before .before .before .before) .args .width) (1 + ((c .before .before .before .before .before .mul-by-pop) .result)) (putMid 1 (length ((c .before .before .before .before .before .before .before .before .before .before .before .before .before .before) .args .out .now) - 1) ((c .before .before .before .before .before .before .before .before .before .before .before .before .before .before) .args .out .now) ((c .before .before .before .before .before .mul-by-pop) .last .1 .1 .1 .0)) (a-size·mul-cross t c)
+codes-0·mul-cross : (t : ℕ) (c : mul-cross-lts.After-u (mul-by-pop-below t, mul-by-pop.Post, make-pow-reads.Asked, make-pow-reads.Learnt) (mul-cross-at t) mul-cross.Post) → Codes ((c .before .before .before .before .before .before .before .before .before .before .before .before .before .before) .args .width) (zeroOf ((c .before .before .before .before .before .before .before .before .before .before .before .before .before .before) .args .width)) (take 1 (drop (1 + ((c .before .before .before .before .before .mul-by-pop) .result)) (set (one-put ((c .before .before .before .before .before .before .before .before .before .before .before .before .before .before) .args .out .now) ((c .before .before .before .before .before .mul-by-pop) .last .1 .1 .1 .0)) (1 + ((c .before .before .before .before .before .mul-by-pop) .result)) 0)))
+codes-0·mul-cross t c = stored-zero ((c .before .before .before .before .before .before .before .before .before .before .before .before .before .before) .args .width) (1 + ((c .before .before .before .before .before .mul-by-pop) .result)) (one-put ((c .before .before .before .before .before .before .before .before .before .before .before .before .before .before) .args .out .now) ((c .before .before .before .before .before .mul-by-pop) .last .1 .1 .1 .0)) (a-size·mul-cross t c)
 
-is-pop·mul-by-pop : (t : ℕ) (c : mul-by-pop-lts.Then2 (scale-reads.Asked, scale-reads.Learnt, mul-any-pop-below t, mul-any-pop.Post) (mul-by-pop-at t) mul-by-pop.Post) → IsPop ((c .before .before .before .before .before .before .before .before) .args .width) (dec ((c .before .before .before .before .before .before .before .before) .args .width) ((c .before .before .before .before .before .before .before .before) .args .s .now)) ((c .before .before .before .before .before .before .before .before) .args .s .now)
-is-pop·mul-by-pop t c = pop-view ((c .before .before .before .before .before .before .before .before) .pre .1 .0 .1) ((c .before .if1) .left) ((c .if2) .taken)
+is-pop·mul-by-pop : (t : ℕ) (c : mul-by-pop-lts.Then2 (scale-reads.Asked, scale-reads.Learnt, mul-any-pop-below t, mul-any-pop.Post) (mul-by-pop-at t) mul-by-pop.Post) → PopAt ((c .before .before .before .before .before .before .before .before) .args .width) ((c .before .before .before .before .before .before .before .before) .args .s .now)
+is-pop·mul-by-pop t c = pop-at ((c .before .before .before .before .before .before .before .before) .pre .1 .0 .1) ((c .before .if1) .left) ((c .if2) .taken)
 
-inner·mul-by-pop : (t : ℕ) (c : mul-by-pop-lts.Then2 (scale-reads.Asked, scale-reads.Learnt, mul-any-pop-below t, mul-any-pop.Post) (mul-by-pop-at t) mul-by-pop.Post) → Codes ((c .before .before .before .before .before .before .before .before) .args .width) (is-pop·mul-by-pop t c .p) (take (length ((c .before .before .before .before .before .before .before .before) .args .s .now) - 1) (drop 1 ((c .before .before .before .before .before .before .before .before) .args .s .now)))
-inner·mul-by-pop t c = pop-part (is-pop·mul-by-pop t c)
+is-pow·mul-by-pop : (t : ℕ) (c : mul-by-pop-lts.Else2 (scale-reads.Asked, scale-reads.Learnt, mul-any-pop-below t, mul-any-pop.Post) (mul-by-pop-at t) mul-by-pop.Post) → PowAt ((c .before .before .before .before .before .before .before .before) .args .width) ((c .before .before .before .before .before .before .before .before) .args .s .now)
+is-pow·mul-by-pop t c = pow-at ((c .before .before .before .before .before .before .before .before) .pre .1 .0 .1) ((c .before .if1) .left) ((c .if2) .left)
 
-is-pow·mul-by-pop : (t : ℕ) (c : mul-by-pop-lts.Else2 (scale-reads.Asked, scale-reads.Learnt, mul-any-pop-below t, mul-any-pop.Post) (mul-by-pop-at t) mul-by-pop.Post) → IsPow ((c .before .before .before .before .before .before .before .before) .args .width) (dec ((c .before .before .before .before .before .before .before .before) .args .width) ((c .before .before .before .before .before .before .before .before) .args .s .now)) ((c .before .before .before .before .before .before .before .before) .args .s .now)
-is-pow·mul-by-pop t c = pow-view ((c .before .before .before .before .before .before .before .before) .pre .1 .0 .1) ((c .before .if1) .left) ((c .if2) .left)
-
-up-1·mul-by-pop : (t : ℕ) (c : mul-by-pop-lts.Then2 (scale-reads.Asked, scale-reads.Learnt, mul-any-pop-below t, mul-any-pop.Post) (mul-by-pop-at t) mul-by-pop.Post) → popOf ((c .before .before .before .before .before .before .before .before) .args .width) 1 (dec ((c .before .before .before .before .before .before .before .before) .args .width) ((c .before .before .before .before .before .before .before .before) .args .s .now)) ≡ pop (1 + (getD ((c .before .before .before .before .before .before .before .before) .args .s .now) 0 0) % 64) (dec ((c .before .before .before .before .before .before .before .before) .args .width) (take (length ((c .before .before .before .before .before .before .before .before) .args .s .now) - 1) (drop 1 ((c .before .before .before .before .before .before .before .before) .args .s .now))))
-up-1·mul-by-pop t c = up-pop (is-pop·mul-by-pop t c) (dec-enc (inner·mul-by-pop t c))
+up-1·mul-by-pop : (t : ℕ) (c : mul-by-pop-lts.Then2 (scale-reads.Asked, scale-reads.Learnt, mul-any-pop-below t, mul-any-pop.Post) (mul-by-pop-at t) mul-by-pop.Post) → popOf ((c .before .before .before .before .before .before .before .before) .args .width) 1 (dec ((c .before .before .before .before .before .before .before .before) .args .width) ((c .before .before .before .before .before .before .before .before) .args .s .now)) ≡ pop (1 + (getD ((c .before .before .before .before .before .before .before .before) .args .s .now) 0 0) % 64) (dec ((c .before .before .before .before .before .before .before .before) .args .width) (inner ((c .before .before .before .before .before .before .before .before) .args .s .now)))
+up-1·mul-by-pop t c = up-pop (is-pop·mul-by-pop t c)
 
 up-2·mul-by-pop : (t : ℕ) (c : mul-by-pop-lts.Else2 (scale-reads.Asked, scale-reads.Learnt, mul-any-pop-below t, mul-any-pop.Post) (mul-by-pop-at t) mul-by-pop.Post) → popOf ((c .before .before .before .before .before .before .before .before) .args .width) 1 (dec ((c .before .before .before .before .before .before .before .before) .args .width) ((c .before .before .before .before .before .before .before .before) .args .s .now)) ≡ pop 1 (dec ((c .before .before .before .before .before .before .before .before) .args .width) ((c .before .before .before .before .before .before .before .before) .args .s .now))
 up-2·mul-by-pop t c = up-pow (is-pow·mul-by-pop t c)
@@ -392,16 +339,17 @@ add-cross-slice-aggregate-sum-back t c = sym (length-take-le ((c .before .before
 
 -- src/lib.rt:298:5
 add-cross-sum-back-requires : (t : ℕ) → add-cross-lts.Need-sum-back-requires (mul-cross-below t, mul-cross.Post, sum-back-reads.Asked, sum-back-reads.Learnt) (add-cross-at t) add-cross.Post
-add-cross-sum-back-requires t c κs = (
-  omega (arith, (c .before .before .before .before .before .before .out) .given .1, ((c .before .before .before .before .before .before .before .before .before .before .before .before .before .before .before .before .before .before) .pre .1 .1 .1 .0) .tables),
-  (
-    (coded (kept·add-cross t (c .before .before .before .before .before .before)), coded (made·add-cross t (c .before .before .before .before .before .before))),
+add-cross-sum-back-requires t c κs =
     (
-      omega (arith, ap length (sum-is·add-cross t (c .before .before .before .before .before .before)), ((c .before .before .before .before .before .before .before .before .before .before .before .before .before .before .before .before .before .before) .pre .1 .1 .1 .1) .words, (c .before .before .before .before .before .before .out) .given .1, ((c .before .before .before .before .before .before .before .before .before .before .before .before .before .before .before .before .before .before) .pre .1 .1 .1 .0) .tables),
-      omega (arith, length-take-le ((c .before .before .before .before .before .before .before .before .before .mul-cross) .result) ((c .before .before .before .before .before .before .before .before .before .mul-cross) .last .1 .1 .1 .1 .0) (begins-le ((c .before .before .before .before .before .before .before .before .before .mul-cross) .ensures)), (c .before .before .before .before .before .before .before .before .before .mul-cross) .ensures .size, ((c .before .before .before .before .before .before .before .before .before .before .before .before .before .before .before .before .before .before) .pre .1 .1 .1 .0) .held .words, ((c .before .before .before .before .before .before .before .before .before .before .before .before .before .before .before .before .before .before) .pre .1 .1 .0 .0), (c .before .before .before .before .before .before .before .before .before .mul-cross) .kept .1 .1 .1 .1 .1 .1 .0, ((c .before .before .before .before .before .before .before .before .before .before .before .before .before .before .before .before .before .before) .pre .1 .1 .1 .0) .tables),
-    ),
-  ),
-)
+      omega (arith, (c .before .before .before .before .before .before .out) .given .1, ((c .before .before .before .before .before .before .before .before .before .before .before .before .before .before .before .before .before .before) .pre .1 .1 .1 .0) .tables),
+      (
+        (coded (kept·add-cross t (c .before .before .before .before .before .before)), coded (made·add-cross t (c .before .before .before .before .before .before))),
+        (
+          omega (arith, ap length (sum-is·add-cross t (c .before .before .before .before .before .before)), ((c .before .before .before .before .before .before .before .before .before .before .before .before .before .before .before .before .before .before) .pre .1 .1 .1 .1) .words, (c .before .before .before .before .before .before .out) .given .1, ((c .before .before .before .before .before .before .before .before .before .before .before .before .before .before .before .before .before .before) .pre .1 .1 .1 .0) .tables),
+          omega (arith, length-take-le ((c .before .before .before .before .before .before .before .before .before .mul-cross) .result) ((c .before .before .before .before .before .before .before .before .before .mul-cross) .last .1 .1 .1 .1 .0) (begins-le ((c .before .before .before .before .before .before .before .before .before .mul-cross) .ensures)), (c .before .before .before .before .before .before .before .before .before .mul-cross) .ensures .size, ((c .before .before .before .before .before .before .before .before .before .before .before .before .before .before .before .before .before .before) .pre .1 .1 .1 .0) .held .words, ((c .before .before .before .before .before .before .before .before .before .before .before .before .before .before .before .before .before .before) .pre .1 .1 .0 .0), (c .before .before .before .before .before .before .before .before .before .mul-cross) .kept .1 .1 .1 .1 .1 .1 .0, ((c .before .before .before .before .before .before .before .before .before .before .before .before .before .before .before .before .before .before) .pre .1 .1 .1 .0) .tables),
+        ),
+      ),
+    )
 
 -- src/lib.rt:281:1
 add-cross-same-length : (t : ℕ) → add-cross-lts.Need-same-length (mul-cross-below t, mul-cross.Post, sum-back-reads.Asked, sum-back-reads.Learnt) (add-cross-at t) add-cross.Post
@@ -454,10 +402,11 @@ mul-any-pop-part-mul-pops-end t c = search needs
 
 -- src/lib.rt:107:9
 mul-any-pop-mul-pops-requires : (t : ℕ) → mul-any-pop-lts.Need-mul-pops-requires (scale-pop-reads.Asked, scale-pop-reads.Learnt, mul-pops-below t, mul-pops.Post, mul-pop-pow-below t, mul-pop-pow.Post) (mul-any-pop-at t) mul-any-pop.Post
-mul-any-pop-mul-pops-requires t c κs = (
-  omega (arith, codes-length (inner·mul-any-pop t (c .before .before .before .before)), is-pop·mul-any-pop t (c .before .before .before .before), ((c .before .before .before .before .before .before .before .before .before .before .before .before) .pre .0)),
-  ((coded (inner·mul-any-pop t (c .before .before .before .before)), ((c .before .before .before .before .before .before .before .before .before .before .before .before) .pre .1 .0 .1)), subst (λ h. PopSpace ((c .before .before .before .before .before .before .before .before .before .before .before .before) .args .width) h (pop ((c .before .before .before .before .before .before .before .before .before .before .before .before) .args .i) (dec ((c .before .before .before .before .before .before .before .before .before .before .before .before) .args .width) ((c .before .before .before .before .before .before .before .before .before .before .before .before) .args .p .now))) (length ((c .before .before .before .before .before .before .before .before .before .before .before .before) .args .out .now)) (length ((c .before .before .before .before .before .before .before .before .before .before .before .before) .args .t .now)) (length ((c .before .before .before .before .before .before .before .before .before .before .before .before) .args .u .now))) (sym (pop-is (is-pop·mul-any-pop t (c .before .before .before .before)) _ (dec-enc (inner·mul-any-pop t (c .before .before .before .before))))) ((c .before .before .before .before .before .before .before .before .before .before .before .before) .pre .1 .1)),
-)
+mul-any-pop-mul-pops-requires t c κs =
+    (
+      omega (arith, (is-pop·mul-any-pop t (c .before .before .before .before)), ((c .before .before .before .before .before .before .before .before .before .before .before .before) .pre .0)),
+      (((is-pop·mul-any-pop t (c .before .before .before .before)) .part, ((c .before .before .before .before .before .before .before .before .before .before .before .before) .pre .1 .0 .1)), subst (λ h. PopSpace ((c .before .before .before .before .before .before .before .before .before .before .before .before) .args .width) h (pop ((c .before .before .before .before .before .before .before .before .before .before .before .before) .args .i) (dec ((c .before .before .before .before .before .before .before .before .before .before .before .before) .args .width) ((c .before .before .before .before .before .before .before .before .before .before .before .before) .args .p .now))) (length ((c .before .before .before .before .before .before .before .before .before .before .before .before) .args .out .now)) (length ((c .before .before .before .before .before .before .before .before .before .before .before .before) .args .t .now)) (length ((c .before .before .before .before .before .before .before .before .before .before .before .before) .args .u .now))) ((is-pop·mul-any-pop t (c .before .before .before .before)) .is) ((c .before .before .before .before .before .before .before .before .before .before .before .before) .pre .1 .1)),
+    )
 
 -- src/lib.rt:107:9
 mul-any-pop-same-length-2 : (t : ℕ) → mul-any-pop-lts.Need-same-length-2 (scale-pop-reads.Asked, scale-pop-reads.Learnt, mul-pops-below t, mul-pops.Post, mul-pop-pow-below t, mul-pop-pow.Post) (mul-any-pop-at t) mul-any-pop.Post
@@ -473,7 +422,7 @@ mul-any-pop-same-length-4 t c = search needs
 
 -- src/lib.rt:107:9
 mul-any-pop-returns-2 : (t : ℕ) → mul-any-pop-lts.Need-returns-2 (scale-pop-reads.Asked, scale-pop-reads.Learnt, mul-pops-below t, mul-pops.Post, mul-pop-pow-below t, mul-pop-pow.Post) (mul-any-pop-at t) mul-any-pop.Post
-mul-any-pop-returns-2 t c = begins-as ((c .before .before .before .before .before .before .mul-pops) .ensures) (ap (λ h. enc ((c .before .before .before .before .before .before .before .before .before .before .before .before .before .before .before .before .before .before .before) .args .width) (prodOf ((c .before .before .before .before .before .before .before .before .before .before .before .before .before .before .before .before .before .before .before) .args .width) h (pop ((c .before .before .before .before .before .before .before .before .before .before .before .before .before .before .before .before .before .before .before) .args .i) (dec ((c .before .before .before .before .before .before .before .before .before .before .before .before .before .before .before .before .before .before .before) .args .width) ((c .before .before .before .before .before .before .before .before .before .before .before .before .before .before .before .before .before .before .before) .args .p .now))))) (pop-is (is-pop·mul-any-pop t (c .before .before .before .before .before .before .before .before .before .before .before)) _ (dec-enc (inner·mul-any-pop t (c .before .before .before .before .before .before .before .before .before .before .before)))))
+mul-any-pop-returns-2 t c = begins-as ((c .before .before .before .before .before .before .mul-pops) .ensures) (ap (λ h. enc ((c .before .before .before .before .before .before .before .before .before .before .before .before .before .before .before .before .before .before .before) .args .width) (prodOf ((c .before .before .before .before .before .before .before .before .before .before .before .before .before .before .before .before .before .before .before) .args .width) h (pop ((c .before .before .before .before .before .before .before .before .before .before .before .before .before .before .before .before .before .before .before) .args .i) (dec ((c .before .before .before .before .before .before .before .before .before .before .before .before .before .before .before .before .before .before .before) .args .width) ((c .before .before .before .before .before .before .before .before .before .before .before .before .before .before .before .before .before .before .before) .args .p .now))))) (sym ((is-pop·mul-any-pop t (c .before .before .before .before .before .before .before .before .before .before .before)) .is)))
 
 -- src/lib.rt:109:5
 mul-any-pop-mul-pop-pow-requires : (t : ℕ) → mul-any-pop-lts.Need-mul-pop-pow-requires (scale-pop-reads.Asked, scale-pop-reads.Learnt, mul-pops-below t, mul-pops.Post, mul-pop-pow-below t, mul-pop-pow.Post) (mul-any-pop-at t) mul-any-pop.Post
@@ -493,7 +442,7 @@ mul-any-pop-same-length-7 t c = search needs
 
 -- src/lib.rt:88:1
 mul-any-pop-returns-3 : (t : ℕ) → mul-any-pop-lts.Need-returns-3 (scale-pop-reads.Asked, scale-pop-reads.Learnt, mul-pops-below t, mul-pops.Post, mul-pop-pow-below t, mul-pop-pow.Post) (mul-any-pop-at t) mul-any-pop.Post
-mul-any-pop-returns-3 t c = begins-as ((c .before .before .before .before .before .before .mul-pop-pow) .ensures) (ap (enc ((c .before .before .before .before .before .before .before .before .before .before .before .before .before .before .before .before .before .before) .args .width)) (times-swap (is-pow·mul-any-pop t (c .before .before .before .before .before .before .before .before .before .before)) ((c .before .before .before .before .before .before .before .before .before .before .before .before .before .before .before .before .before .before) .args .i) (dec ((c .before .before .before .before .before .before .before .before .before .before .before .before .before .before .before .before .before .before) .args .width) ((c .before .before .before .before .before .before .before .before .before .before .before .before .before .before .before .before .before .before) .args .p .now)) (good-pop ((c .before .before .before .before .before .before .before .before .before .before .before .before .before .before .before .before .before .before) .args .width) ((c .before .before .before .before .before .before .before .before .before .before .before .before .before .before .before .before .before .before) .args .i) (dec ((c .before .before .before .before .before .before .before .before .before .before .before .before .before .before .before .before .before .before) .args .width) ((c .before .before .before .before .before .before .before .before .before .before .before .before .before .before .before .before .before .before) .args .p .now)) (fit-y (((c .before .before .before .before .before .before .before .before .before .before .before .before .before .before .before .before .before .before) .pre .1 .1) .fit) .good) .0)))
+mul-any-pop-returns-3 t c = begins-as ((c .before .before .before .before .before .before .mul-pop-pow) .ensures) (ap (enc ((c .before .before .before .before .before .before .before .before .before .before .before .before .before .before .before .before .before .before) .args .width)) (times-swap (is-pow·mul-any-pop t (c .before .before .before .before .before .before .before .before .before .before)) ((c .before .before .before .before .before .before .before .before .before .before .before .before .before .before .before .before .before .before) .args .i) (dec ((c .before .before .before .before .before .before .before .before .before .before .before .before .before .before .before .before .before .before) .args .width) ((c .before .before .before .before .before .before .before .before .before .before .before .before .before .before .before .before .before .before) .args .p .now)) (good-pop (fit-y (((c .before .before .before .before .before .before .before .before .before .before .before .before .before .before .before .before .before .before) .pre .1 .1) .fit) .good) .0)))
 
 -- src/lib.rt:334:13
 mul-by-pop-shared-slice-read-w : (t : ℕ) → mul-by-pop-lts.Need-shared-slice-read-w (scale-reads.Asked, scale-reads.Learnt, mul-any-pop-below t, mul-any-pop.Post) (mul-by-pop-at t) mul-by-pop.Post
@@ -533,10 +482,11 @@ mul-by-pop-part-mul-any-pop-end t c = search needs
 
 -- src/lib.rt:340:9
 mul-by-pop-mul-any-pop-requires : (t : ℕ) → mul-by-pop-lts.Need-mul-any-pop-requires (scale-reads.Asked, scale-reads.Learnt, mul-any-pop-below t, mul-any-pop.Post) (mul-by-pop-at t) mul-by-pop.Post
-mul-by-pop-mul-any-pop-requires t c κs = (
-  omega (arith, codes-length (inner·mul-by-pop t (c .before .before .before .before)), is-pop·mul-by-pop t (c .before .before .before .before), ((c .before .before .before .before .before .before .before .before .before .before .before .before) .pre .0)),
-  ((((c .before .before .before .before .before .before .before .before .before .before .before .before) .pre .1 .0 .0), coded (inner·mul-by-pop t (c .before .before .before .before))), subst (λ h. PopSpace ((c .before .before .before .before .before .before .before .before .before .before .before .before) .args .width) (dec ((c .before .before .before .before .before .before .before .before .before .before .before .before) .args .width) ((c .before .before .before .before .before .before .before .before .before .before .before .before) .args .p .now)) h (length ((c .before .before .before .before .before .before .before .before .before .before .before .before) .args .out .now)) (length ((c .before .before .before .before .before .before .before .before .before .before .before .before) .args .t .now)) (length ((c .before .before .before .before .before .before .before .before .before .before .before .before) .args .u .now))) (up-1·mul-by-pop t (c .before .before .before .before)) ((c .before .before .before .before .before .before .before .before .before .before .before .before) .pre .1 .1)),
-)
+mul-by-pop-mul-any-pop-requires t c κs =
+    (
+      omega (arith, (is-pop·mul-by-pop t (c .before .before .before .before)), ((c .before .before .before .before .before .before .before .before .before .before .before .before) .pre .0)),
+      ((((c .before .before .before .before .before .before .before .before .before .before .before .before) .pre .1 .0 .0), (is-pop·mul-by-pop t (c .before .before .before .before)) .part), subst (λ h. PopSpace ((c .before .before .before .before .before .before .before .before .before .before .before .before) .args .width) (dec ((c .before .before .before .before .before .before .before .before .before .before .before .before) .args .width) ((c .before .before .before .before .before .before .before .before .before .before .before .before) .args .p .now)) h (length ((c .before .before .before .before .before .before .before .before .before .before .before .before) .args .out .now)) (length ((c .before .before .before .before .before .before .before .before .before .before .before .before) .args .t .now)) (length ((c .before .before .before .before .before .before .before .before .before .before .before .before) .args .u .now))) (up-1·mul-by-pop t (c .before .before .before .before)) ((c .before .before .before .before .before .before .before .before .before .before .before .before) .pre .1 .1)),
+    )
 
 -- src/lib.rt:340:9
 mul-by-pop-same-length-2 : (t : ℕ) → mul-by-pop-lts.Need-same-length-2 (scale-reads.Asked, scale-reads.Learnt, mul-any-pop-below t, mul-any-pop.Post) (mul-by-pop-at t) mul-by-pop.Post
@@ -604,14 +554,15 @@ mul-cross-slice-write-out t c = a-size·mul-cross t (c .before)
 
 -- src/lib.rt:318:5
 mul-cross-make-pow-requires : (t : ℕ) → mul-cross-lts.Need-make-pow-requires (mul-by-pop-below t, mul-by-pop.Post, make-pow-reads.Asked, make-pow-reads.Learnt) (mul-cross-at t) mul-cross.Post
-mul-cross-make-pow-requires t c κs = (
-  (simp length-set (omega (arith, a-size·mul-cross t (c .before .before))), simp length-set (omega (arith, ((c .before .before .before .before .before .before .before .before .before .before .before .before .before .before .before .before) .pre .1 .1) .tables, (c .before .before .before .before .before .before .out) .given .1))),
-  ((coded (codes-a·mul-cross t (c .before .before)), coded (codes-0·mul-cross t (c .before .before))), (((c .before .before .before .before .before .before .before .before .before .before .before .before .before .before .before .before) .pre .1 .1) .pos-i, mkpow-good (codes-a·mul-cross t (c .before .before)) (codes-0·mul-cross t (c .before .before)) ((c .before .before .before .before .before .before .before .before .before .before .before .before .before .before .before .before) .args .i) (((c .before .before .before .before .before .before .before .before .before .before .before .before .before .before .before .before) .pre .1 .1) .held .good))),
-)
+mul-cross-make-pow-requires t c κs =
+    (
+      (simp length-set (omega (arith, a-size·mul-cross t (c .before .before))), simp length-set (omega (arith, ((c .before .before .before .before .before .before .before .before .before .before .before .before .before .before .before .before) .pre .1 .1) .tables, (c .before .before .before .before .before .before .out) .given .1))),
+      ((coded (codes-a·mul-cross t (c .before .before)), coded (codes-0·mul-cross t (c .before .before))), (((c .before .before .before .before .before .before .before .before .before .before .before .before .before .before .before .before) .pre .1 .1) .pos-i, pow-asks ((c .before .before .before .before .before .before .before .before .before .before .before .before .before .before .before .before) .args .i) (codes-a·mul-cross t (c .before .before), codes-0·mul-cross t (c .before .before)) refl (((c .before .before .before .before .before .before .before .before .before .before .before .before .before .before .before .before) .pre .1 .1) .held .good))),
+    )
 
 -- src/lib.rt:302:1
 mul-cross-same-length : (t : ℕ) → mul-cross-lts.Need-same-length (mul-by-pop-below t, mul-by-pop.Post, make-pow-reads.Asked, make-pow-reads.Learnt) (mul-cross-at t) mul-cross.Post
-mul-cross-same-length t c = (c .before .before .make-pow) .kept .1 .0 ∙ length-set (putMid 1 (length ((c .before .before .before .before .before .before .before .before .before .before .before .before .before .before .before .before .before .before .before) .args .out .now) - 1) ((c .before .before .before .before .before .before .before .before .before .before .before .before .before .before .before .before .before .before .before) .args .out .now) ((c .before .before .before .before .before .before .before .before .before .before .mul-by-pop) .last .1 .1 .1 .0)) (1 + ((c .before .before .before .before .before .before .before .before .before .before .mul-by-pop) .result)) 0 ∙ (c .before .before .before .before .before .before .before .before .before .out) .given .1
+mul-cross-same-length t c = (c .before .before .make-pow) .kept .1 .0 ∙ length-set (one-put ((c .before .before .before .before .before .before .before .before .before .before .before .before .before .before .before .before .before .before .before) .args .out .now) ((c .before .before .before .before .before .before .before .before .before .before .mul-by-pop) .last .1 .1 .1 .0)) (1 + ((c .before .before .before .before .before .before .before .before .before .before .mul-by-pop) .result)) 0 ∙ (c .before .before .before .before .before .before .before .before .before .out) .given .1
 
 -- src/lib.rt:302:1
 mul-cross-same-length-2 : (t : ℕ) → mul-cross-lts.Need-same-length-2 (mul-by-pop-below t, mul-by-pop.Post, make-pow-reads.Asked, make-pow-reads.Learnt) (mul-cross-at t) mul-cross.Post
@@ -623,7 +574,7 @@ mul-cross-same-length-3 t c = search needs
 
 -- src/lib.rt:302:1
 mul-cross-returns : (t : ℕ) → mul-cross-lts.Need-returns (mul-by-pop-below t, mul-by-pop.Post, make-pow-reads.Asked, make-pow-reads.Learnt) (mul-cross-at t) mul-cross.Post
-mul-cross-returns t c = begins-as ((c .before .before .make-pow) .ensures) (mkpow-enc (codes-a·mul-cross t (c .before .before .before .before .before)) (codes-0·mul-cross t (c .before .before .before .before .before)) ((c .before .before .before .before .before .before .before .before .before .before .before .before .before .before .before .before .before .before .before) .args .i))
+mul-cross-returns t c = pow-gives ((c .before .before .before .before .before .before .before .before .before .before .before .before .before .before .before .before .before .before .before) .args .i) (codes-a·mul-cross t (c .before .before .before .before .before), codes-0·mul-cross t (c .before .before .before .before .before)) refl ((c .before .before .make-pow) .ensures)
 
 -- src/lib.rt:274:34
 mul-lead-sub-product : (t : ℕ) → mul-lead-lts.Need-sub-product (product-below t, product.Post, make-pow-reads.Asked, make-pow-reads.Learnt) (mul-lead-at t) mul-lead.Post
@@ -664,24 +615,25 @@ mul-lead-part-product-end-2 t c = search needs
 -- src/lib.rt:276:9
 mul-lead-product-requires-2 : (t : ℕ) → mul-lead-lts.Need-product-requires-2 (product-below t, product.Post, make-pow-reads.Asked, make-pow-reads.Learnt) (mul-lead-at t) mul-lead.Post
 mul-lead-product-requires-2 t c κs =
-    (omega (arith, ((c .before .before .before .before .before .before .before .before .before .before .before .before .before .before .before .before .before .before .before .before) .pre .0)), ((((c .before .before .before .before .before .before .before .before .before .before .before .before .before .before .before .before .before .before .before .before) .pre .1 .0 .0 .1), ((c .before .before .before .before .before .before .before .before .before .before .before .before .before .before .before .before .before .before .before .before) .pre .1 .0 .1 .1)), space-at (rest·mul-lead t (c .before .before .before .before)) (sym ((c .before .before .before .before .before .before .before .before .before .product) .kept .1 .1 .1 .1 .0)) (sym ((c .before .before .before .before .before .before .before .before .before .product) .kept .1 .1 .1 .1 .1 .0)) (space-rests ((c .before .before .before .before .before .before .before .before .before .before .before .before .before .before .before .before .before .before .before .before) .args .i) ((c .before .before .before .before .before .before .before .before .before .before .before .before .before .before .before .before .before .before .before .before) .args .j) (dec ((c .before .before .before .before .before .before .before .before .before .before .before .before .before .before .before .before .before .before .before .before) .args .width) ((c .before .before .before .before .before .before .before .before .before .before .before .before .before .before .before .before .before .before .before .before) .args .p .now)) (dec ((c .before .before .before .before .before .before .before .before .before .before .before .before .before .before .before .before .before .before .before .before) .args .width) ((c .before .before .before .before .before .before .before .before .before .before .before .before .before .before .before .before .before .before .before .before) .args .q .now)) (dec ((c .before .before .before .before .before .before .before .before .before .before .before .before .before .before .before .before .before .before .before .before) .args .width) ((c .before .before .before .before .before .before .before .before .before .before .before .before .before .before .before .before .before .before .before .before) .args .r .now)) (dec ((c .before .before .before .before .before .before .before .before .before .before .before .before .before .before .before .before .before .before .before .before) .args .width) ((c .before .before .before .before .before .before .before .before .before .before .before .before .before .before .before .before .before .before .before .before) .args .s .now)) ((c .before .before .before .before .before .before .before .before .before .before .before .before .before .before .before .before .before .before .before .before) .pre .1 .1) ((c .before .before .before .before .before .before .before .before .before .product) .result) (few-a·mul-lead t (c .before .before .before .before)))))
+    (omega (arith, ((c .before .before .before .before .before .before .before .before .before .before .before .before .before .before .before .before .before .before .before .before) .pre .0)), ((((c .before .before .before .before .before .before .before .before .before .before .before .before .before .before .before .before .before .before .before .before) .pre .1 .0 .0 .1), ((c .before .before .before .before .before .before .before .before .before .before .before .before .before .before .before .before .before .before .before .before) .pre .1 .0 .1 .1)), space-at (behind·mul-lead t (c .before .before .before .before)) (sym ((c .before .before .before .before .before .before .before .before .before .product) .kept .1 .1 .1 .1 .0)) (sym ((c .before .before .before .before .before .before .before .before .before .product) .kept .1 .1 .1 .1 .1 .0)) (space-rests ((c .before .before .before .before .before .before .before .before .before .before .before .before .before .before .before .before .before .before .before .before) .args .i) ((c .before .before .before .before .before .before .before .before .before .before .before .before .before .before .before .before .before .before .before .before) .args .j) (dec ((c .before .before .before .before .before .before .before .before .before .before .before .before .before .before .before .before .before .before .before .before) .args .width) ((c .before .before .before .before .before .before .before .before .before .before .before .before .before .before .before .before .before .before .before .before) .args .p .now)) (dec ((c .before .before .before .before .before .before .before .before .before .before .before .before .before .before .before .before .before .before .before .before) .args .width) ((c .before .before .before .before .before .before .before .before .before .before .before .before .before .before .before .before .before .before .before .before) .args .q .now)) (dec ((c .before .before .before .before .before .before .before .before .before .before .before .before .before .before .before .before .before .before .before .before) .args .width) ((c .before .before .before .before .before .before .before .before .before .before .before .before .before .before .before .before .before .before .before .before) .args .r .now)) (dec ((c .before .before .before .before .before .before .before .before .before .before .before .before .before .before .before .before .before .before .before .before) .args .width) ((c .before .before .before .before .before .before .before .before .before .before .before .before .before .before .before .before .before .before .before .before) .args .s .now)) ((c .before .before .before .before .before .before .before .before .before .before .before .before .before .before .before .before .before .before .before .before) .pre .1 .1) ((c .before .before .before .before .before .before .before .before .before .product) .result) (few-a·mul-lead t (c .before .before .before .before)))))
 
 -- src/lib.rt:277:33
 mul-lead-add-make-pow : (t : ℕ) → mul-lead-lts.Need-add-make-pow (product-below t, product.Post, make-pow-reads.Asked, make-pow-reads.Learnt) (mul-lead-at t) mul-lead.Post
-mul-lead-add-make-pow t c = omega (arith, (good-pow ((c .before .before .before .before .before .before .before .before .before .before .before .before .before .before .before .before .before .before .before .before .before .before .before .before .before .before .before .before) .args .width) ((c .before .before .before .before .before .before .before .before .before .before .before .before .before .before .before .before .before .before .before .before .before .before .before .before .before .before .before .before) .args .i) (dec ((c .before .before .before .before .before .before .before .before .before .before .before .before .before .before .before .before .before .before .before .before .before .before .before .before .before .before .before .before) .args .width) ((c .before .before .before .before .before .before .before .before .before .before .before .before .before .before .before .before .before .before .before .before .before .before .before .before .before .before .before .before) .args .p .now)) (dec ((c .before .before .before .before .before .before .before .before .before .before .before .before .before .before .before .before .before .before .before .before .before .before .before .before .before .before .before .before) .args .width) ((c .before .before .before .before .before .before .before .before .before .before .before .before .before .before .before .before .before .before .before .before .before .before .before .before .before .before .before .before) .args .q .now)) (fit-x (((c .before .before .before .before .before .before .before .before .before .before .before .before .before .before .before .before .before .before .before .before .before .before .before .before .before .before .before .before) .pre .1 .1) .fit) .good)) .1 .0, (good-pow ((c .before .before .before .before .before .before .before .before .before .before .before .before .before .before .before .before .before .before .before .before .before .before .before .before .before .before .before .before) .args .width) ((c .before .before .before .before .before .before .before .before .before .before .before .before .before .before .before .before .before .before .before .before .before .before .before .before .before .before .before .before) .args .j) (dec ((c .before .before .before .before .before .before .before .before .before .before .before .before .before .before .before .before .before .before .before .before .before .before .before .before .before .before .before .before) .args .width) ((c .before .before .before .before .before .before .before .before .before .before .before .before .before .before .before .before .before .before .before .before .before .before .before .before .before .before .before .before) .args .r .now)) (dec ((c .before .before .before .before .before .before .before .before .before .before .before .before .before .before .before .before .before .before .before .before .before .before .before .before .before .before .before .before) .args .width) ((c .before .before .before .before .before .before .before .before .before .before .before .before .before .before .before .before .before .before .before .before .before .before .before .before .before .before .before .before) .args .s .now)) (fit-y (((c .before .before .before .before .before .before .before .before .before .before .before .before .before .before .before .before .before .before .before .before .before .before .before .before .before .before .before .before) .pre .1 .1) .fit) .good)) .1 .0)
+mul-lead-add-make-pow t c = omega (arith, (good-pow (fit-x (((c .before .before .before .before .before .before .before .before .before .before .before .before .before .before .before .before .before .before .before .before .before .before .before .before .before .before .before .before) .pre .1 .1) .fit) .good)) .1 .0, (good-pow (fit-y (((c .before .before .before .before .before .before .before .before .before .before .before .before .before .before .before .before .before .before .before .before .before .before .before .before .before .before .before .before) .pre .1 .1) .fit) .good)) .1 .0)
 
 -- src/lib.rt:277:5
 mul-lead-make-pow-requires : (t : ℕ) → mul-lead-lts.Need-make-pow-requires (product-below t, product.Post, make-pow-reads.Asked, make-pow-reads.Learnt) (mul-lead-at t) mul-lead.Post
-mul-lead-make-pow-requires t c κs = (
-  (
-    omega (arith, begins-le ((c .before .before .before .before .before .before .before .product2) .ensures), (c .before .before .before .before .before .before .before .product2) .kept .1 .1 .1 .0, length-tail-part (1 + ((c .before .before .before .before .before .before .before .before .before .before .before .before .before .before .before .before .before .product) .result)) (putMid 1 (length ((c .before .before .before .before .before .before .before .before .before .before .before .before .before .before .before .before .before .before .before .before .before .before .before .before .before .before .before .before) .args .out .now) - 1) ((c .before .before .before .before .before .before .before .before .before .before .before .before .before .before .before .before .before .before .before .before .before .before .before .before .before .before .before .before) .args .out .now) ((c .before .before .before .before .before .before .before .before .before .before .before .before .before .before .before .before .before .product) .last .1 .1 .1 .0)), a-size·mul-lead t (c .before .before .before .before .before .before .before .before .before .before .before .before), (c .before .before .before .before .before .before .out2) .given .1),
-    omega (arith, ((c .before .before .before .before .before .before .before .before .before .before .before .before .before .before .before .before .before .before .before .before .before .before .before .before .before .before .before .before) .pre .1 .1) .tables, (c .before .before .before .before .before .before .before .before .before .before .before .before .before .before .before .before .out) .given .1, (c .before .before .before .before .before .before .out2) .given .1),
-  ),
-  (
-    (coded (kept-a·mul-lead t (c .before .before)), coded (made-b·mul-lead t (c .before .before))),
-    (omega (arith, (good-pow ((c .before .before .before .before .before .before .before .before .before .before .before .before .before .before .before .before .before .before .before .before .before .before .before .before .before .before .before .before) .args .width) ((c .before .before .before .before .before .before .before .before .before .before .before .before .before .before .before .before .before .before .before .before .before .before .before .before .before .before .before .before) .args .i) (dec ((c .before .before .before .before .before .before .before .before .before .before .before .before .before .before .before .before .before .before .before .before .before .before .before .before .before .before .before .before) .args .width) ((c .before .before .before .before .before .before .before .before .before .before .before .before .before .before .before .before .before .before .before .before .before .before .before .before .before .before .before .before) .args .p .now)) (dec ((c .before .before .before .before .before .before .before .before .before .before .before .before .before .before .before .before .before .before .before .before .before .before .before .before .before .before .before .before) .args .width) ((c .before .before .before .before .before .before .before .before .before .before .before .before .before .before .before .before .before .before .before .before .before .before .before .before .before .before .before .before) .args .q .now)) (fit-x (((c .before .before .before .before .before .before .before .before .before .before .before .before .before .before .before .before .before .before .before .before .before .before .before .before .before .before .before .before) .pre .1 .1) .fit) .good)) .0), mkpow-good (kept-a·mul-lead t (c .before .before)) (made-b·mul-lead t (c .before .before)) (((c .before .before .before .before .before .before .before .before .before .before .before .before .before .before .before .before .before .before .before .before .before .before .before .before .before .before .before .before) .args .i) + ((c .before .before .before .before .before .before .before .before .before .before .before .before .before .before .before .before .before .before .before .before .before .before .before .before .before .before .before .before) .args .j)) (lead-held ((c .before .before .before .before .before .before .before .before .before .before .before .before .before .before .before .before .before .before .before .before .before .before .before .before .before .before .before .before) .args .i) ((c .before .before .before .before .before .before .before .before .before .before .before .before .before .before .before .before .before .before .before .before .before .before .before .before .before .before .before .before) .args .j) (dec ((c .before .before .before .before .before .before .before .before .before .before .before .before .before .before .before .before .before .before .before .before .before .before .before .before .before .before .before .before) .args .width) ((c .before .before .before .before .before .before .before .before .before .before .before .before .before .before .before .before .before .before .before .before .before .before .before .before .before .before .before .before) .args .p .now)) (dec ((c .before .before .before .before .before .before .before .before .before .before .before .before .before .before .before .before .before .before .before .before .before .before .before .before .before .before .before .before) .args .width) ((c .before .before .before .before .before .before .before .before .before .before .before .before .before .before .before .before .before .before .before .before .before .before .before .before .before .before .before .before) .args .q .now)) (dec ((c .before .before .before .before .before .before .before .before .before .before .before .before .before .before .before .before .before .before .before .before .before .before .before .before .before .before .before .before) .args .width) ((c .before .before .before .before .before .before .before .before .before .before .before .before .before .before .before .before .before .before .before .before .before .before .before .before .before .before .before .before) .args .r .now)) (dec ((c .before .before .before .before .before .before .before .before .before .before .before .before .before .before .before .before .before .before .before .before .before .before .before .before .before .before .before .before) .args .width) ((c .before .before .before .before .before .before .before .before .before .before .before .before .before .before .before .before .before .before .before .before .before .before .before .before .before .before .before .before) .args .s .now)) (((c .before .before .before .before .before .before .before .before .before .before .before .before .before .before .before .before .before .before .before .before .before .before .before .before .before .before .before .before) .pre .1 .1) .fit) .good)),
-  ),
-)
+mul-lead-make-pow-requires t c κs =
+    (
+      (
+        omega (arith, begins-le ((c .before .before .before .before .before .before .before .product2) .ensures), (c .before .before .before .before .before .before .before .product2) .kept .1 .1 .1 .0, length-tail-part (1 + ((c .before .before .before .before .before .before .before .before .before .before .before .before .before .before .before .before .before .product) .result)) (one-put ((c .before .before .before .before .before .before .before .before .before .before .before .before .before .before .before .before .before .before .before .before .before .before .before .before .before .before .before .before) .args .out .now) ((c .before .before .before .before .before .before .before .before .before .before .before .before .before .before .before .before .before .product) .last .1 .1 .1 .0)), a-size·mul-lead t (c .before .before .before .before .before .before .before .before .before .before .before .before), (c .before .before .before .before .before .before .out2) .given .1),
+        omega (arith, ((c .before .before .before .before .before .before .before .before .before .before .before .before .before .before .before .before .before .before .before .before .before .before .before .before .before .before .before .before) .pre .1 .1) .tables, (c .before .before .before .before .before .before .before .before .before .before .before .before .before .before .before .before .out) .given .1, (c .before .before .before .before .before .before .out2) .given .1),
+      ),
+      (
+        (coded (made·mul-lead t (c .before .before) .0), coded (made·mul-lead t (c .before .before) .1)),
+        (omega (arith, (good-pow (fit-x (((c .before .before .before .before .before .before .before .before .before .before .before .before .before .before .before .before .before .before .before .before .before .before .before .before .before .before .before .before) .pre .1 .1) .fit) .good)) .0), pow-asks (((c .before .before .before .before .before .before .before .before .before .before .before .before .before .before .before .before .before .before .before .before .before .before .before .before .before .before .before .before) .args .i) + ((c .before .before .before .before .before .before .before .before .before .before .before .before .before .before .before .before .before .before .before .before .before .before .before .before .before .before .before .before) .args .j)) (made·mul-lead t (c .before .before)) refl (lead-held ((c .before .before .before .before .before .before .before .before .before .before .before .before .before .before .before .before .before .before .before .before .before .before .before .before .before .before .before .before) .args .i) ((c .before .before .before .before .before .before .before .before .before .before .before .before .before .before .before .before .before .before .before .before .before .before .before .before .before .before .before .before) .args .j) (dec ((c .before .before .before .before .before .before .before .before .before .before .before .before .before .before .before .before .before .before .before .before .before .before .before .before .before .before .before .before) .args .width) ((c .before .before .before .before .before .before .before .before .before .before .before .before .before .before .before .before .before .before .before .before .before .before .before .before .before .before .before .before) .args .p .now)) (dec ((c .before .before .before .before .before .before .before .before .before .before .before .before .before .before .before .before .before .before .before .before .before .before .before .before .before .before .before .before) .args .width) ((c .before .before .before .before .before .before .before .before .before .before .before .before .before .before .before .before .before .before .before .before .before .before .before .before .before .before .before .before) .args .q .now)) (dec ((c .before .before .before .before .before .before .before .before .before .before .before .before .before .before .before .before .before .before .before .before .before .before .before .before .before .before .before .before) .args .width) ((c .before .before .before .before .before .before .before .before .before .before .before .before .before .before .before .before .before .before .before .before .before .before .before .before .before .before .before .before) .args .r .now)) (dec ((c .before .before .before .before .before .before .before .before .before .before .before .before .before .before .before .before .before .before .before .before .before .before .before .before .before .before .before .before) .args .width) ((c .before .before .before .before .before .before .before .before .before .before .before .before .before .before .before .before .before .before .before .before .before .before .before .before .before .before .before .before) .args .s .now)) (((c .before .before .before .before .before .before .before .before .before .before .before .before .before .before .before .before .before .before .before .before .before .before .before .before .before .before .before .before) .pre .1 .1) .fit) .good)),
+      ),
+    )
 
 -- src/lib.rt:258:1
 mul-lead-same-length : (t : ℕ) → mul-lead-lts.Need-same-length (product-below t, product.Post, make-pow-reads.Asked, make-pow-reads.Learnt) (mul-lead-at t) mul-lead.Post
@@ -697,7 +649,7 @@ mul-lead-same-length-3 t c = search needs
 
 -- src/lib.rt:258:1
 mul-lead-returns : (t : ℕ) → mul-lead-lts.Need-returns (product-below t, product.Post, make-pow-reads.Asked, make-pow-reads.Learnt) (mul-lead-at t) mul-lead.Post
-mul-lead-returns t c = begins-as ((c .before .before .make-pow) .ensures) (mkpow-enc (kept-a·mul-lead t (c .before .before .before .before .before)) (made-b·mul-lead t (c .before .before .before .before .before)) (((c .before .before .before .before .before .before .before .before .before .before .before .before .before .before .before .before .before .before .before .before .before .before .before .before .before .before .before .before .before .before .before) .args .i) + ((c .before .before .before .before .before .before .before .before .before .before .before .before .before .before .before .before .before .before .before .before .before .before .before .before .before .before .before .before .before .before .before) .args .j)))
+mul-lead-returns t c = pow-gives (((c .before .before .before .before .before .before .before .before .before .before .before .before .before .before .before .before .before .before .before .before .before .before .before .before .before .before .before .before .before .before .before) .args .i) + ((c .before .before .before .before .before .before .before .before .before .before .before .before .before .before .before .before .before .before .before .before .before .before .before .before .before .before .before .before .before .before .before) .args .j)) (made·mul-lead t (c .before .before .before .before .before)) refl ((c .before .before .make-pow) .ensures)
 
 -- src/lib.rt:197:9
 mul-less-product-requires : (t : ℕ) → mul-less-lts.Need-product-requires (product-below t, product.Post, mul-pop-below t, mul-pop.Post) (mul-less-at t) mul-less.Post
@@ -779,10 +731,11 @@ mul-pop-part-mul-pops-end t c = search needs
 
 -- src/lib.rt:82:9
 mul-pop-mul-pops-requires : (t : ℕ) → mul-pop-lts.Need-mul-pops-requires (scale-pop-reads.Asked, scale-pop-reads.Learnt, mul-pops-below t, mul-pops.Post, mul-pop-pow-below t, mul-pop-pow.Post) (mul-pop-at t) mul-pop.Post
-mul-pop-mul-pops-requires t c κs = (
-  omega (arith, codes-length (inner·mul-pop t (c .before .before .before .before)), is-pop·mul-pop t (c .before .before .before .before), ((c .before .before .before .before .before .before .before .before .before .before .before .before) .pre .0)),
-  ((((c .before .before .before .before .before .before .before .before .before .before .before .before) .pre .1 .0 .0), coded (inner·mul-pop t (c .before .before .before .before))), subst (λ h. PopSpace ((c .before .before .before .before .before .before .before .before .before .before .before .before) .args .width) (pop ((c .before .before .before .before .before .before .before .before .before .before .before .before) .args .i) (dec ((c .before .before .before .before .before .before .before .before .before .before .before .before) .args .width) ((c .before .before .before .before .before .before .before .before .before .before .before .before) .args .p .now))) h (length ((c .before .before .before .before .before .before .before .before .before .before .before .before) .args .out .now)) (length ((c .before .before .before .before .before .before .before .before .before .before .before .before) .args .t .now)) (length ((c .before .before .before .before .before .before .before .before .before .before .before .before) .args .u .now))) (sym (pop-is (is-pop·mul-pop t (c .before .before .before .before)) _ (dec-enc (inner·mul-pop t (c .before .before .before .before))))) ((c .before .before .before .before .before .before .before .before .before .before .before .before) .pre .1 .1)),
-)
+mul-pop-mul-pops-requires t c κs =
+    (
+      omega (arith, (is-pop·mul-pop t (c .before .before .before .before)), ((c .before .before .before .before .before .before .before .before .before .before .before .before) .pre .0)),
+      ((((c .before .before .before .before .before .before .before .before .before .before .before .before) .pre .1 .0 .0), (is-pop·mul-pop t (c .before .before .before .before)) .part), subst (λ h. PopSpace ((c .before .before .before .before .before .before .before .before .before .before .before .before) .args .width) (pop ((c .before .before .before .before .before .before .before .before .before .before .before .before) .args .i) (dec ((c .before .before .before .before .before .before .before .before .before .before .before .before) .args .width) ((c .before .before .before .before .before .before .before .before .before .before .before .before) .args .p .now))) h (length ((c .before .before .before .before .before .before .before .before .before .before .before .before) .args .out .now)) (length ((c .before .before .before .before .before .before .before .before .before .before .before .before) .args .t .now)) (length ((c .before .before .before .before .before .before .before .before .before .before .before .before) .args .u .now))) ((is-pop·mul-pop t (c .before .before .before .before)) .is) ((c .before .before .before .before .before .before .before .before .before .before .before .before) .pre .1 .1)),
+    )
 
 -- src/lib.rt:82:9
 mul-pop-same-length-2 : (t : ℕ) → mul-pop-lts.Need-same-length-2 (scale-pop-reads.Asked, scale-pop-reads.Learnt, mul-pops-below t, mul-pops.Post, mul-pop-pow-below t, mul-pop-pow.Post) (mul-pop-at t) mul-pop.Post
@@ -798,7 +751,7 @@ mul-pop-same-length-4 t c = search needs
 
 -- src/lib.rt:82:9
 mul-pop-returns-2 : (t : ℕ) → mul-pop-lts.Need-returns-2 (scale-pop-reads.Asked, scale-pop-reads.Learnt, mul-pops-below t, mul-pops.Post, mul-pop-pow-below t, mul-pop-pow.Post) (mul-pop-at t) mul-pop.Post
-mul-pop-returns-2 t c = begins-as ((c .before .before .before .before .before .before .mul-pops) .ensures) (ap (λ h. enc ((c .before .before .before .before .before .before .before .before .before .before .before .before .before .before .before .before .before .before .before) .args .width) (prodOf ((c .before .before .before .before .before .before .before .before .before .before .before .before .before .before .before .before .before .before .before) .args .width) (pop ((c .before .before .before .before .before .before .before .before .before .before .before .before .before .before .before .before .before .before .before) .args .i) (dec ((c .before .before .before .before .before .before .before .before .before .before .before .before .before .before .before .before .before .before .before) .args .width) ((c .before .before .before .before .before .before .before .before .before .before .before .before .before .before .before .before .before .before .before) .args .p .now))) h)) (pop-is (is-pop·mul-pop t (c .before .before .before .before .before .before .before .before .before .before .before)) _ (dec-enc (inner·mul-pop t (c .before .before .before .before .before .before .before .before .before .before .before)))))
+mul-pop-returns-2 t c = begins-as ((c .before .before .before .before .before .before .mul-pops) .ensures) (ap (λ h. enc ((c .before .before .before .before .before .before .before .before .before .before .before .before .before .before .before .before .before .before .before) .args .width) (prodOf ((c .before .before .before .before .before .before .before .before .before .before .before .before .before .before .before .before .before .before .before) .args .width) (pop ((c .before .before .before .before .before .before .before .before .before .before .before .before .before .before .before .before .before .before .before) .args .i) (dec ((c .before .before .before .before .before .before .before .before .before .before .before .before .before .before .before .before .before .before .before) .args .width) ((c .before .before .before .before .before .before .before .before .before .before .before .before .before .before .before .before .before .before .before) .args .p .now))) h)) (sym ((is-pop·mul-pop t (c .before .before .before .before .before .before .before .before .before .before .before)) .is)))
 
 -- src/lib.rt:84:5
 mul-pop-mul-pop-pow-requires : (t : ℕ) → mul-pop-lts.Need-mul-pop-pow-requires (scale-pop-reads.Asked, scale-pop-reads.Learnt, mul-pops-below t, mul-pops.Post, mul-pop-pow-below t, mul-pop-pow.Post) (mul-pop-at t) mul-pop.Post
@@ -862,14 +815,7 @@ mul-pop-pow-part-mul-pop-end-2 t c = search needs
 
 -- src/lib.rt:175:9
 mul-pop-pow-mul-pop-requires : (t : ℕ) → mul-pop-pow-lts.Need-mul-pop-requires (mul-pop-below t, mul-pop.Post, mul-less-below t, mul-less.Post, make-pow-reads.Asked, make-pow-reads.Learnt) (mul-pop-pow-at t) mul-pop-pow.Post
-mul-pop-pow-mul-pop-requires t c κs = (
-  omega (arith, codes-length (left·mul-pop-pow t (c .before .before .before .before .before .before .before .before .before .before)), (is-pow·mul-pop-pow t (c .before .before .before .before .before .before .before .before .before .before)), ((c .before .before .before .before .before .before .before .before .before .before) .pre .0)),
-  (
-    (((c .before .before .before .before .before .before .before .before .before .before) .pre .1 .0 .0), coded (left·mul-pop-pow t (c .before .before .before .before .before .before .before .before .before .before))),
-    subst (λ h. PopSpace ((c .before .before .before .before .before .before .before .before .before .before) .args .width) (pop ((c .before .before .before .before .before .before .before .before .before .before) .args .i) (dec ((c .before .before .before .before .before .before .before .before .before .before) .args .width) ((c .before .before .before .before .before .before .before .before .before .before) .args .p .now))) h (length (take (length ((c .before .before .before .before .before .before .before .before .before .before) .args .out .now) - 1) (drop 1 ((c .before .before .before .before .before .before .before .before .before .before) .args .out .now)))) (length ((c .before .before .before .before .before .before .before .before .before .before) .args .t .now)) (length ((c .before .before .before .before .before .before .before .before .before .before) .args .u .now))) (sym (dec-enc (left·mul-pop-pow t (c .before .before .before .before .before .before .before .before .before .before))))
-        (pop-space-at (sym (length-tail-part 1 ((c .before .before .before .before .before .before .before .before .before .before) .args .out .now))) refl refl (pop-space-pow ((c .before .before .before .before .before .before .before .before .before .before) .args .i) ((is-pow·mul-pop-pow t (c .before .before .before .before .before .before .before .before .before .before)) .i) (dec ((c .before .before .before .before .before .before .before .before .before .before) .args .width) ((c .before .before .before .before .before .before .before .before .before .before) .args .p .now)) ((is-pow·mul-pop-pow t (c .before .before .before .before .before .before .before .before .before .before)) .p) ((is-pow·mul-pop-pow t (c .before .before .before .before .before .before .before .before .before .before)) .q) (space-pow·mul-pop-pow t (c .before .before .before .before .before .before .before .before .before .before)))),
-  ),
-)
+mul-pop-pow-mul-pop-requires t c κs = (omega (arith, (is-pow·mul-pop-pow t (c .before .before .before .before .before .before .before .before .before .before)), ((c .before .before .before .before .before .before .before .before .before .before) .pre .0)), ((((c .before .before .before .before .before .before .before .before .before .before) .pre .1 .0 .0), (is-pow·mul-pop-pow t (c .before .before .before .before .before .before .before .before .before .before)) .left), pop-space-at (sym (length-tail-part 1 ((c .before .before .before .before .before .before .before .before .before .before) .args .out .now))) refl refl (pop-space-pow ((c .before .before .before .before .before .before .before .before .before .before) .args .i) ((getD ((c .before .before .before .before .before .before .before .before .before .before) .args .y .now) 0 0) % 64) (dec ((c .before .before .before .before .before .before .before .before .before .before) .args .width) ((c .before .before .before .before .before .before .before .before .before .before) .args .p .now)) (dec ((c .before .before .before .before .before .before .before .before .before .before) .args .width) (first ((c .before .before .before .before .before .before .before .before .before .before) .args .y .now))) (dec ((c .before .before .before .before .before .before .before .before .before .before) .args .width) (rest ((c .before .before .before .before .before .before .before .before .before .before) .args .y .now))) (space-pow·mul-pop-pow t (c .before .before .before .before .before .before .before .before .before .before)))))
 
 -- src/lib.rt:176:13
 mul-pop-pow-add-f : (t : ℕ) → mul-pop-pow-lts.Need-add-f (mul-pop-below t, mul-pop.Post, mul-less-below t, mul-less.Post, make-pow-reads.Asked, make-pow-reads.Learnt) (mul-pop-pow-at t) mul-pop-pow.Post
@@ -909,30 +855,28 @@ mul-pop-pow-part-mul-less-end-2 t c = search needs
 
 -- src/lib.rt:177:9
 mul-pop-pow-mul-less-requires : (t : ℕ) → mul-pop-pow-lts.Need-mul-less-requires (mul-pop-below t, mul-pop.Post, mul-less-below t, mul-less.Post, make-pow-reads.Asked, make-pow-reads.Learnt) (mul-pop-pow-at t) mul-pop-pow.Post
-mul-pop-pow-mul-less-requires t c κs = (
-  omega (arith, codes-length (right·mul-pop-pow t (c .before .before .before .before .before .before .before .before .before .before .before .before .before .before .before .before .before .before .before .before .before)), (is-pow·mul-pop-pow t (c .before .before .before .before .before .before .before .before .before .before .before .before .before .before .before .before .before .before .before .before .before)), ((c .before .before .before .before .before .before .before .before .before .before .before .before .before .before .before .before .before .before .before .before .before) .pre .0)),
-  (
-    (((c .before .before .before .before .before .before .before .before .before .before .before .before .before .before .before .before .before .before .before .before .before) .pre .1 .0 .0), coded (right·mul-pop-pow t (c .before .before .before .before .before .before .before .before .before .before .before .before .before .before .before .before .before .before .before .before .before))),
+mul-pop-pow-mul-less-requires t c κs =
     (
-      (good-pop ((c .before .before .before .before .before .before .before .before .before .before .before .before .before .before .before .before .before .before .before .before .before) .args .width) ((c .before .before .before .before .before .before .before .before .before .before .before .before .before .before .before .before .before .before .before .before .before) .args .i) (dec ((c .before .before .before .before .before .before .before .before .before .before .before .before .before .before .before .before .before .before .before .before .before) .args .width) ((c .before .before .before .before .before .before .before .before .before .before .before .before .before .before .before .before .before .before .before .before .before) .args .p .now)) (fit-x (((c .before .before .before .before .before .before .before .before .before .before .before .before .before .before .before .before .before .before .before .before .before) .pre .1 .1 .0) .fit) .good) .0),
-      subst (λ h. Space ((c .before .before .before .before .before .before .before .before .before .before .before .before .before .before .before .before .before .before .before .before .before) .args .width) (lower (((c .before .before .before .before .before .before .before .before .before .before .before .before .before .before .before .before .before .before .before .before .before) .args .i) - 1) (dec ((c .before .before .before .before .before .before .before .before .before .before .before .before .before .before .before .before .before .before .before .before .before) .args .width) ((c .before .before .before .before .before .before .before .before .before .before .before .before .before .before .before .before .before .before .before .before .before) .args .p .now))) h (length (take (length (putMid 1 (length ((c .before .before .before .before .before .before .before .before .before .before .before .before .before .before .before .before .before .before .before .before .before) .args .out .now) - 1) ((c .before .before .before .before .before .before .before .before .before .before .before .before .before .before .before .before .before .before .before .before .before) .args .out .now) ((c .before .before .before .before .before .before .before .before .before .before .mul-pop) .last .1 .1 .1 .1 .0)) - (1 + ((c .before .before .before .before .before .before .before .before .before .before .mul-pop) .result))) (drop (1 + ((c .before .before .before .before .before .before .before .before .before .before .mul-pop) .result)) (putMid 1 (length ((c .before .before .before .before .before .before .before .before .before .before .before .before .before .before .before .before .before .before .before .before .before) .args .out .now) - 1) ((c .before .before .before .before .before .before .before .before .before .before .before .before .before .before .before .before .before .before .before .before .before) .args .out .now) ((c .before .before .before .before .before .before .before .before .before .before .mul-pop) .last .1 .1 .1 .1 .0))))) (length ((c .before .before .before .before .before .before .before .before .before .before .mul-pop) .last .1 .1 .1 .1 .1 .0)) (length ((c .before .before .before .before .before .before .before .before .before .before .mul-pop) .last .1 .1 .1 .1 .1 .1 .0))) (sym (dec-enc (right·mul-pop-pow t (c .before .before .before .before .before .before .before .before .before .before .before .before .before .before .before .before .before .before .before .before .before))))
-          (space-at (rest·mul-pop-pow t (c .before .before .before .before .before)) (sym ((c .before .before .before .before .before .before .before .before .before .before .mul-pop) .kept .1 .1 .1 .1 .1 .0)) (sym ((c .before .before .before .before .before .before .before .before .before .before .mul-pop) .kept .1 .1 .1 .1 .1 .1 .0)) (space-lower ((c .before .before .before .before .before .before .before .before .before .before .before .before .before .before .before .before .before .before .before .before .before) .args .i) ((is-pow·mul-pop-pow t (c .before .before .before .before .before .before .before .before .before .before .before .before .before .before .before .before .before .before .before .before .before)) .i) (dec ((c .before .before .before .before .before .before .before .before .before .before .before .before .before .before .before .before .before .before .before .before .before) .args .width) ((c .before .before .before .before .before .before .before .before .before .before .before .before .before .before .before .before .before .before .before .before .before) .args .p .now)) ((is-pow·mul-pop-pow t (c .before .before .before .before .before .before .before .before .before .before .before .before .before .before .before .before .before .before .before .before .before)) .p) ((is-pow·mul-pop-pow t (c .before .before .before .before .before .before .before .before .before .before .before .before .before .before .before .before .before .before .before .before .before)) .q) (space-pow·mul-pop-pow t (c .before .before .before .before .before .before .before .before .before .before .before .before .before .before .before .before .before .before .before .before .before)) ((c .before .before .before .before .before .before .before .before .before .before .mul-pop) .result) (few-a·mul-pop-pow t (c .before .before .before .before .before)))),
-    ),
-  ),
-)
+      omega (arith, (is-pow·mul-pop-pow t (c .before .before .before .before .before .before .before .before .before .before .before .before .before .before .before .before .before .before .before .before .before)), ((c .before .before .before .before .before .before .before .before .before .before .before .before .before .before .before .before .before .before .before .before .before) .pre .0)),
+      (
+        (((c .before .before .before .before .before .before .before .before .before .before .before .before .before .before .before .before .before .before .before .before .before) .pre .1 .0 .0), (is-pow·mul-pop-pow t (c .before .before .before .before .before .before .before .before .before .before .before .before .before .before .before .before .before .before .before .before .before)) .right),
+        ((good-pop (fit-x (((c .before .before .before .before .before .before .before .before .before .before .before .before .before .before .before .before .before .before .before .before .before) .pre .1 .1 .0) .fit) .good) .0), space-at (behind·mul-pop-pow t (c .before .before .before .before .before)) (sym ((c .before .before .before .before .before .before .before .before .before .before .mul-pop) .kept .1 .1 .1 .1 .1 .0)) (sym ((c .before .before .before .before .before .before .before .before .before .before .mul-pop) .kept .1 .1 .1 .1 .1 .1 .0)) (space-lower ((c .before .before .before .before .before .before .before .before .before .before .before .before .before .before .before .before .before .before .before .before .before) .args .i) ((getD ((c .before .before .before .before .before .before .before .before .before .before .before .before .before .before .before .before .before .before .before .before .before) .args .y .now) 0 0) % 64) (dec ((c .before .before .before .before .before .before .before .before .before .before .before .before .before .before .before .before .before .before .before .before .before) .args .width) ((c .before .before .before .before .before .before .before .before .before .before .before .before .before .before .before .before .before .before .before .before .before) .args .p .now)) (dec ((c .before .before .before .before .before .before .before .before .before .before .before .before .before .before .before .before .before .before .before .before .before) .args .width) (first ((c .before .before .before .before .before .before .before .before .before .before .before .before .before .before .before .before .before .before .before .before .before) .args .y .now))) (dec ((c .before .before .before .before .before .before .before .before .before .before .before .before .before .before .before .before .before .before .before .before .before) .args .width) (rest ((c .before .before .before .before .before .before .before .before .before .before .before .before .before .before .before .before .before .before .before .before .before) .args .y .now))) (space-pow·mul-pop-pow t (c .before .before .before .before .before .before .before .before .before .before .before .before .before .before .before .before .before .before .before .before .before)) ((c .before .before .before .before .before .before .before .before .before .before .mul-pop) .result) (few-a·mul-pop-pow t (c .before .before .before .before .before)))),
+      ),
+    )
 
 -- src/lib.rt:178:5
 mul-pop-pow-make-pow-requires : (t : ℕ) → mul-pop-pow-lts.Need-make-pow-requires (mul-pop-below t, mul-pop.Post, mul-less-below t, mul-less.Post, make-pow-reads.Asked, make-pow-reads.Learnt) (mul-pop-pow-at t) mul-pop-pow.Post
-mul-pop-pow-make-pow-requires t c κs = (
-  (
-    omega (arith, begins-le (ens2·mul-pop-pow t (c .before .before)), (c .before .before .before .before .before .before .before .mul-less) .kept .1 .1 .1 .1 .0, length-tail-part (1 + ((c .before .before .before .before .before .before .before .before .before .before .before .before .before .before .before .before .before .before .mul-pop) .result)) (putMid 1 (length ((c .before .before .before .before .before .before .before .before .before .before .before .before .before .before .before .before .before .before .before .before .before .before .before .before .before .before .before .before .before) .args .out .now) - 1) ((c .before .before .before .before .before .before .before .before .before .before .before .before .before .before .before .before .before .before .before .before .before .before .before .before .before .before .before .before .before) .args .out .now) ((c .before .before .before .before .before .before .before .before .before .before .before .before .before .before .before .before .before .before .mul-pop) .last .1 .1 .1 .1 .0)), a-size·mul-pop-pow t (c .before .before .before .before .before .before .before .before .before .before .before .before .before), (c .before .before .before .before .before .before .out2) .given .1),
-    omega (arith, ((c .before .before .before .before .before .before .before .before .before .before .before .before .before .before .before .before .before .before .before .before .before .before .before .before .before .before .before .before .before) .pre .1 .1 .0) .tables, (c .before .before .before .before .before .before .before .before .before .before .before .before .before .before .before .before .before .out) .given .1, (c .before .before .before .before .before .before .out2) .given .1),
-  ),
-  (
-    (coded (kept-a·mul-pop-pow t (c .before .before)), coded (made-b·mul-pop-pow t (c .before .before))),
-    (omega (arith, (is-pow·mul-pop-pow t (c .before .before .before .before .before .before .before .before .before .before .before .before .before .before .before .before .before .before .before .before .before .before .before .before .before .before .before .before .before))), mkpow-good (kept-a·mul-pop-pow t (c .before .before)) (made-b·mul-pop-pow t (c .before .before)) ((getD ((c .before .before .before .before .before .before .before .before .before .before .before .before .before .before .before .before .before .before .before .before .before .before .before .before .before .before .before .before .before) .args .y .now) 0 0) % 64) (subst (Good ((c .before .before .before .before .before .before .before .before .before .before .before .before .before .before .before .before .before .before .before .before .before .before .before .before .before .before .before .before .before) .args .width)) (times-is·mul-pop-pow t (c .before .before .before .before .before .before .before .before .before .before .before .before .before .before .before .before .before .before .before .before .before .before .before .before .before .before .before .before .before)) (fit-prod (((c .before .before .before .before .before .before .before .before .before .before .before .before .before .before .before .before .before .before .before .before .before .before .before .before .before .before .before .before .before) .pre .1 .1 .0) .fit) .good))),
-  ),
-)
+mul-pop-pow-make-pow-requires t c κs =
+    (
+      (
+        omega (arith, begins-le ((c .before .before .before .before .before .before .before .mul-less) .ensures), (c .before .before .before .before .before .before .before .mul-less) .kept .1 .1 .1 .1 .0, length-tail-part (1 + ((c .before .before .before .before .before .before .before .before .before .before .before .before .before .before .before .before .before .before .mul-pop) .result)) (one-put ((c .before .before .before .before .before .before .before .before .before .before .before .before .before .before .before .before .before .before .before .before .before .before .before .before .before .before .before .before .before) .args .out .now) ((c .before .before .before .before .before .before .before .before .before .before .before .before .before .before .before .before .before .before .mul-pop) .last .1 .1 .1 .1 .0)), a-size·mul-pop-pow t (c .before .before .before .before .before .before .before .before .before .before .before .before .before), (c .before .before .before .before .before .before .out2) .given .1),
+        omega (arith, ((c .before .before .before .before .before .before .before .before .before .before .before .before .before .before .before .before .before .before .before .before .before .before .before .before .before .before .before .before .before) .pre .1 .1 .0) .tables, (c .before .before .before .before .before .before .before .before .before .before .before .before .before .before .before .before .before .out) .given .1, (c .before .before .before .before .before .before .out2) .given .1),
+      ),
+      (
+        (coded (made·mul-pop-pow t (c .before .before) .0), coded (made·mul-pop-pow t (c .before .before) .1)),
+        (good-pow ((is-pow·mul-pop-pow t (c .before .before .before .before .before .before .before .before .before .before .before .before .before .before .before .before .before .before .before .before .before .before .before .before .before .before .before .before .before)) .node) .0, pow-asks ((getD ((c .before .before .before .before .before .before .before .before .before .before .before .before .before .before .before .before .before .before .before .before .before .before .before .before .before .before .before .before .before) .args .y .now) 0 0) % 64) (made·mul-pop-pow t (c .before .before)) (pop-times (is-pow·mul-pop-pow t (c .before .before .before .before .before .before .before .before .before .before .before .before .before .before .before .before .before .before .before .before .before .before .before .before .before .before .before .before .before)) ((c .before .before .before .before .before .before .before .before .before .before .before .before .before .before .before .before .before .before .before .before .before .before .before .before .before .before .before .before .before) .args .i) (dec ((c .before .before .before .before .before .before .before .before .before .before .before .before .before .before .before .before .before .before .before .before .before .before .before .before .before .before .before .before .before) .args .width) ((c .before .before .before .before .before .before .before .before .before .before .before .before .before .before .before .before .before .before .before .before .before .before .before .before .before .before .before .before .before) .args .p .now)) (good-pop (fit-x (((c .before .before .before .before .before .before .before .before .before .before .before .before .before .before .before .before .before .before .before .before .before .before .before .before .before .before .before .before .before) .pre .1 .1 .0) .fit) .good) .0)) (fit-prod (((c .before .before .before .before .before .before .before .before .before .before .before .before .before .before .before .before .before .before .before .before .before .before .before .before .before .before .before .before .before) .pre .1 .1 .0) .fit) .good)),
+      ),
+    )
 
 -- src/lib.rt:158:1
 mul-pop-pow-same-length : (t : ℕ) → mul-pop-pow-lts.Need-same-length (mul-pop-below t, mul-pop.Post, mul-less-below t, mul-less.Post, make-pow-reads.Asked, make-pow-reads.Learnt) (mul-pop-pow-at t) mul-pop-pow.Post
@@ -948,7 +892,7 @@ mul-pop-pow-same-length-3 t c = search needs
 
 -- src/lib.rt:158:1
 mul-pop-pow-returns : (t : ℕ) → mul-pop-pow-lts.Need-returns (mul-pop-below t, mul-pop.Post, mul-less-below t, mul-less.Post, make-pow-reads.Asked, make-pow-reads.Learnt) (mul-pop-pow-at t) mul-pop-pow.Post
-mul-pop-pow-returns t c = begins-as ((c .before .before .make-pow) .ensures) (mkpow-enc (kept-a·mul-pop-pow t (c .before .before .before .before .before)) (made-b·mul-pop-pow t (c .before .before .before .before .before)) ((getD ((c .before .before .before .before .before .before .before .before .before .before .before .before .before .before .before .before .before .before .before .before .before .before .before .before .before .before .before .before .before .before .before .before) .args .y .now) 0 0) % 64) ∙ ap (enc ((c .before .before .before .before .before .before .before .before .before .before .before .before .before .before .before .before .before .before .before .before .before .before .before .before .before .before .before .before .before .before .before .before) .args .width)) (sym (times-is·mul-pop-pow t (c .before .before .before .before .before .before .before .before .before .before .before .before .before .before .before .before .before .before .before .before .before .before .before .before .before .before .before .before .before .before .before .before))))
+mul-pop-pow-returns t c = pow-gives ((getD ((c .before .before .before .before .before .before .before .before .before .before .before .before .before .before .before .before .before .before .before .before .before .before .before .before .before .before .before .before .before .before .before .before) .args .y .now) 0 0) % 64) (made·mul-pop-pow t (c .before .before .before .before .before)) (pop-times (is-pow·mul-pop-pow t (c .before .before .before .before .before .before .before .before .before .before .before .before .before .before .before .before .before .before .before .before .before .before .before .before .before .before .before .before .before .before .before .before)) ((c .before .before .before .before .before .before .before .before .before .before .before .before .before .before .before .before .before .before .before .before .before .before .before .before .before .before .before .before .before .before .before .before) .args .i) (dec ((c .before .before .before .before .before .before .before .before .before .before .before .before .before .before .before .before .before .before .before .before .before .before .before .before .before .before .before .before .before .before .before .before) .args .width) ((c .before .before .before .before .before .before .before .before .before .before .before .before .before .before .before .before .before .before .before .before .before .before .before .before .before .before .before .before .before .before .before .before) .args .p .now)) (good-pop (fit-x (((c .before .before .before .before .before .before .before .before .before .before .before .before .before .before .before .before .before .before .before .before .before .before .before .before .before .before .before .before .before .before .before .before) .pre .1 .1 .0) .fit) .good) .0)) ((c .before .before .make-pow) .ensures)
 
 -- src/lib.rt:128:38
 mul-pops-sub-product : (t : ℕ) → mul-pops-lts.Need-sub-product (product-below t, product.Post, make-pop-reads.Asked, make-pop-reads.Learnt, mul-pops-gt-below t, mul-pops-gt.Post) (mul-pops-at t) mul-pops.Post
@@ -968,13 +912,14 @@ mul-pops-product-requires t c κs = (omega (arith, ((c .before .before .before .
 
 -- src/lib.rt:129:9
 mul-pops-make-pop-requires : (t : ℕ) → mul-pops-lts.Need-make-pop-requires (product-below t, product.Post, make-pop-reads.Asked, make-pop-reads.Learnt, mul-pops-gt-below t, mul-pops-gt.Post) (mul-pops-at t) mul-pops.Post
-mul-pops-make-pop-requires t c κs = (
-  omega (arith, begins-le ((c .before .before .before .before .before .before .before .product) .ensures), (c .before .before .before .before .before .before .before .product) .kept .1 .1 .1 .0, length-tail-part 1 ((c .before .before .before .before .before .before .before .before .before .before .before .before .before .before .before .before .before) .args .out .now), (c .before .before .before .before .before .before .out) .given .1, ((c .before .before .before .before .before .before .before .before .before .before .before .before .before .before .before .before .before) .pre .1 .1) .tables),
-  (
-    coded (made·mul-pops t (c .before .before .before .before .before .before)),
-    (good-pop ((c .before .before .before .before .before .before .before .before .before .before .before .before .before .before .before .before .before) .args .width) ((c .before .before .before .before .before .before .before .before .before .before .before .before .before .before .before .before .before) .args .i) (dec ((c .before .before .before .before .before .before .before .before .before .before .before .before .before .before .before .before .before) .args .width) ((c .before .before .before .before .before .before .before .before .before .before .before .before .before .before .before .before .before) .args .p .now)) (fit-x (((c .before .before .before .before .before .before .before .before .before .before .before .before .before .before .before .before .before) .pre .1 .1) .fit) .good) .0, mkpop-good (made·mul-pops t (c .before .before .before .before .before .before)) ((c .before .before .before .before .before .before .before .before .before .before .before .before .before .before .before .before .before) .args .i) (subst (Good ((c .before .before .before .before .before .before .before .before .before .before .before .before .before .before .before .before .before) .args .width)) (pops-eq ((c .before .before .before .before .before .before .before .before .before .before .before .before .before .before .before .before .before) .args .width) ((c .before .before .before .before .before .before .before .before .before .before .before .before .before .before .before .before .before) .args .i) ((c .before .before .before .before .before .before .before .before .before .before .before .before .before .before .before .before .before) .args .j) (dec ((c .before .before .before .before .before .before .before .before .before .before .before .before .before .before .before .before .before) .args .width) ((c .before .before .before .before .before .before .before .before .before .before .before .before .before .before .before .before .before) .args .p .now)) (dec ((c .before .before .before .before .before .before .before .before .before .before .before .before .before .before .before .before .before) .args .width) ((c .before .before .before .before .before .before .before .before .before .before .before .before .before .before .before .before .before) .args .q .now)) ((c .before .before .before .before .before .before .before .before .before .before .before .if1) .taken)) (fit-prod (((c .before .before .before .before .before .before .before .before .before .before .before .before .before .before .before .before .before) .pre .1 .1) .fit) .good))),
-  ),
-)
+mul-pops-make-pop-requires t c κs =
+    (
+      omega (arith, begins-le ((c .before .before .before .before .before .before .before .product) .ensures), (c .before .before .before .before .before .before .before .product) .kept .1 .1 .1 .0, length-tail-part 1 ((c .before .before .before .before .before .before .before .before .before .before .before .before .before .before .before .before .before) .args .out .now), (c .before .before .before .before .before .before .out) .given .1, ((c .before .before .before .before .before .before .before .before .before .before .before .before .before .before .before .before .before) .pre .1 .1) .tables),
+      (
+        coded (made·mul-pops t (c .before .before .before .before .before .before)),
+        (good-pop (fit-x (((c .before .before .before .before .before .before .before .before .before .before .before .before .before .before .before .before .before) .pre .1 .1) .fit) .good) .0, pop-asks ((c .before .before .before .before .before .before .before .before .before .before .before .before .before .before .before .before .before) .args .i) (made·mul-pops t (c .before .before .before .before .before .before)) (pops-eq ((c .before .before .before .before .before .before .before .before .before .before .before .before .before .before .before .before .before) .args .width) ((c .before .before .before .before .before .before .before .before .before .before .before .before .before .before .before .before .before) .args .i) ((c .before .before .before .before .before .before .before .before .before .before .before .before .before .before .before .before .before) .args .j) (dec ((c .before .before .before .before .before .before .before .before .before .before .before .before .before .before .before .before .before) .args .width) ((c .before .before .before .before .before .before .before .before .before .before .before .before .before .before .before .before .before) .args .p .now)) (dec ((c .before .before .before .before .before .before .before .before .before .before .before .before .before .before .before .before .before) .args .width) ((c .before .before .before .before .before .before .before .before .before .before .before .before .before .before .before .before .before) .args .q .now)) ((c .before .before .before .before .before .before .before .before .before .before .before .if1) .taken)) (fit-prod (((c .before .before .before .before .before .before .before .before .before .before .before .before .before .before .before .before .before) .pre .1 .1) .fit) .good)),
+      ),
+    )
 
 -- src/lib.rt:129:9
 mul-pops-same-length : (t : ℕ) → mul-pops-lts.Need-same-length (product-below t, product.Post, make-pop-reads.Asked, make-pop-reads.Learnt, mul-pops-gt-below t, mul-pops-gt.Post) (mul-pops-at t) mul-pops.Post
@@ -990,7 +935,7 @@ mul-pops-same-length-3 t c = search needs
 
 -- src/lib.rt:129:9
 mul-pops-returns : (t : ℕ) → mul-pops-lts.Need-returns (product-below t, product.Post, make-pop-reads.Asked, make-pop-reads.Learnt, mul-pops-gt-below t, mul-pops-gt.Post) (mul-pops-at t) mul-pops.Post
-mul-pops-returns t c = begins-as ((c .before .before .make-pop) .ensures) (mkpop-enc (made·mul-pops t (c .before .before .before .before .before .before .before .before .before)) ((c .before .before .before .before .before .before .before .before .before .before .before .before .before .before .before .before .before .before .before .before) .args .i) ∙ ap (enc ((c .before .before .before .before .before .before .before .before .before .before .before .before .before .before .before .before .before .before .before .before) .args .width)) (sym (pops-eq ((c .before .before .before .before .before .before .before .before .before .before .before .before .before .before .before .before .before .before .before .before) .args .width) ((c .before .before .before .before .before .before .before .before .before .before .before .before .before .before .before .before .before .before .before .before) .args .i) ((c .before .before .before .before .before .before .before .before .before .before .before .before .before .before .before .before .before .before .before .before) .args .j) (dec ((c .before .before .before .before .before .before .before .before .before .before .before .before .before .before .before .before .before .before .before .before) .args .width) ((c .before .before .before .before .before .before .before .before .before .before .before .before .before .before .before .before .before .before .before .before) .args .p .now)) (dec ((c .before .before .before .before .before .before .before .before .before .before .before .before .before .before .before .before .before .before .before .before) .args .width) ((c .before .before .before .before .before .before .before .before .before .before .before .before .before .before .before .before .before .before .before .before) .args .q .now)) ((c .before .before .before .before .before .before .before .before .before .before .before .before .before .before .if1) .taken))))
+mul-pops-returns t c = pop-gives ((c .before .before .before .before .before .before .before .before .before .before .before .before .before .before .before .before .before .before .before .before) .args .i) (made·mul-pops t (c .before .before .before .before .before .before .before .before .before)) (pops-eq ((c .before .before .before .before .before .before .before .before .before .before .before .before .before .before .before .before .before .before .before .before) .args .width) ((c .before .before .before .before .before .before .before .before .before .before .before .before .before .before .before .before .before .before .before .before) .args .i) ((c .before .before .before .before .before .before .before .before .before .before .before .before .before .before .before .before .before .before .before .before) .args .j) (dec ((c .before .before .before .before .before .before .before .before .before .before .before .before .before .before .before .before .before .before .before .before) .args .width) ((c .before .before .before .before .before .before .before .before .before .before .before .before .before .before .before .before .before .before .before .before) .args .p .now)) (dec ((c .before .before .before .before .before .before .before .before .before .before .before .before .before .before .before .before .before .before .before .before) .args .width) ((c .before .before .before .before .before .before .before .before .before .before .before .before .before .before .before .before .before .before .before .before) .args .q .now)) ((c .before .before .before .before .before .before .before .before .before .before .before .before .before .before .if1) .taken)) ((c .before .before .make-pop) .ensures)
 
 -- src/lib.rt:132:9
 mul-pops-mul-pops-gt-requires : (t : ℕ) → mul-pops-lts.Need-mul-pops-gt-requires (product-below t, product.Post, make-pop-reads.Asked, make-pop-reads.Learnt, mul-pops-gt-below t, mul-pops-gt.Post) (mul-pops-at t) mul-pops.Post
@@ -1054,13 +999,14 @@ mul-pops-gt-mul-pop-requires t c κs = (omega (arith, ((c .before .before .befor
 
 -- src/lib.rt:154:5
 mul-pops-gt-make-pop-requires : (t : ℕ) → mul-pops-gt-lts.Need-make-pop-requires (mul-pop-below t, mul-pop.Post, make-pop-reads.Asked, make-pop-reads.Learnt) (mul-pops-gt-at t) mul-pops-gt.Post
-mul-pops-gt-make-pop-requires t c κs = (
-  omega (arith, begins-le ((c .before .before .before .before .before .before .before .mul-pop) .ensures), (c .before .before .before .before .before .before .before .mul-pop) .kept .1 .1 .1 .1 .0, length-tail-part 1 ((c .before .before .before .before .before .before .before .before .before .before .before .before .before .before .before .before) .args .out .now), (c .before .before .before .before .before .before .out) .given .1, ((c .before .before .before .before .before .before .before .before .before .before .before .before .before .before .before .before) .pre .1 .1 .0) .tables),
-  (
-    coded (made·mul-pops-gt t (c .before .before .before .before .before .before)),
-    (good-pop ((c .before .before .before .before .before .before .before .before .before .before .before .before .before .before .before .before) .args .width) ((c .before .before .before .before .before .before .before .before .before .before .before .before .before .before .before .before) .args .j) (dec ((c .before .before .before .before .before .before .before .before .before .before .before .before .before .before .before .before) .args .width) ((c .before .before .before .before .before .before .before .before .before .before .before .before .before .before .before .before) .args .q .now)) (fit-y (((c .before .before .before .before .before .before .before .before .before .before .before .before .before .before .before .before) .pre .1 .1 .0) .fit) .good) .0, mkpop-good (made·mul-pops-gt t (c .before .before .before .before .before .before)) ((c .before .before .before .before .before .before .before .before .before .before .before .before .before .before .before .before) .args .j) (subst (Good ((c .before .before .before .before .before .before .before .before .before .before .before .before .before .before .before .before) .args .width)) (pops-gt ((c .before .before .before .before .before .before .before .before .before .before .before .before .before .before .before .before) .args .width) ((c .before .before .before .before .before .before .before .before .before .before .before .before .before .before .before .before) .args .i) ((c .before .before .before .before .before .before .before .before .before .before .before .before .before .before .before .before) .args .j) (dec ((c .before .before .before .before .before .before .before .before .before .before .before .before .before .before .before .before) .args .width) ((c .before .before .before .before .before .before .before .before .before .before .before .before .before .before .before .before) .args .p .now)) (dec ((c .before .before .before .before .before .before .before .before .before .before .before .before .before .before .before .before) .args .width) ((c .before .before .before .before .before .before .before .before .before .before .before .before .before .before .before .before) .args .q .now)) ((c .before .before .before .before .before .before .before .before .before .before .before .before .before .before .before .before) .pre .1 .1 .1)) (fit-prod (((c .before .before .before .before .before .before .before .before .before .before .before .before .before .before .before .before) .pre .1 .1 .0) .fit) .good))),
-  ),
-)
+mul-pops-gt-make-pop-requires t c κs =
+    (
+      omega (arith, begins-le ((c .before .before .before .before .before .before .before .mul-pop) .ensures), (c .before .before .before .before .before .before .before .mul-pop) .kept .1 .1 .1 .1 .0, length-tail-part 1 ((c .before .before .before .before .before .before .before .before .before .before .before .before .before .before .before .before) .args .out .now), (c .before .before .before .before .before .before .out) .given .1, ((c .before .before .before .before .before .before .before .before .before .before .before .before .before .before .before .before) .pre .1 .1 .0) .tables),
+      (
+        coded (made·mul-pops-gt t (c .before .before .before .before .before .before)),
+        (good-pop (fit-y (((c .before .before .before .before .before .before .before .before .before .before .before .before .before .before .before .before) .pre .1 .1 .0) .fit) .good) .0, pop-asks ((c .before .before .before .before .before .before .before .before .before .before .before .before .before .before .before .before) .args .j) (made·mul-pops-gt t (c .before .before .before .before .before .before)) (pops-gt ((c .before .before .before .before .before .before .before .before .before .before .before .before .before .before .before .before) .args .width) ((c .before .before .before .before .before .before .before .before .before .before .before .before .before .before .before .before) .args .i) ((c .before .before .before .before .before .before .before .before .before .before .before .before .before .before .before .before) .args .j) (dec ((c .before .before .before .before .before .before .before .before .before .before .before .before .before .before .before .before) .args .width) ((c .before .before .before .before .before .before .before .before .before .before .before .before .before .before .before .before) .args .p .now)) (dec ((c .before .before .before .before .before .before .before .before .before .before .before .before .before .before .before .before) .args .width) ((c .before .before .before .before .before .before .before .before .before .before .before .before .before .before .before .before) .args .q .now)) ((c .before .before .before .before .before .before .before .before .before .before .before .before .before .before .before .before) .pre .1 .1 .1)) (fit-prod (((c .before .before .before .before .before .before .before .before .before .before .before .before .before .before .before .before) .pre .1 .1 .0) .fit) .good)),
+      ),
+    )
 
 -- src/lib.rt:138:1
 mul-pops-gt-same-length : (t : ℕ) → mul-pops-gt-lts.Need-same-length (mul-pop-below t, mul-pop.Post, make-pop-reads.Asked, make-pop-reads.Learnt) (mul-pops-gt-at t) mul-pops-gt.Post
@@ -1076,7 +1022,7 @@ mul-pops-gt-same-length-3 t c = search needs
 
 -- src/lib.rt:138:1
 mul-pops-gt-returns : (t : ℕ) → mul-pops-gt-lts.Need-returns (mul-pop-below t, mul-pop.Post, make-pop-reads.Asked, make-pop-reads.Learnt) (mul-pops-gt-at t) mul-pops-gt.Post
-mul-pops-gt-returns t c = begins-as ((c .before .before .make-pop) .ensures) (mkpop-enc (made·mul-pops-gt t (c .before .before .before .before .before .before .before .before .before)) ((c .before .before .before .before .before .before .before .before .before .before .before .before .before .before .before .before .before .before .before) .args .j) ∙ ap (enc ((c .before .before .before .before .before .before .before .before .before .before .before .before .before .before .before .before .before .before .before) .args .width)) (sym (pops-gt ((c .before .before .before .before .before .before .before .before .before .before .before .before .before .before .before .before .before .before .before) .args .width) ((c .before .before .before .before .before .before .before .before .before .before .before .before .before .before .before .before .before .before .before) .args .i) ((c .before .before .before .before .before .before .before .before .before .before .before .before .before .before .before .before .before .before .before) .args .j) (dec ((c .before .before .before .before .before .before .before .before .before .before .before .before .before .before .before .before .before .before .before) .args .width) ((c .before .before .before .before .before .before .before .before .before .before .before .before .before .before .before .before .before .before .before) .args .p .now)) (dec ((c .before .before .before .before .before .before .before .before .before .before .before .before .before .before .before .before .before .before .before) .args .width) ((c .before .before .before .before .before .before .before .before .before .before .before .before .before .before .before .before .before .before .before) .args .q .now)) ((c .before .before .before .before .before .before .before .before .before .before .before .before .before .before .before .before .before .before .before) .pre .1 .1 .1))))
+mul-pops-gt-returns t c = pop-gives ((c .before .before .before .before .before .before .before .before .before .before .before .before .before .before .before .before .before .before .before) .args .j) (made·mul-pops-gt t (c .before .before .before .before .before .before .before .before .before)) (pops-gt ((c .before .before .before .before .before .before .before .before .before .before .before .before .before .before .before .before .before .before .before) .args .width) ((c .before .before .before .before .before .before .before .before .before .before .before .before .before .before .before .before .before .before .before) .args .i) ((c .before .before .before .before .before .before .before .before .before .before .before .before .before .before .before .before .before .before .before) .args .j) (dec ((c .before .before .before .before .before .before .before .before .before .before .before .before .before .before .before .before .before .before .before) .args .width) ((c .before .before .before .before .before .before .before .before .before .before .before .before .before .before .before .before .before .before .before) .args .p .now)) (dec ((c .before .before .before .before .before .before .before .before .before .before .before .before .before .before .before .before .before .before .before) .args .width) ((c .before .before .before .before .before .before .before .before .before .before .before .before .before .before .before .before .before .before .before) .args .q .now)) ((c .before .before .before .before .before .before .before .before .before .before .before .before .before .before .before .before .before .before .before) .pre .1 .1 .1)) ((c .before .before .make-pop) .ensures)
 
 -- src/lib.rt:209:13
 mul-pow-shared-slice-read-w : (t : ℕ) → mul-pow-lts.Need-shared-slice-read-w (scale-reads.Asked, scale-reads.Learnt, mul-pop-pow-below t, mul-pop-pow.Post, mul-pows-below t, mul-pows.Post) (mul-pow-at t) mul-pow.Post
@@ -1112,13 +1058,14 @@ mul-pow-part-mul-pop-pow-end t c = search needs
 
 -- src/lib.rt:215:9
 mul-pow-mul-pop-pow-requires : (t : ℕ) → mul-pow-lts.Need-mul-pop-pow-requires (scale-reads.Asked, scale-reads.Learnt, mul-pop-pow-below t, mul-pop-pow.Post, mul-pows-below t, mul-pows.Post) (mul-pow-at t) mul-pow.Post
-mul-pow-mul-pop-pow-requires t c κs = (
-  omega (arith, codes-length (inner·mul-pow t (c .before .before .before .before)), is-pop·mul-pow t (c .before .before .before .before), ((c .before .before .before .before .before .before .before .before .before .before .before .before) .pre .0)),
-  (
-    (coded (inner·mul-pow t (c .before .before .before .before)), ((c .before .before .before .before .before .before .before .before .before .before .before .before) .pre .1 .0 .0)),
-    (pop-space ((getD ((c .before .before .before .before .before .before .before .before .before .before .before .before) .args .y .now) 0 0) % 64) (dec ((c .before .before .before .before .before .before .before .before .before .before .before .before) .args .width) (take (length ((c .before .before .before .before .before .before .before .before .before .before .before .before) .args .y .now) - 1) (drop 1 ((c .before .before .before .before .before .before .before .before .before .before .before .before) .args .y .now)))) (subst (λ h. Space ((c .before .before .before .before .before .before .before .before .before .before .before .before) .args .width) h (dec ((c .before .before .before .before .before .before .before .before .before .before .before .before) .args .width) ((c .before .before .before .before .before .before .before .before .before .before .before .before) .args .x .now)) (length ((c .before .before .before .before .before .before .before .before .before .before .before .before) .args .out .now)) (length ((c .before .before .before .before .before .before .before .before .before .before .before .before) .args .t .now)) (length ((c .before .before .before .before .before .before .before .before .before .before .before .before) .args .u .now))) (sym (pop-is (is-pop·mul-pow t (c .before .before .before .before)) _ (dec-enc (inner·mul-pow t (c .before .before .before .before))))) (space-sym ((c .before .before .before .before .before .before .before .before .before .before .before .before) .pre .1 .1 .0))), ((c .before .before .before .before .before .before .before .before .before .before .before .before) .pre .1 .1 .1)),
-  ),
-)
+mul-pow-mul-pop-pow-requires t c κs =
+    (
+      omega (arith, (is-pop·mul-pow t (c .before .before .before .before)), ((c .before .before .before .before .before .before .before .before .before .before .before .before) .pre .0)),
+      (
+        ((is-pop·mul-pow t (c .before .before .before .before)) .part, ((c .before .before .before .before .before .before .before .before .before .before .before .before) .pre .1 .0 .0)),
+        (pop-space ((getD ((c .before .before .before .before .before .before .before .before .before .before .before .before) .args .y .now) 0 0) % 64) (dec ((c .before .before .before .before .before .before .before .before .before .before .before .before) .args .width) (inner ((c .before .before .before .before .before .before .before .before .before .before .before .before) .args .y .now))) (subst (λ h. Space ((c .before .before .before .before .before .before .before .before .before .before .before .before) .args .width) h (dec ((c .before .before .before .before .before .before .before .before .before .before .before .before) .args .width) ((c .before .before .before .before .before .before .before .before .before .before .before .before) .args .x .now)) (length ((c .before .before .before .before .before .before .before .before .before .before .before .before) .args .out .now)) (length ((c .before .before .before .before .before .before .before .before .before .before .before .before) .args .t .now)) (length ((c .before .before .before .before .before .before .before .before .before .before .before .before) .args .u .now))) ((is-pop·mul-pow t (c .before .before .before .before)) .is) (space-sym ((c .before .before .before .before .before .before .before .before .before .before .before .before) .pre .1 .1 .0))), ((c .before .before .before .before .before .before .before .before .before .before .before .before) .pre .1 .1 .1)),
+      ),
+    )
 
 -- src/lib.rt:215:9
 mul-pow-same-length-2 : (t : ℕ) → mul-pow-lts.Need-same-length-2 (scale-reads.Asked, scale-reads.Learnt, mul-pop-pow-below t, mul-pop-pow.Post, mul-pows-below t, mul-pows.Post) (mul-pow-at t) mul-pow.Post
@@ -1136,7 +1083,7 @@ mul-pow-same-length-4 t c = search needs
 mul-pow-returns-2 : (t : ℕ) → mul-pow-lts.Need-returns-2 (scale-reads.Asked, scale-reads.Learnt, mul-pop-pow-below t, mul-pop-pow.Post, mul-pows-below t, mul-pows.Post) (mul-pow-at t) mul-pow.Post
 mul-pow-returns-2 t c =
     begins-as ((c .before .before .before .before .before .before .mul-pop-pow) .ensures)
-    (ap (enc ((c .before .before .before .before .before .before .before .before .before .before .before .before .before .before .before .before .before .before .before) .args .width)) (times-swap (v-pow·mul-pow t (c .before .before .before .before .before .before .before .before .before .before .before .before .before .before .before .before .before .before .before)) ((getD ((c .before .before .before .before .before .before .before .before .before .before .before .before .before .before .before .before .before .before .before) .args .y .now) 0 0) % 64) (dec ((c .before .before .before .before .before .before .before .before .before .before .before .before .before .before .before .before .before .before .before) .args .width) (take (length ((c .before .before .before .before .before .before .before .before .before .before .before .before .before .before .before .before .before .before .before) .args .y .now) - 1) (drop 1 ((c .before .before .before .before .before .before .before .before .before .before .before .before .before .before .before .before .before .before .before) .args .y .now)))) (omega (arith, is-pop·mul-pow t (c .before .before .before .before .before .before .before .before .before .before .before)))) ∙ ap (λ h. enc ((c .before .before .before .before .before .before .before .before .before .before .before .before .before .before .before .before .before .before .before) .args .width) (prodOf ((c .before .before .before .before .before .before .before .before .before .before .before .before .before .before .before .before .before .before .before) .args .width) (dec ((c .before .before .before .before .before .before .before .before .before .before .before .before .before .before .before .before .before .before .before) .args .width) ((c .before .before .before .before .before .before .before .before .before .before .before .before .before .before .before .before .before .before .before) .args .x .now)) h)) (pop-is (is-pop·mul-pow t (c .before .before .before .before .before .before .before .before .before .before .before)) _ (dec-enc (inner·mul-pow t (c .before .before .before .before .before .before .before .before .before .before .before)))))
+    (ap (enc ((c .before .before .before .before .before .before .before .before .before .before .before .before .before .before .before .before .before .before .before) .args .width)) (times-swap (v-pow·mul-pow t (c .before .before .before .before .before .before .before .before .before .before .before .before .before .before .before .before .before .before .before)) ((getD ((c .before .before .before .before .before .before .before .before .before .before .before .before .before .before .before .before .before .before .before) .args .y .now) 0 0) % 64) (dec ((c .before .before .before .before .before .before .before .before .before .before .before .before .before .before .before .before .before .before .before) .args .width) (inner ((c .before .before .before .before .before .before .before .before .before .before .before .before .before .before .before .before .before .before .before) .args .y .now))) (good-pop ((is-pop·mul-pow t (c .before .before .before .before .before .before .before .before .before .before .before)) .node) .0)) ∙ ap (λ h. enc ((c .before .before .before .before .before .before .before .before .before .before .before .before .before .before .before .before .before .before .before) .args .width) (prodOf ((c .before .before .before .before .before .before .before .before .before .before .before .before .before .before .before .before .before .before .before) .args .width) (dec ((c .before .before .before .before .before .before .before .before .before .before .before .before .before .before .before .before .before .before .before) .args .width) ((c .before .before .before .before .before .before .before .before .before .before .before .before .before .before .before .before .before .before .before) .args .x .now)) h)) (sym ((is-pop·mul-pow t (c .before .before .before .before .before .before .before .before .before .before .before)) .is)))
 
 -- src/lib.rt:217:13
 mul-pow-add-f : (t : ℕ) → mul-pow-lts.Need-add-f (scale-reads.Asked, scale-reads.Learnt, mul-pop-pow-below t, mul-pop-pow.Post, mul-pows-below t, mul-pows.Post) (mul-pow-at t) mul-pow.Post
@@ -1216,13 +1163,11 @@ mul-pow-part-mul-pows-end-4 t c = search needs
 
 -- src/lib.rt:221:5
 mul-pow-mul-pows-requires : (t : ℕ) → mul-pow-lts.Need-mul-pows-requires (scale-reads.Asked, scale-reads.Learnt, mul-pop-pow-below t, mul-pop-pow.Post, mul-pows-below t, mul-pows.Post) (mul-pow-at t) mul-pow.Post
-mul-pow-mul-pows-requires t c κs = (
-  omega (arith, codes-length (v-left·mul-pow t (c .before .before .before .before .before .before .before .before .before .before .before .before .before .before .before .before)), codes-length (v-right·mul-pow t (c .before .before .before .before .before .before .before .before .before .before .before .before .before .before .before .before)), codes-length (left·mul-pow t (c .before .before .before .before .before .before .before .before)), codes-length (right·mul-pow t (c .before .before .before .before .before .before .before .before)), v-pow·mul-pow t (c .before .before .before .before .before .before .before .before .before .before .before .before .before .before .before .before), is-pow·mul-pow t (c .before .before .before .before .before .before .before .before), ((c .before .before .before .before .before .before .before .before .before .before .before .before .before .before .before .before) .pre .0)),
-  (
-    ((coded (v-left·mul-pow t (c .before .before .before .before .before .before .before .before .before .before .before .before .before .before .before .before)), coded (v-right·mul-pow t (c .before .before .before .before .before .before .before .before .before .before .before .before .before .before .before .before))), (coded (left·mul-pow t (c .before .before .before .before .before .before .before .before)), coded (right·mul-pow t (c .before .before .before .before .before .before .before .before)))),
-    subst (λ h. Space ((c .before .before .before .before .before .before .before .before .before .before .before .before .before .before .before .before) .args .width) h (pow ((getD ((c .before .before .before .before .before .before .before .before .before .before .before .before .before .before .before .before) .args .y .now) 0 0) % 64) (dec ((c .before .before .before .before .before .before .before .before .before .before .before .before .before .before .before .before) .args .width) (take ((1 + (((getD ((c .before .before .before .before .before .before .before .before .before .before .before .before .before .before .before .before) .args .y .now) 0 0) - 2147483648) / 64)) - 1) (drop 1 ((c .before .before .before .before .before .before .before .before .before .before .before .before .before .before .before .before) .args .y .now)))) (dec ((c .before .before .before .before .before .before .before .before .before .before .before .before .before .before .before .before) .args .width) (take (length ((c .before .before .before .before .before .before .before .before .before .before .before .before .before .before .before .before) .args .y .now) - (1 + (((getD ((c .before .before .before .before .before .before .before .before .before .before .before .before .before .before .before .before) .args .y .now) 0 0) - 2147483648) / 64))) (drop (1 + (((getD ((c .before .before .before .before .before .before .before .before .before .before .before .before .before .before .before .before) .args .y .now) 0 0) - 2147483648) / 64)) ((c .before .before .before .before .before .before .before .before .before .before .before .before .before .before .before .before) .args .y .now))))) (length ((c .before .before .before .before .before .before .before .before .before .before .before .before .before .before .before .before) .args .out .now)) (length ((c .before .before .before .before .before .before .before .before .before .before .before .before .before .before .before .before) .args .t .now)) (length ((c .before .before .before .before .before .before .before .before .before .before .before .before .before .before .before .before) .args .u .now))) (sym (v-is·mul-pow t (c .before .before .before .before .before .before .before .before))) (subst (λ h. Space ((c .before .before .before .before .before .before .before .before .before .before .before .before .before .before .before .before) .args .width) (dec ((c .before .before .before .before .before .before .before .before .before .before .before .before .before .before .before .before) .args .width) ((c .before .before .before .before .before .before .before .before .before .before .before .before .before .before .before .before) .args .x .now)) h (length ((c .before .before .before .before .before .before .before .before .before .before .before .before .before .before .before .before) .args .out .now)) (length ((c .before .before .before .before .before .before .before .before .before .before .before .before .before .before .before .before) .args .t .now)) (length ((c .before .before .before .before .before .before .before .before .before .before .before .before .before .before .before .before) .args .u .now))) (sym (y-is·mul-pow t (c .before .before .before .before .before .before .before .before))) ((c .before .before .before .before .before .before .before .before .before .before .before .before .before .before .before .before) .pre .1 .1 .0)),
-  ),
-)
+mul-pow-mul-pows-requires t c κs =
+    (
+      omega (arith, (v-pow·mul-pow t (c .before .before .before .before .before .before .before .before .before .before .before .before .before .before .before .before)), (is-pow·mul-pow t (c .before .before .before .before .before .before .before .before)), ((c .before .before .before .before .before .before .before .before .before .before .before .before .before .before .before .before) .pre .0)),
+      ((((v-pow·mul-pow t (c .before .before .before .before .before .before .before .before .before .before .before .before .before .before .before .before)) .left, (v-pow·mul-pow t (c .before .before .before .before .before .before .before .before .before .before .before .before .before .before .before .before)) .right), ((is-pow·mul-pow t (c .before .before .before .before .before .before .before .before)) .left, (is-pow·mul-pow t (c .before .before .before .before .before .before .before .before)) .right)), subst (λ h. Space ((c .before .before .before .before .before .before .before .before .before .before .before .before .before .before .before .before) .args .width) h (pow ((getD ((c .before .before .before .before .before .before .before .before .before .before .before .before .before .before .before .before) .args .y .now) 0 0) % 64) (dec ((c .before .before .before .before .before .before .before .before .before .before .before .before .before .before .before .before) .args .width) (first ((c .before .before .before .before .before .before .before .before .before .before .before .before .before .before .before .before) .args .y .now))) (dec ((c .before .before .before .before .before .before .before .before .before .before .before .before .before .before .before .before) .args .width) (rest ((c .before .before .before .before .before .before .before .before .before .before .before .before .before .before .before .before) .args .y .now)))) (length ((c .before .before .before .before .before .before .before .before .before .before .before .before .before .before .before .before) .args .out .now)) (length ((c .before .before .before .before .before .before .before .before .before .before .before .before .before .before .before .before) .args .t .now)) (length ((c .before .before .before .before .before .before .before .before .before .before .before .before .before .before .before .before) .args .u .now))) ((v-pow·mul-pow t (c .before .before .before .before .before .before .before .before .before .before .before .before .before .before .before .before)) .is) (subst (λ h. Space ((c .before .before .before .before .before .before .before .before .before .before .before .before .before .before .before .before) .args .width) (dec ((c .before .before .before .before .before .before .before .before .before .before .before .before .before .before .before .before) .args .width) ((c .before .before .before .before .before .before .before .before .before .before .before .before .before .before .before .before) .args .x .now)) h (length ((c .before .before .before .before .before .before .before .before .before .before .before .before .before .before .before .before) .args .out .now)) (length ((c .before .before .before .before .before .before .before .before .before .before .before .before .before .before .before .before) .args .t .now)) (length ((c .before .before .before .before .before .before .before .before .before .before .before .before .before .before .before .before) .args .u .now))) ((is-pow·mul-pow t (c .before .before .before .before .before .before .before .before)) .is) ((c .before .before .before .before .before .before .before .before .before .before .before .before .before .before .before .before) .pre .1 .1 .0))),
+    )
 
 -- src/lib.rt:203:1
 mul-pow-same-length-5 : (t : ℕ) → mul-pow-lts.Need-same-length-5 (scale-reads.Asked, scale-reads.Learnt, mul-pop-pow-below t, mul-pop-pow.Post, mul-pows-below t, mul-pows.Post) (mul-pow-at t) mul-pow.Post
@@ -1238,7 +1183,7 @@ mul-pow-same-length-7 t c = search needs
 
 -- src/lib.rt:203:1
 mul-pow-returns-3 : (t : ℕ) → mul-pow-lts.Need-returns-3 (scale-reads.Asked, scale-reads.Learnt, mul-pop-pow-below t, mul-pop-pow.Post, mul-pows-below t, mul-pows.Post) (mul-pow-at t) mul-pow.Post
-mul-pow-returns-3 t c = begins-as ((c .before .before .before .before .before .before .mul-pows) .ensures) (ap (λ h. enc ((c .before .before .before .before .before .before .before .before .before .before .before .before .before .before .before .before .before .before .before .before .before .before .before) .args .width) (prodOf ((c .before .before .before .before .before .before .before .before .before .before .before .before .before .before .before .before .before .before .before .before .before .before .before) .args .width) h (pow ((getD ((c .before .before .before .before .before .before .before .before .before .before .before .before .before .before .before .before .before .before .before .before .before .before .before) .args .y .now) 0 0) % 64) (dec ((c .before .before .before .before .before .before .before .before .before .before .before .before .before .before .before .before .before .before .before .before .before .before .before) .args .width) (take ((1 + (((getD ((c .before .before .before .before .before .before .before .before .before .before .before .before .before .before .before .before .before .before .before .before .before .before .before) .args .y .now) 0 0) - 2147483648) / 64)) - 1) (drop 1 ((c .before .before .before .before .before .before .before .before .before .before .before .before .before .before .before .before .before .before .before .before .before .before .before) .args .y .now)))) (dec ((c .before .before .before .before .before .before .before .before .before .before .before .before .before .before .before .before .before .before .before .before .before .before .before) .args .width) (take (length ((c .before .before .before .before .before .before .before .before .before .before .before .before .before .before .before .before .before .before .before .before .before .before .before) .args .y .now) - (1 + (((getD ((c .before .before .before .before .before .before .before .before .before .before .before .before .before .before .before .before .before .before .before .before .before .before .before) .args .y .now) 0 0) - 2147483648) / 64))) (drop (1 + (((getD ((c .before .before .before .before .before .before .before .before .before .before .before .before .before .before .before .before .before .before .before .before .before .before .before) .args .y .now) 0 0) - 2147483648) / 64)) ((c .before .before .before .before .before .before .before .before .before .before .before .before .before .before .before .before .before .before .before .before .before .before .before) .args .y .now))))))) (v-is·mul-pow t (c .before .before .before .before .before .before .before .before .before .before .before .before .before .before .before)) ∙ ap (λ h. enc ((c .before .before .before .before .before .before .before .before .before .before .before .before .before .before .before .before .before .before .before .before .before .before .before) .args .width) (prodOf ((c .before .before .before .before .before .before .before .before .before .before .before .before .before .before .before .before .before .before .before .before .before .before .before) .args .width) (dec ((c .before .before .before .before .before .before .before .before .before .before .before .before .before .before .before .before .before .before .before .before .before .before .before) .args .width) ((c .before .before .before .before .before .before .before .before .before .before .before .before .before .before .before .before .before .before .before .before .before .before .before) .args .x .now)) h)) (y-is·mul-pow t (c .before .before .before .before .before .before .before .before .before .before .before .before .before .before .before)))
+mul-pow-returns-3 t c = begins-as ((c .before .before .before .before .before .before .mul-pows) .ensures) (ap (λ h. enc ((c .before .before .before .before .before .before .before .before .before .before .before .before .before .before .before .before .before .before .before .before .before .before .before) .args .width) (prodOf ((c .before .before .before .before .before .before .before .before .before .before .before .before .before .before .before .before .before .before .before .before .before .before .before) .args .width) h (pow ((getD ((c .before .before .before .before .before .before .before .before .before .before .before .before .before .before .before .before .before .before .before .before .before .before .before) .args .y .now) 0 0) % 64) (dec ((c .before .before .before .before .before .before .before .before .before .before .before .before .before .before .before .before .before .before .before .before .before .before .before) .args .width) (first ((c .before .before .before .before .before .before .before .before .before .before .before .before .before .before .before .before .before .before .before .before .before .before .before) .args .y .now))) (dec ((c .before .before .before .before .before .before .before .before .before .before .before .before .before .before .before .before .before .before .before .before .before .before .before) .args .width) (rest ((c .before .before .before .before .before .before .before .before .before .before .before .before .before .before .before .before .before .before .before .before .before .before .before) .args .y .now)))))) (sym ((v-pow·mul-pow t (c .before .before .before .before .before .before .before .before .before .before .before .before .before .before .before .before .before .before .before .before .before .before .before)) .is)) ∙ ap (λ h. enc ((c .before .before .before .before .before .before .before .before .before .before .before .before .before .before .before .before .before .before .before .before .before .before .before) .args .width) (prodOf ((c .before .before .before .before .before .before .before .before .before .before .before .before .before .before .before .before .before .before .before .before .before .before .before) .args .width) (dec ((c .before .before .before .before .before .before .before .before .before .before .before .before .before .before .before .before .before .before .before .before .before .before .before) .args .width) ((c .before .before .before .before .before .before .before .before .before .before .before .before .before .before .before .before .before .before .before .before .before .before .before) .args .x .now)) h)) (sym ((is-pow·mul-pow t (c .before .before .before .before .before .before .before .before .before .before .before .before .before .before .before)) .is)))
 
 -- src/lib.rt:252:9
 mul-pows-mul-lead-requires : (t : ℕ) → mul-pows-lts.Need-mul-lead-requires (mul-lead-below t, mul-lead.Post, add-cross-below t, add-cross.Post) (mul-pows-at t) mul-pows.Post
@@ -1246,35 +1191,37 @@ mul-pows-mul-lead-requires t c κs = (omega (arith, ((c .before .before .before 
 
 -- src/lib.rt:253:9
 mul-pows-add-cross-requires : (t : ℕ) → mul-pows-lts.Need-add-cross-requires (mul-lead-below t, mul-lead.Post, add-cross-below t, add-cross.Post) (mul-pows-at t) mul-pows.Post
-mul-pows-add-cross-requires t c κs = (
-  omega (arith, ((c .before .before .before .before .before .before .before .before .before .before .before .before .before .before .before .before .before .before .before .before) .pre .0), some ((c .before .before .before .before .before .before .before .before .before .before .before .before .before .before .before .before .before .before .before .before) .pre .1 .0 .0 .1), some ((c .before .before .before .before .before .before .before .before .before .before .before .before .before .before .before .before .before .before .before .before) .pre .1 .0 .1 .0)),
-  (
-    (((c .before .before .before .before .before .before .before .before .before .before .before .before .before .before .before .before .before .before .before .before) .pre .1 .0 .0 .0), ((c .before .before .before .before .before .before .before .before .before .before .before .before .before .before .before .before .before .before .before .before) .pre .1 .0 .1 .1)),
+mul-pows-add-cross-requires t c κs =
     (
-      (few-a·mul-pows t (c .before .before .before .before .before .before .before .before .before), coded (one·mul-pows t (c .before .before .before .before .before .before .before .before .before))),
+      omega (arith, ((c .before .before .before .before .before .before .before .before .before .before .before .before .before .before .before .before .before .before .before .before) .pre .0), some ((c .before .before .before .before .before .before .before .before .before .before .before .before .before .before .before .before .before .before .before .before) .pre .1 .0 .0 .1), some ((c .before .before .before .before .before .before .before .before .before .before .before .before .before .before .before .before .before .before .before .before) .pre .1 .0 .1 .0)),
       (
-        cross-at (sym (((c .before .before .before .before .before .before .before .before .before .mul-lead) .kept .1 .1 .1 .1 .1 .1 .1) .1 .0)) (behind-one·mul-pows t (c .before .before .before .before .before .before .before .before .before)) (sym (((c .before .before .before .before .before .before .before .before .before .mul-lead) .kept .1 .1 .1 .1 .1 .1 .1) .1 .1 .0)) (space-cross ((c .before .before .before .before .before .before .before .before .before .before .before .before .before .before .before .before .before .before .before .before) .args .i) ((c .before .before .before .before .before .before .before .before .before .before .before .before .before .before .before .before .before .before .before .before) .args .j) (dec ((c .before .before .before .before .before .before .before .before .before .before .before .before .before .before .before .before .before .before .before .before) .args .width) ((c .before .before .before .before .before .before .before .before .before .before .before .before .before .before .before .before .before .before .before .before) .args .p .now)) (dec ((c .before .before .before .before .before .before .before .before .before .before .before .before .before .before .before .before .before .before .before .before) .args .width) ((c .before .before .before .before .before .before .before .before .before .before .before .before .before .before .before .before .before .before .before .before) .args .q .now)) (dec ((c .before .before .before .before .before .before .before .before .before .before .before .before .before .before .before .before .before .before .before .before) .args .width) ((c .before .before .before .before .before .before .before .before .before .before .before .before .before .before .before .before .before .before .before .before) .args .r .now)) (dec ((c .before .before .before .before .before .before .before .before .before .before .before .before .before .before .before .before .before .before .before .before) .args .width) ((c .before .before .before .before .before .before .before .before .before .before .before .before .before .before .before .before .before .before .before .before) .args .s .now)) ((c .before .before .before .before .before .before .before .before .before .before .before .before .before .before .before .before .before .before .before .before) .pre .1 .1) ((c .before .before .before .before .before .before .before .before .before .mul-lead) .result) (few-a·mul-pows t (c .before .before .before .before .before .before .before .before .before))),
-        subst (λ h. Held ((c .before .before .before .before .before .before .before .before .before .before .before .before .before .before .before .before .before .before .before .before) .args .width) (sumOf ((c .before .before .before .before .before .before .before .before .before .before .before .before .before .before .before .before .before .before .before .before) .args .width) h (crossOf ((c .before .before .before .before .before .before .before .before .before .before .before .before .before .before .before .before .before .before .before .before) .args .width) ((c .before .before .before .before .before .before .before .before .before .before .before .before .before .before .before .before .before .before .before .before) .args .i) (dec ((c .before .before .before .before .before .before .before .before .before .before .before .before .before .before .before .before .before .before .before .before) .args .width) ((c .before .before .before .before .before .before .before .before .before .before .before .before .before .before .before .before .before .before .before .before) .args .p .now)) (dec ((c .before .before .before .before .before .before .before .before .before .before .before .before .before .before .before .before .before .before .before .before) .args .width) ((c .before .before .before .before .before .before .before .before .before .before .before .before .before .before .before .before .before .before .before .before) .args .s .now))))) (sym (dec-enc (one·mul-pows t (c .before .before .before .before .before .before .before .before .before)))) (two-held ((c .before .before .before .before .before .before .before .before .before .before .before .before .before .before .before .before .before .before .before .before) .args .i) ((c .before .before .before .before .before .before .before .before .before .before .before .before .before .before .before .before .before .before .before .before) .args .j) (dec ((c .before .before .before .before .before .before .before .before .before .before .before .before .before .before .before .before .before .before .before .before) .args .width) ((c .before .before .before .before .before .before .before .before .before .before .before .before .before .before .before .before .before .before .before .before) .args .p .now)) (dec ((c .before .before .before .before .before .before .before .before .before .before .before .before .before .before .before .before .before .before .before .before) .args .width) ((c .before .before .before .before .before .before .before .before .before .before .before .before .before .before .before .before .before .before .before .before) .args .q .now)) (dec ((c .before .before .before .before .before .before .before .before .before .before .before .before .before .before .before .before .before .before .before .before) .args .width) ((c .before .before .before .before .before .before .before .before .before .before .before .before .before .before .before .before .before .before .before .before) .args .r .now)) (dec ((c .before .before .before .before .before .before .before .before .before .before .before .before .before .before .before .before .before .before .before .before) .args .width) ((c .before .before .before .before .before .before .before .before .before .before .before .before .before .before .before .before .before .before .before .before) .args .s .now)) (((c .before .before .before .before .before .before .before .before .before .before .before .before .before .before .before .before .before .before .before .before) .pre .1 .1) .fit)),
+        (((c .before .before .before .before .before .before .before .before .before .before .before .before .before .before .before .before .before .before .before .before) .pre .1 .0 .0 .0), ((c .before .before .before .before .before .before .before .before .before .before .before .before .before .before .before .before .before .before .before .before) .pre .1 .0 .1 .1)),
+        (
+          (few-a·mul-pows t (c .before .before .before .before .before .before .before .before .before), coded (one·mul-pows t (c .before .before .before .before .before .before .before .before .before))),
+          (
+            cross-at (sym (((c .before .before .before .before .before .before .before .before .before .mul-lead) .kept .1 .1 .1 .1 .1 .1 .1) .1 .0)) (behind-one·mul-pows t (c .before .before .before .before .before .before .before .before .before)) (sym (((c .before .before .before .before .before .before .before .before .before .mul-lead) .kept .1 .1 .1 .1 .1 .1 .1) .1 .1 .0)) (space-cross ((c .before .before .before .before .before .before .before .before .before .before .before .before .before .before .before .before .before .before .before .before) .args .i) ((c .before .before .before .before .before .before .before .before .before .before .before .before .before .before .before .before .before .before .before .before) .args .j) (dec ((c .before .before .before .before .before .before .before .before .before .before .before .before .before .before .before .before .before .before .before .before) .args .width) ((c .before .before .before .before .before .before .before .before .before .before .before .before .before .before .before .before .before .before .before .before) .args .p .now)) (dec ((c .before .before .before .before .before .before .before .before .before .before .before .before .before .before .before .before .before .before .before .before) .args .width) ((c .before .before .before .before .before .before .before .before .before .before .before .before .before .before .before .before .before .before .before .before) .args .q .now)) (dec ((c .before .before .before .before .before .before .before .before .before .before .before .before .before .before .before .before .before .before .before .before) .args .width) ((c .before .before .before .before .before .before .before .before .before .before .before .before .before .before .before .before .before .before .before .before) .args .r .now)) (dec ((c .before .before .before .before .before .before .before .before .before .before .before .before .before .before .before .before .before .before .before .before) .args .width) ((c .before .before .before .before .before .before .before .before .before .before .before .before .before .before .before .before .before .before .before .before) .args .s .now)) ((c .before .before .before .before .before .before .before .before .before .before .before .before .before .before .before .before .before .before .before .before) .pre .1 .1) ((c .before .before .before .before .before .before .before .before .before .mul-lead) .result) (few-a·mul-pows t (c .before .before .before .before .before .before .before .before .before))),
+            subst (λ h. Held ((c .before .before .before .before .before .before .before .before .before .before .before .before .before .before .before .before .before .before .before .before) .args .width) (sumOf ((c .before .before .before .before .before .before .before .before .before .before .before .before .before .before .before .before .before .before .before .before) .args .width) h (crossOf ((c .before .before .before .before .before .before .before .before .before .before .before .before .before .before .before .before .before .before .before .before) .args .width) ((c .before .before .before .before .before .before .before .before .before .before .before .before .before .before .before .before .before .before .before .before) .args .i) (dec ((c .before .before .before .before .before .before .before .before .before .before .before .before .before .before .before .before .before .before .before .before) .args .width) ((c .before .before .before .before .before .before .before .before .before .before .before .before .before .before .before .before .before .before .before .before) .args .p .now)) (dec ((c .before .before .before .before .before .before .before .before .before .before .before .before .before .before .before .before .before .before .before .before) .args .width) ((c .before .before .before .before .before .before .before .before .before .before .before .before .before .before .before .before .before .before .before .before) .args .s .now))))) (sym (dec-enc (one·mul-pows t (c .before .before .before .before .before .before .before .before .before)))) (two-held ((c .before .before .before .before .before .before .before .before .before .before .before .before .before .before .before .before .before .before .before .before) .args .i) ((c .before .before .before .before .before .before .before .before .before .before .before .before .before .before .before .before .before .before .before .before) .args .j) (dec ((c .before .before .before .before .before .before .before .before .before .before .before .before .before .before .before .before .before .before .before .before) .args .width) ((c .before .before .before .before .before .before .before .before .before .before .before .before .before .before .before .before .before .before .before .before) .args .p .now)) (dec ((c .before .before .before .before .before .before .before .before .before .before .before .before .before .before .before .before .before .before .before .before) .args .width) ((c .before .before .before .before .before .before .before .before .before .before .before .before .before .before .before .before .before .before .before .before) .args .q .now)) (dec ((c .before .before .before .before .before .before .before .before .before .before .before .before .before .before .before .before .before .before .before .before) .args .width) ((c .before .before .before .before .before .before .before .before .before .before .before .before .before .before .before .before .before .before .before .before) .args .r .now)) (dec ((c .before .before .before .before .before .before .before .before .before .before .before .before .before .before .before .before .before .before .before .before) .args .width) ((c .before .before .before .before .before .before .before .before .before .before .before .before .before .before .before .before .before .before .before .before) .args .s .now)) (((c .before .before .before .before .before .before .before .before .before .before .before .before .before .before .before .before .before .before .before .before) .pre .1 .1) .fit)),
+          ),
+        ),
       ),
-    ),
-  ),
-)
+    )
 
 -- src/lib.rt:254:5
 mul-pows-add-cross-requires-2 : (t : ℕ) → mul-pows-lts.Need-add-cross-requires-2 (mul-lead-below t, mul-lead.Post, add-cross-below t, add-cross.Post) (mul-pows-at t) mul-pows.Post
-mul-pows-add-cross-requires-2 t c κs = (
-  omega (arith, ((c .before .before .before .before .before .before .before .before .before .before .before .before .before .before .before .before .before .before .before .before .before .before .before .before .before .before .before .before .before .before) .pre .0), some ((c .before .before .before .before .before .before .before .before .before .before .before .before .before .before .before .before .before .before .before .before .before .before .before .before .before .before .before .before .before .before) .pre .1 .0 .0 .0), some ((c .before .before .before .before .before .before .before .before .before .before .before .before .before .before .before .before .before .before .before .before .before .before .before .before .before .before .before .before .before .before) .pre .1 .0 .1 .1)),
-  (
-    (((c .before .before .before .before .before .before .before .before .before .before .before .before .before .before .before .before .before .before .before .before .before .before .before .before .before .before .before .before .before .before) .pre .1 .0 .1 .0), ((c .before .before .before .before .before .before .before .before .before .before .before .before .before .before .before .before .before .before .before .before .before .before .before .before .before .before .before .before .before .before) .pre .1 .0 .0 .1)),
+mul-pows-add-cross-requires-2 t c κs =
     (
-      (few-n·mul-pows t (c .before .before .before .before .before .before .before .before .before), coded (two·mul-pows t (c .before .before .before .before .before .before .before .before .before))),
+      omega (arith, ((c .before .before .before .before .before .before .before .before .before .before .before .before .before .before .before .before .before .before .before .before .before .before .before .before .before .before .before .before .before .before) .pre .0), some ((c .before .before .before .before .before .before .before .before .before .before .before .before .before .before .before .before .before .before .before .before .before .before .before .before .before .before .before .before .before .before) .pre .1 .0 .0 .0), some ((c .before .before .before .before .before .before .before .before .before .before .before .before .before .before .before .before .before .before .before .before .before .before .before .before .before .before .before .before .before .before) .pre .1 .0 .1 .1)),
       (
-        cross-at (sym (((c .before .before .before .before .before .before .before .before .before .add-cross) .kept .1 .1 .1 .1) .1 .1 .0 ∙ ((c .before .before .before .before .before .before .before .before .before .before .before .before .before .before .before .before .before .before .before .mul-lead) .kept .1 .1 .1 .1 .1 .1 .1) .1 .0)) (behind-two·mul-pows t (c .before .before .before .before .before .before .before .before .before)) (sym (((c .before .before .before .before .before .before .before .before .before .add-cross) .kept .1 .1 .1 .1) .1 .1 .1 .0 ∙ ((c .before .before .before .before .before .before .before .before .before .before .before .before .before .before .before .before .before .before .before .mul-lead) .kept .1 .1 .1 .1 .1 .1 .1) .1 .1 .0)) (space-cross ((c .before .before .before .before .before .before .before .before .before .before .before .before .before .before .before .before .before .before .before .before .before .before .before .before .before .before .before .before .before .before) .args .j) ((c .before .before .before .before .before .before .before .before .before .before .before .before .before .before .before .before .before .before .before .before .before .before .before .before .before .before .before .before .before .before) .args .i) (dec ((c .before .before .before .before .before .before .before .before .before .before .before .before .before .before .before .before .before .before .before .before .before .before .before .before .before .before .before .before .before .before) .args .width) ((c .before .before .before .before .before .before .before .before .before .before .before .before .before .before .before .before .before .before .before .before .before .before .before .before .before .before .before .before .before .before) .args .r .now)) (dec ((c .before .before .before .before .before .before .before .before .before .before .before .before .before .before .before .before .before .before .before .before .before .before .before .before .before .before .before .before .before .before) .args .width) ((c .before .before .before .before .before .before .before .before .before .before .before .before .before .before .before .before .before .before .before .before .before .before .before .before .before .before .before .before .before .before) .args .s .now)) (dec ((c .before .before .before .before .before .before .before .before .before .before .before .before .before .before .before .before .before .before .before .before .before .before .before .before .before .before .before .before .before .before) .args .width) ((c .before .before .before .before .before .before .before .before .before .before .before .before .before .before .before .before .before .before .before .before .before .before .before .before .before .before .before .before .before .before) .args .p .now)) (dec ((c .before .before .before .before .before .before .before .before .before .before .before .before .before .before .before .before .before .before .before .before .before .before .before .before .before .before .before .before .before .before) .args .width) ((c .before .before .before .before .before .before .before .before .before .before .before .before .before .before .before .before .before .before .before .before .before .before .before .before .before .before .before .before .before .before) .args .q .now)) (space-sym ((c .before .before .before .before .before .before .before .before .before .before .before .before .before .before .before .before .before .before .before .before .before .before .before .before .before .before .before .before .before .before) .pre .1 .1)) ((c .before .before .before .before .before .before .before .before .before .add-cross) .result) (few-n·mul-pows t (c .before .before .before .before .before .before .before .before .before))),
-        subst (λ h. Held ((c .before .before .before .before .before .before .before .before .before .before .before .before .before .before .before .before .before .before .before .before .before .before .before .before .before .before .before .before .before .before) .args .width) (sumOf ((c .before .before .before .before .before .before .before .before .before .before .before .before .before .before .before .before .before .before .before .before .before .before .before .before .before .before .before .before .before .before) .args .width) h (crossOf ((c .before .before .before .before .before .before .before .before .before .before .before .before .before .before .before .before .before .before .before .before .before .before .before .before .before .before .before .before .before .before) .args .width) ((c .before .before .before .before .before .before .before .before .before .before .before .before .before .before .before .before .before .before .before .before .before .before .before .before .before .before .before .before .before .before) .args .j) (dec ((c .before .before .before .before .before .before .before .before .before .before .before .before .before .before .before .before .before .before .before .before .before .before .before .before .before .before .before .before .before .before) .args .width) ((c .before .before .before .before .before .before .before .before .before .before .before .before .before .before .before .before .before .before .before .before .before .before .before .before .before .before .before .before .before .before) .args .r .now)) (dec ((c .before .before .before .before .before .before .before .before .before .before .before .before .before .before .before .before .before .before .before .before .before .before .before .before .before .before .before .before .before .before) .args .width) ((c .before .before .before .before .before .before .before .before .before .before .before .before .before .before .before .before .before .before .before .before .before .before .before .before .before .before .before .before .before .before) .args .q .now))))) (sym (dec-enc (two·mul-pows t (c .before .before .before .before .before .before .before .before .before)))) (subst (Held ((c .before .before .before .before .before .before .before .before .before .before .before .before .before .before .before .before .before .before .before .before .before .before .before .before .before .before .before .before .before .before) .args .width)) (pows ((c .before .before .before .before .before .before .before .before .before .before .before .before .before .before .before .before .before .before .before .before .before .before .before .before .before .before .before .before .before .before) .args .width) ((c .before .before .before .before .before .before .before .before .before .before .before .before .before .before .before .before .before .before .before .before .before .before .before .before .before .before .before .before .before .before) .args .i) ((c .before .before .before .before .before .before .before .before .before .before .before .before .before .before .before .before .before .before .before .before .before .before .before .before .before .before .before .before .before .before) .args .j) (dec ((c .before .before .before .before .before .before .before .before .before .before .before .before .before .before .before .before .before .before .before .before .before .before .before .before .before .before .before .before .before .before) .args .width) ((c .before .before .before .before .before .before .before .before .before .before .before .before .before .before .before .before .before .before .before .before .before .before .before .before .before .before .before .before .before .before) .args .p .now)) (dec ((c .before .before .before .before .before .before .before .before .before .before .before .before .before .before .before .before .before .before .before .before .before .before .before .before .before .before .before .before .before .before) .args .width) ((c .before .before .before .before .before .before .before .before .before .before .before .before .before .before .before .before .before .before .before .before .before .before .before .before .before .before .before .before .before .before) .args .q .now)) (dec ((c .before .before .before .before .before .before .before .before .before .before .before .before .before .before .before .before .before .before .before .before .before .before .before .before .before .before .before .before .before .before) .args .width) ((c .before .before .before .before .before .before .before .before .before .before .before .before .before .before .before .before .before .before .before .before .before .before .before .before .before .before .before .before .before .before) .args .r .now)) (dec ((c .before .before .before .before .before .before .before .before .before .before .before .before .before .before .before .before .before .before .before .before .before .before .before .before .before .before .before .before .before .before) .args .width) ((c .before .before .before .before .before .before .before .before .before .before .before .before .before .before .before .before .before .before .before .before .before .before .before .before .before .before .before .before .before .before) .args .s .now))) (fit-prod (((c .before .before .before .before .before .before .before .before .before .before .before .before .before .before .before .before .before .before .before .before .before .before .before .before .before .before .before .before .before .before) .pre .1 .1) .fit))),
+        (((c .before .before .before .before .before .before .before .before .before .before .before .before .before .before .before .before .before .before .before .before .before .before .before .before .before .before .before .before .before .before) .pre .1 .0 .1 .0), ((c .before .before .before .before .before .before .before .before .before .before .before .before .before .before .before .before .before .before .before .before .before .before .before .before .before .before .before .before .before .before) .pre .1 .0 .0 .1)),
+        (
+          (few-n·mul-pows t (c .before .before .before .before .before .before .before .before .before), coded (two·mul-pows t (c .before .before .before .before .before .before .before .before .before))),
+          (
+            cross-at (sym (((c .before .before .before .before .before .before .before .before .before .add-cross) .kept .1 .1 .1 .1) .1 .1 .0 ∙ ((c .before .before .before .before .before .before .before .before .before .before .before .before .before .before .before .before .before .before .before .mul-lead) .kept .1 .1 .1 .1 .1 .1 .1) .1 .0)) (behind-two·mul-pows t (c .before .before .before .before .before .before .before .before .before)) (sym (((c .before .before .before .before .before .before .before .before .before .add-cross) .kept .1 .1 .1 .1) .1 .1 .1 .0 ∙ ((c .before .before .before .before .before .before .before .before .before .before .before .before .before .before .before .before .before .before .before .mul-lead) .kept .1 .1 .1 .1 .1 .1 .1) .1 .1 .0)) (space-cross ((c .before .before .before .before .before .before .before .before .before .before .before .before .before .before .before .before .before .before .before .before .before .before .before .before .before .before .before .before .before .before) .args .j) ((c .before .before .before .before .before .before .before .before .before .before .before .before .before .before .before .before .before .before .before .before .before .before .before .before .before .before .before .before .before .before) .args .i) (dec ((c .before .before .before .before .before .before .before .before .before .before .before .before .before .before .before .before .before .before .before .before .before .before .before .before .before .before .before .before .before .before) .args .width) ((c .before .before .before .before .before .before .before .before .before .before .before .before .before .before .before .before .before .before .before .before .before .before .before .before .before .before .before .before .before .before) .args .r .now)) (dec ((c .before .before .before .before .before .before .before .before .before .before .before .before .before .before .before .before .before .before .before .before .before .before .before .before .before .before .before .before .before .before) .args .width) ((c .before .before .before .before .before .before .before .before .before .before .before .before .before .before .before .before .before .before .before .before .before .before .before .before .before .before .before .before .before .before) .args .s .now)) (dec ((c .before .before .before .before .before .before .before .before .before .before .before .before .before .before .before .before .before .before .before .before .before .before .before .before .before .before .before .before .before .before) .args .width) ((c .before .before .before .before .before .before .before .before .before .before .before .before .before .before .before .before .before .before .before .before .before .before .before .before .before .before .before .before .before .before) .args .p .now)) (dec ((c .before .before .before .before .before .before .before .before .before .before .before .before .before .before .before .before .before .before .before .before .before .before .before .before .before .before .before .before .before .before) .args .width) ((c .before .before .before .before .before .before .before .before .before .before .before .before .before .before .before .before .before .before .before .before .before .before .before .before .before .before .before .before .before .before) .args .q .now)) (space-sym ((c .before .before .before .before .before .before .before .before .before .before .before .before .before .before .before .before .before .before .before .before .before .before .before .before .before .before .before .before .before .before) .pre .1 .1)) ((c .before .before .before .before .before .before .before .before .before .add-cross) .result) (few-n·mul-pows t (c .before .before .before .before .before .before .before .before .before))),
+            subst (λ h. Held ((c .before .before .before .before .before .before .before .before .before .before .before .before .before .before .before .before .before .before .before .before .before .before .before .before .before .before .before .before .before .before) .args .width) (sumOf ((c .before .before .before .before .before .before .before .before .before .before .before .before .before .before .before .before .before .before .before .before .before .before .before .before .before .before .before .before .before .before) .args .width) h (crossOf ((c .before .before .before .before .before .before .before .before .before .before .before .before .before .before .before .before .before .before .before .before .before .before .before .before .before .before .before .before .before .before) .args .width) ((c .before .before .before .before .before .before .before .before .before .before .before .before .before .before .before .before .before .before .before .before .before .before .before .before .before .before .before .before .before .before) .args .j) (dec ((c .before .before .before .before .before .before .before .before .before .before .before .before .before .before .before .before .before .before .before .before .before .before .before .before .before .before .before .before .before .before) .args .width) ((c .before .before .before .before .before .before .before .before .before .before .before .before .before .before .before .before .before .before .before .before .before .before .before .before .before .before .before .before .before .before) .args .r .now)) (dec ((c .before .before .before .before .before .before .before .before .before .before .before .before .before .before .before .before .before .before .before .before .before .before .before .before .before .before .before .before .before .before) .args .width) ((c .before .before .before .before .before .before .before .before .before .before .before .before .before .before .before .before .before .before .before .before .before .before .before .before .before .before .before .before .before .before) .args .q .now))))) (sym (dec-enc (two·mul-pows t (c .before .before .before .before .before .before .before .before .before)))) (subst (Held ((c .before .before .before .before .before .before .before .before .before .before .before .before .before .before .before .before .before .before .before .before .before .before .before .before .before .before .before .before .before .before) .args .width)) (pows ((c .before .before .before .before .before .before .before .before .before .before .before .before .before .before .before .before .before .before .before .before .before .before .before .before .before .before .before .before .before .before) .args .width) ((c .before .before .before .before .before .before .before .before .before .before .before .before .before .before .before .before .before .before .before .before .before .before .before .before .before .before .before .before .before .before) .args .i) ((c .before .before .before .before .before .before .before .before .before .before .before .before .before .before .before .before .before .before .before .before .before .before .before .before .before .before .before .before .before .before) .args .j) (dec ((c .before .before .before .before .before .before .before .before .before .before .before .before .before .before .before .before .before .before .before .before .before .before .before .before .before .before .before .before .before .before) .args .width) ((c .before .before .before .before .before .before .before .before .before .before .before .before .before .before .before .before .before .before .before .before .before .before .before .before .before .before .before .before .before .before) .args .p .now)) (dec ((c .before .before .before .before .before .before .before .before .before .before .before .before .before .before .before .before .before .before .before .before .before .before .before .before .before .before .before .before .before .before) .args .width) ((c .before .before .before .before .before .before .before .before .before .before .before .before .before .before .before .before .before .before .before .before .before .before .before .before .before .before .before .before .before .before) .args .q .now)) (dec ((c .before .before .before .before .before .before .before .before .before .before .before .before .before .before .before .before .before .before .before .before .before .before .before .before .before .before .before .before .before .before) .args .width) ((c .before .before .before .before .before .before .before .before .before .before .before .before .before .before .before .before .before .before .before .before .before .before .before .before .before .before .before .before .before .before) .args .r .now)) (dec ((c .before .before .before .before .before .before .before .before .before .before .before .before .before .before .before .before .before .before .before .before .before .before .before .before .before .before .before .before .before .before) .args .width) ((c .before .before .before .before .before .before .before .before .before .before .before .before .before .before .before .before .before .before .before .before .before .before .before .before .before .before .before .before .before .before) .args .s .now))) (fit-prod (((c .before .before .before .before .before .before .before .before .before .before .before .before .before .before .before .before .before .before .before .before .before .before .before .before .before .before .before .before .before .before) .pre .1 .1) .fit))),
+          ),
+        ),
       ),
-    ),
-  ),
-)
+    )
 
 -- src/lib.rt:236:1
 mul-pows-same-length : (t : ℕ) → mul-pows-lts.Need-same-length (mul-lead-below t, mul-lead.Post, add-cross-below t, add-cross.Post) (mul-pows-at t) mul-pows.Post
@@ -1327,10 +1274,11 @@ product-part-mul-pop-end t c = search needs
 
 -- src/lib.rt:57:9
 product-mul-pop-requires : (t : ℕ) → product-lts.Need-mul-pop-requires (scale-reads.Asked, scale-reads.Learnt, mul-pop-below t, mul-pop.Post, mul-pow-below t, mul-pow.Post) (product-at t) product.Post
-product-mul-pop-requires t c κs = (
-  omega (arith, codes-length (inner·product t (c .before .before .before .before)), is-pop·product t (c .before .before .before .before), ((c .before .before .before .before .before .before .before .before .before .before .before .before) .pre .0)),
-  ((coded (inner·product t (c .before .before .before .before)), ((c .before .before .before .before .before .before .before .before .before .before .before .before) .pre .1 .0 .1)), pop-space ((getD ((c .before .before .before .before .before .before .before .before .before .before .before .before) .args .x .now) 0 0) % 64) (dec ((c .before .before .before .before .before .before .before .before .before .before .before .before) .args .width) (take (length ((c .before .before .before .before .before .before .before .before .before .before .before .before) .args .x .now) - 1) (drop 1 ((c .before .before .before .before .before .before .before .before .before .before .before .before) .args .x .now)))) (subst (λ h. Space ((c .before .before .before .before .before .before .before .before .before .before .before .before) .args .width) h (dec ((c .before .before .before .before .before .before .before .before .before .before .before .before) .args .width) ((c .before .before .before .before .before .before .before .before .before .before .before .before) .args .y .now)) (length ((c .before .before .before .before .before .before .before .before .before .before .before .before) .args .out .now)) (length ((c .before .before .before .before .before .before .before .before .before .before .before .before) .args .t .now)) (length ((c .before .before .before .before .before .before .before .before .before .before .before .before) .args .u .now))) (sym (pop-is (is-pop·product t (c .before .before .before .before)) _ (dec-enc (inner·product t (c .before .before .before .before))))) ((c .before .before .before .before .before .before .before .before .before .before .before .before) .pre .1 .1))),
-)
+product-mul-pop-requires t c κs =
+    (
+      omega (arith, (is-pop·product t (c .before .before .before .before)), ((c .before .before .before .before .before .before .before .before .before .before .before .before) .pre .0)),
+      (((is-pop·product t (c .before .before .before .before)) .part, ((c .before .before .before .before .before .before .before .before .before .before .before .before) .pre .1 .0 .1)), pop-space ((getD ((c .before .before .before .before .before .before .before .before .before .before .before .before) .args .x .now) 0 0) % 64) (dec ((c .before .before .before .before .before .before .before .before .before .before .before .before) .args .width) (inner ((c .before .before .before .before .before .before .before .before .before .before .before .before) .args .x .now))) (subst (λ h. Space ((c .before .before .before .before .before .before .before .before .before .before .before .before) .args .width) h (dec ((c .before .before .before .before .before .before .before .before .before .before .before .before) .args .width) ((c .before .before .before .before .before .before .before .before .before .before .before .before) .args .y .now)) (length ((c .before .before .before .before .before .before .before .before .before .before .before .before) .args .out .now)) (length ((c .before .before .before .before .before .before .before .before .before .before .before .before) .args .t .now)) (length ((c .before .before .before .before .before .before .before .before .before .before .before .before) .args .u .now))) ((is-pop·product t (c .before .before .before .before)) .is) ((c .before .before .before .before .before .before .before .before .before .before .before .before) .pre .1 .1))),
+    )
 
 -- src/lib.rt:57:9
 product-same-length-2 : (t : ℕ) → product-lts.Need-same-length-2 (scale-reads.Asked, scale-reads.Learnt, mul-pop-below t, mul-pop.Post, mul-pow-below t, mul-pow.Post) (product-at t) product.Post
@@ -1346,7 +1294,7 @@ product-same-length-4 t c = search needs
 
 -- src/lib.rt:57:9
 product-returns-2 : (t : ℕ) → product-lts.Need-returns-2 (scale-reads.Asked, scale-reads.Learnt, mul-pop-below t, mul-pop.Post, mul-pow-below t, mul-pow.Post) (product-at t) product.Post
-product-returns-2 t c = begins-as ((c .before .before .before .before .before .before .mul-pop) .ensures) (ap (λ h. enc ((c .before .before .before .before .before .before .before .before .before .before .before .before .before .before .before .before .before .before .before) .args .width) (prodOf ((c .before .before .before .before .before .before .before .before .before .before .before .before .before .before .before .before .before .before .before) .args .width) h (dec ((c .before .before .before .before .before .before .before .before .before .before .before .before .before .before .before .before .before .before .before) .args .width) ((c .before .before .before .before .before .before .before .before .before .before .before .before .before .before .before .before .before .before .before) .args .y .now)))) (pop-is (is-pop·product t (c .before .before .before .before .before .before .before .before .before .before .before)) _ (dec-enc (inner·product t (c .before .before .before .before .before .before .before .before .before .before .before)))))
+product-returns-2 t c = begins-as ((c .before .before .before .before .before .before .mul-pop) .ensures) (ap (λ h. enc ((c .before .before .before .before .before .before .before .before .before .before .before .before .before .before .before .before .before .before .before) .args .width) (prodOf ((c .before .before .before .before .before .before .before .before .before .before .before .before .before .before .before .before .before .before .before) .args .width) h (dec ((c .before .before .before .before .before .before .before .before .before .before .before .before .before .before .before .before .before .before .before) .args .width) ((c .before .before .before .before .before .before .before .before .before .before .before .before .before .before .before .before .before .before .before) .args .y .now)))) (sym ((is-pop·product t (c .before .before .before .before .before .before .before .before .before .before .before)) .is)))
 
 -- src/lib.rt:59:5
 product-mul-pow-requires : (t : ℕ) → product-lts.Need-mul-pow-requires (scale-reads.Asked, scale-reads.Learnt, mul-pop-below t, mul-pop.Post, mul-pow-below t, mul-pow.Post) (product-at t) product.Post
