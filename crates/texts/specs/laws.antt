@@ -10,3 +10,4 @@ pub mod Places
 pub mod Open
 pub mod Refused
 pub mod FormSofar
+pub mod FormThrough

@@ -19,7 +19,7 @@ all-front : (p : ℕ → Bool) (v w : List ℕ) → all p (v ++ w) ≡ true → 
 all-front p [] w e = refl
 all-front p (x ∷ v) w e = and-i (and-l (p x) (all p (v ++ w)) e) (all-front p v w (and-r (p x) (all p (v ++ w)) e))
 
-all-back : (p : ℕ → Bool) (v w : List ℕ) → all p (v ++ w) ≡ true → all p w ≡ true
+pub all-back : (p : ℕ → Bool) (v w : List ℕ) → all p (v ++ w) ≡ true → all p w ≡ true
 all-back p [] w e = e
 all-back p (x ∷ v) w e = all-back p v w (and-r (p x) (all p (v ++ w)) e)
 
