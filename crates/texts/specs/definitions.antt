@@ -10,3 +10,4 @@ pub mod Limits
 pub mod FormText
 pub mod FormReading
 pub mod FormJudging
+pub mod FormMeaning

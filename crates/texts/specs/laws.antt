@@ -11,3 +11,5 @@ pub mod Open
 pub mod Refused
 pub mod FormSofar
 pub mod FormThrough
+pub mod FormReading
+pub mod FormNormal

@@ -1,0 +1,46 @@
+-- What the readings of forms are for, said without reading.
+use mathlib.Core.List.{List, [], _∷_, _++_}
+use mathlib.Core.Path.{_≡_}
+use Prim.Native.Nat.{ℕ, suc, pred, _≤_}
+use lib.IntN.{ℤ}
+use lib.ListN.{length}
+use Rattle.horner.specs.definitions.Form.{Form}
+use Rattle.horner.specs.definitions.Integers.{ℤ-ring}
+use Rattle.horner.specs.definitions.Measures.{AllLe, degrees, weight, terms, nest}
+use Rattle.horner.specs.definitions.Normal.{Normal}
+use Rattle.texts.specs.definitions.FormText.{text}
+
+-- s is the text of the form f (laws/FormReading, reads: exactly then it is read as f)
+pub record IsFormText (s : List ℕ) (f : Form ℤ) : Type 0 where
+  pub short : length s ≤ 65535
+  pub is : s ≡ text f
+  pub shallow : nest f ≤ 256
+
+-- s is the text of a normal form f over a row of m, within the limits (laws/FormAccepted, accepts: exactly then it is accepted as f)
+pub record IsForm (m : ℕ) (s : List ℕ) (f : Form ℤ) : Type 0 where
+  pub written : IsFormText s f
+  pub normal : Normal ℤ-ring m f
+  pub degrees-fit : AllLe 63 (degrees m f)
+  pub weight-fits : weight f ≤ 1073741823
+  pub terms-fit : terms ℤ-ring f ≤ 256
+
+-- "no form text begins with the bytes so far": some form's text does
+pub record Begun (bs : List ℕ) : Type 0 where
+  pub form : Form ℤ
+  pub rest : List ℕ
+  pub is : text form ≡ bs ++ rest
+
+-- "In a form it is the first such byte."
+pub record FirstBad (s : List ℕ) (p : ℕ) : Type 0 where
+  pub before : List ℕ
+  pub byte : ℕ
+  pub behind : List ℕ
+  pub parts : s ≡ before ++ (byte ∷ behind)
+  pub place : p ≡ length before
+  pub begun : Begun before
+  pub ends : Begun (before ++ (byte ∷ [])) → ⊥
+
+-- the text ends early
+pub record EndsEarly (s : List ℕ) : Type 0 where
+  pub begun : Begun s
+  pub no-form : (f : Form ℤ) → text f ≡ s → ⊥
