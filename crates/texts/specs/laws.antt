@@ -13,3 +13,4 @@ pub mod FormSofar
 pub mod FormThrough
 pub mod FormReading
 pub mod FormNormal
+pub mod FormAccepted

@@ -1,4 +1,5 @@
 -- What the readings of forms are for, said without reading.
+use mathlib.Core.Bool.{true, false}
 use mathlib.Core.List.{List, [], _∷_, _++_}
 use mathlib.Core.Path.{_≡_}
 use Prim.Native.Nat.{ℕ, suc, pred, _≤_}
@@ -8,6 +9,7 @@ use Rattle.horner.specs.definitions.Form.{Form}
 use Rattle.horner.specs.definitions.Integers.{ℤ-ring}
 use Rattle.horner.specs.definitions.Measures.{AllLe, degrees, weight, terms, nest}
 use Rattle.horner.specs.definitions.Normal.{Normal}
+use Rattle.texts.specs.definitions.FormJudging.{Node, nodes, stands}
 use Rattle.texts.specs.definitions.FormText.{text}
 
 -- s is the text of the form f (laws/FormReading, reads: exactly then it is read as f)
@@ -44,3 +46,18 @@ pub record FirstBad (s : List ℕ) (p : ℕ) : Type 0 where
 pub record EndsEarly (s : List ℕ) : Type 0 where
   pub begun : Begun s
   pub no-form : (f : Form ℤ) → text f ≡ s → ⊥
+
+-- every node stands
+abbrev pub AllStand : ℕ → List Node → Type 0
+AllStand m [] = Unit {0}
+AllStand m (k ∷ ks) = (stands m (k .level) (k .form) ≡ true) × AllStand m ks
+
+-- "7: form text not normal", at "the node": "the first offending node in order of finishing"
+pub record WrongNode (m : ℕ) (f : Form ℤ) (p : ℕ) : Type 0 where
+  pub before : List Node
+  pub node : Node
+  pub behind : List Node
+  pub parts : nodes 0 0 f ≡ before ++ (node ∷ behind)
+  pub place : p ≡ node .place
+  pub stand : AllStand m before
+  pub falls : stands m (node .level) (node .form) ≡ false

@@ -12,6 +12,7 @@ use Rattle.horner.specs.definitions.Form.{Form, int, pop, pow, isZero}
 use Rattle.horner.specs.definitions.Integers.{ℤ-ring, isZeroℤ}
 use Rattle.horner.specs.definitions.Normal.{Normal, IsPow, Lead, isPow, leads}
 use Rattle.texts.specs.definitions.FormJudging.{Node, nodes, stands}
+use Rattle.texts.specs.definitions.FormMeaning.{AllStand}
 use Rattle.texts.specs.definitions.FormText.{text, popHead, powHead}
 use Rattle.texts.specs.laws.Bytes.{and-l, and-r, and-i}
 
@@ -36,29 +37,22 @@ is-lead (pop i x) h = refl
 is-lead (pow i x y) h = ap not h
 
 module _ (m : ℕ) where
-  abbrev pub AllStand : List Node → Type 0
-  AllStand [] = Unit {0}
-  AllStand (k ∷ ks) = (stands m (k .level) (k .form) ≡ true) × AllStand ks
-
-  all-append : (ks ls : List Node) → AllStand ks → AllStand ls → AllStand (ks ++ ls)
+  all-append : (ks ls : List Node) → AllStand m ks → AllStand m ls → AllStand m (ks ++ ls)
   all-append [] ls h g = g
   all-append (k ∷ ks) ls h g = (h .0, all-append ks ls (h .1) g)
 
-  all-left : (ks ls : List Node) → AllStand (ks ++ ls) → AllStand ks
+  all-left : (ks ls : List Node) → AllStand m (ks ++ ls) → AllStand m ks
   all-left [] ls h = tt
   all-left (k ∷ ks) ls h = (h .0, all-left ks ls (h .1))
 
-  all-right : (ks ls : List Node) → AllStand (ks ++ ls) → AllStand ls
+  all-right : (ks ls : List Node) → AllStand m (ks ++ ls) → AllStand m ls
   all-right [] ls h = h
   all-right (k ∷ ks) ls h = all-right ks ls (h .1)
-
-  here : ℕ → ℕ → Form ℤ → List Node
-  here l p f = record { level = l; place = p; form = f } ∷ []
 
   level : (a b : ℕ) (f : Form ℤ) → a ≡ b → Normal ℤ-ring a f → Normal ℤ-ring b f
   level a b f e h = rw e at h
 
-  pub stand-normal : (f : Form ℤ) (l p : ℕ) → AllStand (nodes l p f) → Normal ℤ-ring (m - l) f
+  pub stand-normal : (f : Form ℤ) (l p : ℕ) → AllStand m (nodes l p f) → Normal ℤ-ring (m - l) f
   stand-normal (int z) l p h = tt
   stand-normal (pop i x) l p h =
       let ks = nodes (l + i) (p + length (popHead i)) x in
@@ -78,7 +72,7 @@ module _ (m : ℕ) where
         level (m - suc l) (m - l - 1) y (omega arith) (stand-normal y (suc l) (p + length (powHead i) + length (text x) + 1) (all-left js _ g)),
       )
 
-  pub normal-stand : (f : Form ℤ) (l p : ℕ) → Normal ℤ-ring (m - l) f → AllStand (nodes l p f)
+  pub normal-stand : (f : Form ℤ) (l p : ℕ) → Normal ℤ-ring (m - l) f → AllStand m (nodes l p f)
   normal-stand (int z) l p h = (refl, tt)
   normal-stand (pop i x) l p h =
       all-append (nodes (l + i) (p + length (popHead i)) x) _
