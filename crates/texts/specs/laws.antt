@@ -14,3 +14,5 @@ pub mod FormThrough
 pub mod FormReading
 pub mod FormNormal
 pub mod FormAccepted
+pub mod FormBegun
+pub mod FormPlaces
