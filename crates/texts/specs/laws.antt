@@ -16,3 +16,5 @@ pub mod FormNormal
 pub mod FormAccepted
 pub mod FormBegun
 pub mod FormPlaces
+pub mod FormOpen
+pub mod FormRefused

@@ -3,6 +3,7 @@ use mathlib.Core.Bool.{true, false}
 use mathlib.Core.List.{List, [], _∷_, _++_}
 use mathlib.Core.Path.{_≡_}
 use Prim.Native.Nat.{ℕ, suc, pred, _≤_}
+use lib.Dec.{eqb}
 use lib.IntN.{ℤ}
 use lib.ListN.{length}
 use Rattle.horner.specs.definitions.Form.{Form}
@@ -46,6 +47,20 @@ pub record FirstBad (s : List ℕ) (p : ℕ) : Type 0 where
 pub record EndsEarly (s : List ℕ) : Type 0 where
   pub begun : Begun s
   pub no-form : (f : Form ℤ) → text f ≡ s → ⊥
+
+-- how many parentheses are open behind the bytes, d being open before them
+abbrev pub openAfter : ℕ → List ℕ → ℕ
+openAfter d [] = d
+openAfter d (b ∷ bs) = elim (eqb b 40) [ true ↦ openAfter (suc d) bs | false ↦ elim (eqb b 41) [ true ↦ openAfter (pred d) bs | false ↦ openAfter d bs ] ]
+
+-- "6: a parenthesis opened beyond the limit", at "that byte"
+pub record TooDeep (limit : ℕ) (s : List ℕ) (p : ℕ) : Type 0 where
+  pub before : List ℕ
+  pub behind : List ℕ
+  pub parts : s ≡ before ++ (40 ∷ behind)
+  pub place : p ≡ length before
+  pub open-before : limit ≤ openAfter 0 before
+  pub begun : Begun (before ++ (40 ∷ []))
 
 -- every node stands
 abbrev pub AllStand : ℕ → List Node → Type 0

@@ -22,10 +22,10 @@ use Rattle.texts.specs.laws.FormThrough.{through-all}
 use Rattle.texts.specs.laws.Places.{refusal-parts}
 use Rattle.texts.specs.laws.Sofar.{no-refusal}
 
-abbrev yes′ : ℕ → Bool
+abbrev pub yes′ : ℕ → Bool
 yes′ d = true
 
-check-yes : (s : Spot) (d b : ℕ) → check yes′ s d b ≡ 0
+pub check-yes : (s : Spot) (d b : ℕ) → check yes′ s d b ≡ 0
 check-yes before d b = go (eqb b 40) refl
   where
     go : (c : Bool) → eqb b 40 ≡ c → check yes′ before d b ≡ 0
