@@ -18,3 +18,4 @@ pub mod FormBegun
 pub mod FormPlaces
 pub mod FormOpen
 pub mod FormRefused
+pub mod Measured

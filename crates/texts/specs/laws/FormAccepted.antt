@@ -18,21 +18,13 @@ use Rattle.texts.specs.definitions.Bytes.{all}
 use Rattle.texts.specs.definitions.FormJudging.{Node, nodes, stands, firstWrong, passes, thenMeasured, thenJudged, acceptForm}
 use Rattle.texts.specs.definitions.FormMeaning.{IsFormText, IsForm, AllStand, WrongNode}
 use Rattle.texts.specs.definitions.FormReading.{readForm}
-use Rattle.texts.specs.laws.Bytes.{and-l, and-r, and-i}
+use Rattle.texts.specs.laws.Bytes.{and-l, and-r, and-i, all-le, le-all}
 use Rattle.texts.specs.laws.FormNormal.{stand-normal, normal-stand}
 use Rattle.texts.specs.laws.FormReading.{reads}
 use Rattle.texts.specs.laws.Places.{refusal-parts}
 use Rattle.texts.specs.laws.Sofar.{no-refusal}
 
 -- ---- the limits
-all-le : (ds : List ℕ) → all (λ d. leb d 63) ds ≡ true → AllLe 63 ds
-all-le [] e = tt
-all-le (d ∷ ds) e = (leb-true d 63 (and-l (leb d 63) (all (λ d. leb d 63) ds) e), all-le ds (and-r (leb d 63) (all (λ d. leb d 63) ds) e))
-
-le-all : (ds : List ℕ) → AllLe 63 ds → all (λ d. leb d 63) ds ≡ true
-le-all [] h = refl
-le-all (d ∷ ds) h = and-i (le-leb d 63 (h .0)) (le-all ds (h .1))
-
 pub record Fits (m : ℕ) (f : Form ℤ) : Type 0 where
   pub degrees-fit : AllLe 63 (degrees m f)
   pub weight-fits : weight f ≤ 1073741823
