@@ -19,3 +19,4 @@ pub mod FormPlaces
 pub mod FormOpen
 pub mod FormRefused
 pub mod Measured
+pub mod Accepted

@@ -112,7 +112,7 @@ module _ (row : List ℕ) where
       pass-both (finishing x) _ (fit-parts x (λ y r. h y (in-base p o c x q n r))) (fits-pass row (power p o c x q n) (h (power p o c x q n) (itself refl)), tt)
 
   -- ---- the first over a limit
-  all-pass : (r : Reading Tree) (ts : List Tree) → AllPass row ts → firstPast row r ts ≡ r
+  pub all-pass : (r : Reading Tree) (ts : List Tree) → AllPass row ts → firstPast row r ts ≡ r
   all-pass r [] h = refl
   all-pass r (t ∷ ts) h = rw (h .0) (all-pass r ts (h .1))
 
@@ -128,6 +128,6 @@ module _ (row : List ℕ) where
   past-first t u ts zero e h = past-later t u ts (firstPast row (read t) ts) e h
   past-first t u ts (suc c) e h = one-over [] u ts c refl tt e refl
 
-  past : (t : Tree) (ts : List Tree) → Past t ts (firstPast row (read t) ts)
+  pub past : (t : Tree) (ts : List Tree) → Past t ts (firstPast row (read t) ts)
   past t [] = none-over tt refl
   past t (u ∷ ts) = past-first t u ts (passes row u) refl (past t ts)
