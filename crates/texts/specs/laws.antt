@@ -2,6 +2,7 @@ pub mod Bytes
 pub mod Numerals
 pub mod Prefixes
 pub mod Tokens
+pub mod Cut
 pub mod Words
 pub mod Sofar
 pub mod Through
