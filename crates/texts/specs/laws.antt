@@ -22,3 +22,4 @@ pub mod FormOpen
 pub mod FormRefused
 pub mod Measured
 pub mod Accepted
+pub mod Spans
