@@ -23,3 +23,4 @@ pub mod FormRefused
 pub mod Measured
 pub mod Accepted
 pub mod Spans
+pub mod Rows
