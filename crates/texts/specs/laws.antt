@@ -24,3 +24,4 @@ pub mod Measured
 pub mod Accepted
 pub mod Spans
 pub mod Rows
+pub mod Length
