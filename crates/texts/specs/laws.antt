@@ -25,3 +25,4 @@ pub mod Accepted
 pub mod Spans
 pub mod Rows
 pub mod Length
+pub mod Result
