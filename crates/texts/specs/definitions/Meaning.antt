@@ -2,7 +2,7 @@
 use mathlib.Core.Bool.{Bool, true, false, _&&_}
 use mathlib.Core.List.{List, [], _∷_, _++_}
 use mathlib.Core.Path.{_≡_}
-use Prim.Native.Nat.{ℕ, suc, pred, _≤_}
+use Prim.Native.Nat.{ℕ, suc, pred, _≤_, _<_}
 use lib.ListN.{length}
 use Rattle.texts.specs.definitions.Bytes.{capital, inRow}
 use Rattle.texts.specs.definitions.Tokens.{Token, opening, closing, word, placeOf, tokens}
@@ -22,31 +22,6 @@ pub record Begun (ks : List Token) : Type 0 where
   pub capitals : letters capital term ≡ true
   pub is : placed term ≡ ks ++ rest
 
--- "place 4 is the first token such that no term of any size begins with the tokens so far"
-pub record FirstBad (ts : List Token) (p : ℕ) : Type 0 where
-  pub before : List Token
-  pub token : Token
-  pub behind : List Token
-  pub parts : ts ≡ before ++ (token ∷ behind)
-  pub place : p ≡ placeOf token
-  pub begun : Begun before
-  pub ends : Begun (before ++ (token ∷ [])) → ⊥
-
--- "or the text's length if it ends early"
-pub record EndsEarly (ts : List Token) : Type 0 where
-  pub begun : Begun ts
-  pub no-term : (t : Tree) → letters capital t ≡ true → placed t ≡ ts → ⊥
-
--- "5: a capital letter not in the row, where a letter may stand", at "its token"
-pub record Unknown (row : List ℕ) (ts : List Token) (p : ℕ) : Type 0 where
-  pub before : List Token
-  pub letter : ℕ
-  pub behind : List Token
-  pub parts : ts ≡ before ++ (word p (letter ∷ []) ∷ behind)
-  pub is-capital : capital letter ≡ true
-  pub not-in-row : inRow row letter ≡ false
-  pub begun : Begun (before ++ (word p (letter ∷ []) ∷ []))
-
 -- how many parentheses are open behind the tokens, d being open before them
 abbrev pub openAfter : ℕ → List Token → ℕ
 openAfter d [] = d
@@ -54,10 +29,52 @@ openAfter d (opening p ∷ ts) = openAfter (suc d) ts
 openAfter d (closing p ∷ ts) = openAfter (pred d) ts
 openAfter d (word p w ∷ ts) = openAfter d ts
 
+-- the token is no parenthesis beyond the limit, d being open before it, and no capital letter outside the row
+abbrev pub Passes : List ℕ → ℕ → ℕ → Token → Type 0
+Passes row limit d (opening p) = d < limit
+Passes row limit d (closing p) = Unit {0}
+Passes row limit d (word p []) = Unit {0}
+Passes row limit d (word p (b ∷ [])) = capital b ≡ true → inRow row b ≡ true
+Passes row limit d (word p (b ∷ c ∷ w)) = Unit {0}
+
+-- all of them pass: where a refusal stands behind them, it is "at the earliest place"
+abbrev pub Clean : List ℕ → ℕ → ℕ → List Token → Type 0
+Clean row limit d [] = Unit {0}
+Clean row limit d (k ∷ ks) = Passes row limit d k × Clean row limit (openAfter d (k ∷ [])) ks
+
+-- "place 4 is the first token such that no term of any size begins with the tokens so far"
+pub record FirstBad (row : List ℕ) (limit : ℕ) (ts : List Token) (p : ℕ) : Type 0 where
+  pub before : List Token
+  pub token : Token
+  pub behind : List Token
+  pub parts : ts ≡ before ++ (token ∷ behind)
+  pub place : p ≡ placeOf token
+  pub clean : Clean row limit 0 before
+  pub begun : Begun before
+  pub ends : Begun (before ++ (token ∷ [])) → ⊥
+
+-- "or the text's length if it ends early"
+pub record EndsEarly (row : List ℕ) (limit : ℕ) (ts : List Token) : Type 0 where
+  pub clean : Clean row limit 0 ts
+  pub begun : Begun ts
+  pub no-term : (t : Tree) → letters capital t ≡ true → placed t ≡ ts → ⊥
+
+-- "5: a capital letter not in the row, where a letter may stand", at "its token"
+pub record Unknown (row : List ℕ) (limit : ℕ) (ts : List Token) (p : ℕ) : Type 0 where
+  pub before : List Token
+  pub letter : ℕ
+  pub behind : List Token
+  pub parts : ts ≡ before ++ (word p (letter ∷ []) ∷ behind)
+  pub clean : Clean row limit 0 before
+  pub is-capital : capital letter ≡ true
+  pub not-in-row : inRow row letter ≡ false
+  pub begun : Begun (before ++ (word p (letter ∷ []) ∷ []))
+
 -- "6: a parenthesis opened beyond the limit", at "that byte"
-pub record TooDeep (limit : ℕ) (ts : List Token) (p : ℕ) : Type 0 where
+pub record TooDeep (row : List ℕ) (limit : ℕ) (ts : List Token) (p : ℕ) : Type 0 where
   pub before : List Token
   pub behind : List Token
   pub parts : ts ≡ before ++ (opening p ∷ behind)
+  pub clean : Clean row limit 0 before
   pub open-before : limit ≤ openAfter 0 before
   pub begun : Begun (before ++ (opening p ∷ []))

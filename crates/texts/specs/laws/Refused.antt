@@ -6,19 +6,20 @@ use mathlib.Core.Path.{_≡_, refl, sym, ap, subst, _∙_}
 use Prim.Native.Nat.{ℕ, zero, suc, _≤_, _<_}
 use native.Mathlib.Nat.{zero-add}
 use native.Mathlib.Omega.{arith}
-use borrow.Author.Tests.{ltb-false, lt-leb}
+use borrow.Author.Tests.{ltb-true, ltb-false, lt-leb}
 use lib.Dec.{leb, ltb}
 use lib.ListN.{length}
 use Rattle.texts.specs.definitions.Answer.{Reading, read, refused, fine}
 use Rattle.texts.specs.definitions.Bytes.{capital, inRow}
-use Rattle.texts.specs.definitions.Meaning.{Begun, FirstBad, EndsEarly, Unknown, TooDeep, openAfter}
+use Rattle.texts.specs.definitions.Meaning.{Begun, FirstBad, EndsEarly, Unknown, TooDeep, openAfter, Passes, Clean}
 use Rattle.texts.specs.definitions.Reading.{Frame, Spot, operand, operator, exponent, ending, raised, Next, on, whole, off, step, check, letterCheck, run, readTerm}
 use Rattle.texts.specs.definitions.Tokens.{Token, opening, closing, word, placeOf, tokens}
 use Rattle.texts.specs.definitions.Tree.{Tree, placed, letters}
 use Rattle.texts.specs.laws.Begun.{yes′, check-yes, capitals-admits, Live, begun-next}
-use Rattle.texts.specs.laws.Open.{open-placed, open-stack}
+use Rattle.texts.specs.laws.Open.{open-depth, Checks}
 use Rattle.texts.specs.laws.Places.{Reached, Refusal, early, bad, past, trace, refusal-parts}
-use Rattle.texts.specs.laws.Sofar.{stackTokens, soFar, admits, Held, held-step, no-refusal}
+use Rattle.texts.specs.laws.Sofar.{soFar, admits, Held, room-check, held-step, no-refusal}
+use Rattle.texts.specs.laws.Words.{letter-check}
 use Rattle.texts.specs.laws.Through.{goOn, through-all}
 
 -- ---- the numbers of the checks
@@ -50,19 +51,20 @@ module _ (n : ℕ) where
   no-term ks ys x t e p r c i g =
       no-refusal {a = t} (sym g ∙ sym (r .goes ys) ∙ ap (run yes′ yes′ n operand []) (sym i) ∙ through-all yes′ yes′ n t (capitals-admits t 0 c))
 
-  pub ends-early : (ts : List Token) (s : Spot) (fs : List Frame) → Reached n operand [] ts (on s fs) → EndsEarly ts
-  ends-early ts s fs r =
-      record { begun = begun-next (on s fs) ts tt (r .held); no-term = λ t c i. no-term ts [] (on s fs) t 4 n r c (i ∙ sym (append-nil ts)) refl }
+  pub ends-early : (row : List ℕ) (ts : List Token) (s : Spot) (fs : List Frame) → Reached n operand [] ts (on s fs) → Clean row 16 0 ts → EndsEarly row 16 ts
+  ends-early row ts s fs r c =
+      record { clean = c; begun = begun-next (on s fs) ts tt (r .held); no-term = λ t c i. no-term ts [] (on s fs) t 4 n r c (i ∙ sym (append-nil ts)) refl }
 
-  pub first-bad : (ts ks : List Token) (k : Token) (zs : List Token) (x : Next) (p : ℕ) → ts ≡ ks ++ (k ∷ zs) → Reached n operand [] ks x
-      → ((ys : List Token) → goOn yes′ yes′ n x (k ∷ ys) ≡ refused 4 (placeOf k)) → p ≡ placeOf k → FirstBad ts p
-  first-bad ts ks k zs x p f r g j =
+  pub first-bad : (row : List ℕ) (ts ks : List Token) (k : Token) (zs : List Token) (x : Next) (p : ℕ) → ts ≡ ks ++ (k ∷ zs) → Reached n operand [] ks x → Clean row 16 0 ks
+      → ((ys : List Token) → goOn yes′ yes′ n x (k ∷ ys) ≡ refused 4 (placeOf k)) → p ≡ placeOf k → FirstBad row 16 ts p
+  first-bad row ts ks k zs x p f r h g j =
       record {
         before = ks;
         token = k;
         behind = zs;
         parts = f;
         place = j;
+        clean = h;
         begun = begun-next x ks (r .live) (r .held);
         ends = λ b. no-term ks (k ∷ b .rest) x (b .term) 4 (placeOf k) r (b .capitals) (b .is ∙ append-assoc ks (k ∷ []) (b .rest)) (g (b .rest));
       }
@@ -73,14 +75,6 @@ module _ (n : ℕ) where
       begun-next x (ks ++ (k ∷ [])) l
       (subst (λ (y : Next). Held yes′ yes′ y (ks ++ (k ∷ []))) g
       (rw (r .held .0) at (held-step yes′ yes′ s fs k (r .held .1 .0) (r .held .1 .1) (check-yes (length fs) k))))
-
-  -- a parenthesis may be opened only where an operand may come
-  open-depth : (p : ℕ) (s : Spot) (fs : List Frame) (ks : List Token) (x : Next) → soFar s fs ≡ ks → step s fs (opening p) ≡ x → Live x → openAfter 0 ks ≡ length fs
-  open-depth p operand fs ks x h g l = ap (openAfter 0) (sym h) ∙ open-stack fs 0 [] ∙ zero-add (length fs)
-  open-depth p (operator q) fs ks x h g l = absurd (rw (← g) at l)
-  open-depth p (exponent q o y) fs ks x h g l = absurd (rw (← g) at l)
-  open-depth p (ending q o i y z) fs ks x h g l = absurd (rw (← g) at l)
-  open-depth p (raised q o y r m) fs ks x h g l = absurd (rw (← g) at l)
 
 not-4 : {known room : ℕ → Bool} {d e : ℕ} {k : Token} → Checked known room d e k → e ≡ 4 → ⊥
 not-4 (deep p i r) e = omega arith
@@ -95,14 +89,25 @@ module _ (row s : List ℕ) where
       go true k = trace (inRow row) (λ d. ltb d 16) (length s) (tokens 0 s) operand [] e p tt tt (rw (k, readTerm) at r)
       go false k = absurd (m (refusal-parts 3 0 e p (rw (k, readTerm) at r) .0))
 
-  place-4-of : (p : ℕ) → Refusal (length s) (inRow row) (λ d. ltb d 16) operand [] (tokens 0 s) 4 p → FirstBad (tokens 0 s) p ⊎ (EndsEarly (tokens 0 s) × (p ≡ length s))
-  place-4-of p (early s′ fs′ q i j) = inr (ends-early (length s) (tokens 0 s) s′ fs′ q, j)
-  place-4-of p (bad ks k zs x f q g i j) = inl (first-bad (length s) (tokens 0 s) ks k zs x p f q g j)
-  place-4-of p (past ks k zs s′ fs′ x f q g l i m j) = absurd (not-4 (checked (inRow row) (λ d. ltb d 16) (length fs′) 4 k m i) refl)
+  passes : (d : ℕ) (k : Token) → check (inRow row) (λ d. ltb d 16) d k ≡ 0 → Passes row 16 d k
+  passes d (opening q) c = ltb-true d 16 (room-check (inRow row) (λ d. ltb d 16) d c)
+  passes d (closing q) c = tt
+  passes d (word q []) c = tt
+  passes d (word q (b ∷ [])) c = λ h. letter-check (inRow row) (λ d. ltb d 16) b h c
+  passes d (word q (b ∷ b′ ∷ w)) c = tt
+
+  clean : (d : ℕ) (ks : List Token) → Checks (inRow row) (λ d. ltb d 16) d ks → Clean row 16 d ks
+  clean d [] h = tt
+  clean d (k ∷ ks) h = (passes d k (h .0), clean (openAfter d (k ∷ [])) ks (h .1))
+
+  place-4-of : (p : ℕ) → Refusal (length s) (inRow row) (λ d. ltb d 16) operand [] (tokens 0 s) 4 p → FirstBad row 16 (tokens 0 s) p ⊎ (EndsEarly row 16 (tokens 0 s) × (p ≡ length s))
+  place-4-of p (early s′ fs′ q h i j) = inr (ends-early (length s) row (tokens 0 s) s′ fs′ q (clean 0 (tokens 0 s) h), j)
+  place-4-of p (bad ks k zs x f q h g i j) = inl (first-bad (length s) row (tokens 0 s) ks k zs x p f q (clean 0 ks h) g j)
+  place-4-of p (past ks k zs s′ fs′ x f q h g l i m j) = absurd (not-4 (checked (inRow row) (λ d. ltb d 16) (length fs′) 4 k m i) refl)
 
   -- "In a term, place 4 is the first token such that no term of any size begins with the tokens so far (an unknown capital counts as a letter here), or the text's
   -- length if it ends early."
-  pub place-4 : (p : ℕ) → readTerm row s ≡ refused 4 p → FirstBad (tokens 0 s) p ⊎ (EndsEarly (tokens 0 s) × (p ≡ length s))
+  pub place-4 : (p : ℕ) → readTerm row s ≡ refused 4 p → FirstBad row 16 (tokens 0 s) p ⊎ (EndsEarly row 16 (tokens 0 s) × (p ≡ length s))
   place-4 p r = place-4-of p (ran 4 p (omega arith) r)
 
   -- "term over 4,096 bytes", place 0
@@ -110,43 +115,45 @@ module _ (row s : List ℕ) where
   unfolding readTerm
   too-long h = rw (lt-leb (length s) 4096 h, readTerm)
 
-  place-5-of : (p : ℕ) → Refusal (length s) (inRow row) (λ d. ltb d 16) operand [] (tokens 0 s) 5 p → Unknown row (tokens 0 s) p
-  place-5-of p (early s′ fs′ q i j) = absurd (omega arith)
-  place-5-of p (bad ks k zs x f q g i j) = absurd (omega arith)
-  place-5-of p (past ks k zs s′ fs′ x f q g l i m j) = go k f (begun-with (length s) ks k s′ fs′ x q g l) (checked (inRow row) (λ d. ltb d 16) (length fs′) 5 k m i) j
+  place-5-of : (p : ℕ) → Refusal (length s) (inRow row) (λ d. ltb d 16) operand [] (tokens 0 s) 5 p → Unknown row 16 (tokens 0 s) p
+  place-5-of p (early s′ fs′ q h i j) = absurd (omega arith)
+  place-5-of p (bad ks k zs x f q h g i j) = absurd (omega arith)
+  place-5-of p (past ks k zs s′ fs′ x f q h g l i m j) = go k f (begun-with (length s) ks k s′ fs′ x q g l) (checked (inRow row) (λ d. ltb d 16) (length fs′) 5 k m i) j
     where
-      go : (k : Token) → tokens 0 s ≡ ks ++ (k ∷ zs) → Begun (ks ++ (k ∷ [])) → Checked (inRow row) (λ d. ltb d 16) (length fs′) 5 k → p ≡ placeOf k → Unknown row (tokens 0 s) p
+      go : (k : Token) → tokens 0 s ≡ ks ++ (k ∷ zs) → Begun (ks ++ (k ∷ [])) → Checked (inRow row) (λ d. ltb d 16) (length fs′) 5 k → p ≡ placeOf k → Unknown row 16 (tokens 0 s) p
       go k f b (deep r e o) j = absurd (omega arith)
-      go k f b (unknown r c e h o) j =
+      go k f b (unknown r c e v o) j =
           record {
             before = ks;
             letter = c;
             behind = zs;
             parts = f ∙ ap (λ (z : ℕ). ks ++ (word z (c ∷ []) ∷ zs)) (sym j);
-            is-capital = h;
+            clean = clean 0 ks h;
+            is-capital = v;
             not-in-row = o;
             begun = rw j b;
           }
 
-  pub place-5 : (p : ℕ) → readTerm row s ≡ refused 5 p → Unknown row (tokens 0 s) p
+  pub place-5 : (p : ℕ) → readTerm row s ≡ refused 5 p → Unknown row 16 (tokens 0 s) p
   place-5 p r = place-5-of p (ran 5 p (omega arith) r)
 
-  place-6-of : (p : ℕ) → Refusal (length s) (inRow row) (λ d. ltb d 16) operand [] (tokens 0 s) 6 p → TooDeep 16 (tokens 0 s) p
-  place-6-of p (early s′ fs′ q i j) = absurd (omega arith)
-  place-6-of p (bad ks k zs x f q g i j) = absurd (omega arith)
-  place-6-of p (past ks k zs s′ fs′ x f q g l i m j) = go k f g (begun-with (length s) ks k s′ fs′ x q g l) (checked (inRow row) (λ d. ltb d 16) (length fs′) 6 k m i) j
+  place-6-of : (p : ℕ) → Refusal (length s) (inRow row) (λ d. ltb d 16) operand [] (tokens 0 s) 6 p → TooDeep row 16 (tokens 0 s) p
+  place-6-of p (early s′ fs′ q h i j) = absurd (omega arith)
+  place-6-of p (bad ks k zs x f q h g i j) = absurd (omega arith)
+  place-6-of p (past ks k zs s′ fs′ x f q h g l i m j) = go k f g (begun-with (length s) ks k s′ fs′ x q g l) (checked (inRow row) (λ d. ltb d 16) (length fs′) 6 k m i) j
     where
-      go : (k : Token) → tokens 0 s ≡ ks ++ (k ∷ zs) → step s′ fs′ k ≡ x → Begun (ks ++ (k ∷ [])) → Checked (inRow row) (λ d. ltb d 16) (length fs′) 6 k → p ≡ placeOf k → TooDeep 16 (tokens 0 s) p
+      go : (k : Token) → tokens 0 s ≡ ks ++ (k ∷ zs) → step s′ fs′ k ≡ x → Begun (ks ++ (k ∷ [])) → Checked (inRow row) (λ d. ltb d 16) (length fs′) 6 k → p ≡ placeOf k → TooDeep row 16 (tokens 0 s) p
       go k f g b (deep r e o) j =
-          let d = open-depth (length s) r s′ fs′ ks x (q .held .0) g l in
+          let d : openAfter 0 ks ≡ length fs′ = ap (openAfter 0) (sym (q .held .0)) ∙ open-depth r s′ fs′ x g l in
           record {
             before = ks;
             behind = zs;
             parts = f ∙ ap (λ (z : ℕ). ks ++ (opening z ∷ zs)) (sym j);
+            clean = clean 0 ks h;
             open-before = omega (arith, ltb-false (length fs′) 16 o);
             begun = rw j b;
           }
-      go k f g b (unknown r c e h o) j = absurd (omega arith)
+      go k f g b (unknown r c e v o) j = absurd (omega arith)
 
-  pub place-6 : (p : ℕ) → readTerm row s ≡ refused 6 p → TooDeep 16 (tokens 0 s) p
+  pub place-6 : (p : ℕ) → readTerm row s ≡ refused 6 p → TooDeep row 16 (tokens 0 s) p
   place-6 p r = place-6-of p (ran 6 p (omega arith) r)

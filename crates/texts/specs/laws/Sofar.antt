@@ -88,7 +88,7 @@ module _ (known room : ℕ → Bool) where
       go (is-letter b k f g) =
           held-deliver t fs (stackTokens fs ++ (word p w ∷ [])) (rw (← g, f) refl) (rw (← g) (and-i k (letter-check known room b k (ap (letterCheck known room) f ∙ c)))) h
 
-  room-check : (d : ℕ) → _≡_ {A = ℕ} (cond (room d) 0 6) 0 → room d ≡ true
+  pub room-check : (d : ℕ) → _≡_ {A = ℕ} (cond (room d) 0 6) 0 → room d ≡ true
   room-check d e = go (room d) refl
     where
       go : (b : Bool) → room d ≡ b → room d ≡ true
