@@ -26,3 +26,4 @@ pub mod Spans
 pub mod Rows
 pub mod Length
 pub mod Result
+pub mod Alike
