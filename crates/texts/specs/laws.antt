@@ -27,3 +27,5 @@ pub mod Rows
 pub mod Length
 pub mod Result
 pub mod Alike
+pub mod FormNodes
+pub mod Capped

@@ -2,7 +2,7 @@
 use mathlib.Core.Bool.{true, false}
 use mathlib.Core.List.{List, [], _∷_, _++_}
 use mathlib.Core.Path.{_≡_}
-use Prim.Native.Nat.{ℕ, suc, pred, _≤_}
+use Prim.Native.Nat.{ℕ, suc, pred, _+_, _≤_}
 use lib.Dec.{eqb}
 use lib.IntN.{ℤ}
 use lib.ListN.{length}
@@ -76,3 +76,10 @@ pub record WrongNode (m : ℕ) (f : Form ℤ) (p : ℕ) : Type 0 where
   pub place : p ≡ node .place
   pub stand : AllStand m before
   pub falls : stands m (node .level) (node .form) ≡ false
+
+-- the node's text stands at its place in the text of f, which itself stands from p on
+pub record StandsAt (f : Form ℤ) (p : ℕ) (k : Node) : Type 0 where
+  pub before : List ℕ
+  pub behind : List ℕ
+  pub parts : text f ≡ before ++ (text (k .form) ++ behind)
+  pub place : k .place ≡ p + length before

@@ -79,6 +79,9 @@ record Moved (t : Tree) (ks ls : List Token) : Type 0 where
 alike-by : (ks js ls : List Token) → ks ≡ js → Alike ks ls → Alike js ls
 alike-by ks js ls e h = rw e at h
 
+both : (a b c d : Bool) → a ≡ c → b ≡ d → (a && b) ≡ (c && d)
+both a b c d e f = ap₂ _&&_ e f
+
 -- the pieces of a list, put together
 whole : (k l : Token) (xs ys ls r₁ r₂ r₃ r₄ : List Token) → ls ≡ k ∷ r₁ → r₁ ≡ l ∷ r₂ → r₂ ≡ xs ++ r₃ → r₃ ≡ ys ++ r₄ → ls ≡ (k ∷ l ∷ xs ++ ys) ++ r₄
 whole k l xs ys ls r₁ r₂ r₃ r₄ e₁ e₂ e₃ e₄ =
@@ -121,7 +124,7 @@ moved (two p o c g x y) ks ls h =
           whole (opening (a .place)) (word (b .place) (signText g)) (placed (m .tree)) (placed (n .tree) ++ (closing (d .place) ∷ [])) ls (a .rest) (b .rest) (m .rest) (d .rest) (a .is) (b .is) (m .is)
           (last (placed (n .tree)) (m .rest) (n .rest) (closing (d .place)) (d .rest) (n .is) (d .is));
       alike = d .alike;
-      same-letters = ap₂ _&&_ (m .same-letters) (n .same-letters);
+      same-letters = both (letters capital (m .tree)) (letters capital (n .tree)) (letters capital x) (letters capital y) (m .same-letters) (n .same-letters);
     }
 moved (power p o c x q n) ks ls h =
     let a = opens p (word o (bytes "EXPT") ∷ (placed x ++ (word q (dec n) ∷ closing c ∷ [])) ++ ks) ls h in
