@@ -7,6 +7,7 @@ pub mod Answer
 pub mod Meaning
 pub mod Reading
 pub mod Limits
+pub mod Kinds
 pub mod Capped
 pub mod Parts
 pub mod FormText

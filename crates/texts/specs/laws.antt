@@ -29,3 +29,4 @@ pub mod Result
 pub mod Alike
 pub mod FormNodes
 pub mod Capped
+pub mod Kinds

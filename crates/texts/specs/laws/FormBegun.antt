@@ -9,9 +9,9 @@ use lib.ListN.{length}
 use Rattle.horner.specs.definitions.Form.{Form, int, pop, pow}
 use Rattle.texts.specs.definitions.Bytes.{bytes, same}
 use Rattle.texts.specs.definitions.FormMeaning.{Begun}
-use Rattle.texts.specs.definitions.FormReading.{Frame, inPop, inPow, inRest, Kind, popKind, powKind, Spot, before, number, head, index, behind, isSome, intBegun, headBegun}
+use Rattle.texts.specs.definitions.FormReading.{Frame, inPop, inPow, inRest, Kind, popKind, powKind, Spot, before, number, head, index, behind, intBegun, headBegun}
 use Rattle.texts.specs.definitions.FormText.{text, popHead, powHead}
-use Rattle.texts.specs.definitions.Numerals.{canonical, valueFrom, readInt, dec, writeInt}
+use Rattle.texts.specs.definitions.Numerals.{canonical, valueFrom, readInt, dec, writeInt, isSome}
 use Rattle.texts.specs.laws.Bytes.{same-eq}
 use Rattle.texts.specs.laws.FormSofar.{frameBytes, stackBytes, kindBytes, spotBytes, soFar, Front, SpotOk, StackOk}
 use Rattle.texts.specs.laws.Numerals.{int-read, dec-canonical}

@@ -9,8 +9,8 @@ use borrow.Author.Tests.{eqb-true}
 use lib.Dec.{eqb}
 use lib.IntN.{ℤ, pos, negsuc}
 use Rattle.texts.specs.definitions.Bytes.{bytes, same, digit, all}
-use Rattle.texts.specs.definitions.FormReading.{intBegun, isSome}
-use Rattle.texts.specs.definitions.Numerals.{canonical, isEmpty, valueFrom, dec, readNat, readInt, writeInt, below0, from0}
+use Rattle.texts.specs.definitions.FormReading.{intBegun}
+use Rattle.texts.specs.definitions.Numerals.{canonical, isEmpty, valueFrom, dec, readNat, readInt, writeInt, below0, from0, isSome}
 use Rattle.texts.specs.laws.Bytes.{and-l, and-r, and-i, same-eq, same-refl}
 use Rattle.texts.specs.laws.Numerals.{no-none, Leading, leading-canonical, leading-dec, canonical-dec, dec-canonical, read-unsigned, read-int, dec-short}
 
