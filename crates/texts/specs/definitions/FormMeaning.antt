@@ -2,7 +2,7 @@
 use mathlib.Core.Bool.{true, false}
 use mathlib.Core.List.{List, [], _∷_, _++_}
 use mathlib.Core.Path.{_≡_}
-use Prim.Native.Nat.{ℕ, suc, pred, _+_, _≤_}
+use Prim.Native.Nat.{ℕ, suc, pred, _+_, _≤_, _<_}
 use lib.Dec.{eqb}
 use lib.IntN.{ℤ}
 use lib.ListN.{length}
@@ -33,25 +33,32 @@ pub record Begun (bs : List ℕ) : Type 0 where
   pub rest : List ℕ
   pub is : text form ≡ bs ++ rest
 
+-- how many parentheses are open behind the bytes, d being open before them
+abbrev pub openAfter : ℕ → List ℕ → ℕ
+openAfter d [] = d
+openAfter d (b ∷ bs) = elim (eqb b 40) [ true ↦ openAfter (suc d) bs | false ↦ elim (eqb b 41) [ true ↦ openAfter (pred d) bs | false ↦ openAfter d bs ] ]
+
+-- no parenthesis among them is opened beyond the limit, d being open before: where a refusal stands behind them, it is "at the earliest place"
+abbrev pub Clean : ℕ → ℕ → List ℕ → Type 0
+Clean limit d [] = Unit {0}
+Clean limit d (b ∷ bs) = (b ≡ 40 → d < limit) × Clean limit (openAfter d (b ∷ [])) bs
+
 -- "In a form it is the first such byte."
-pub record FirstBad (s : List ℕ) (p : ℕ) : Type 0 where
+pub record FirstBad (limit : ℕ) (s : List ℕ) (p : ℕ) : Type 0 where
   pub before : List ℕ
   pub byte : ℕ
   pub behind : List ℕ
   pub parts : s ≡ before ++ (byte ∷ behind)
   pub place : p ≡ length before
+  pub clean : Clean limit 0 before
   pub begun : Begun before
   pub ends : Begun (before ++ (byte ∷ [])) → ⊥
 
 -- the text ends early
-pub record EndsEarly (s : List ℕ) : Type 0 where
+pub record EndsEarly (limit : ℕ) (s : List ℕ) : Type 0 where
+  pub clean : Clean limit 0 s
   pub begun : Begun s
   pub no-form : (f : Form ℤ) → text f ≡ s → ⊥
-
--- how many parentheses are open behind the bytes, d being open before them
-abbrev pub openAfter : ℕ → List ℕ → ℕ
-openAfter d [] = d
-openAfter d (b ∷ bs) = elim (eqb b 40) [ true ↦ openAfter (suc d) bs | false ↦ elim (eqb b 41) [ true ↦ openAfter (pred d) bs | false ↦ openAfter d bs ] ]
 
 -- "6: a parenthesis opened beyond the limit", at "that byte"
 pub record TooDeep (limit : ℕ) (s : List ℕ) (p : ℕ) : Type 0 where
@@ -59,6 +66,7 @@ pub record TooDeep (limit : ℕ) (s : List ℕ) (p : ℕ) : Type 0 where
   pub behind : List ℕ
   pub parts : s ≡ before ++ (40 ∷ behind)
   pub place : p ≡ length before
+  pub clean : Clean limit 0 before
   pub open-before : limit ≤ openAfter 0 before
   pub begun : Begun (before ++ (40 ∷ []))
 

@@ -1,5 +1,5 @@
 -- Tests on bytes and texts, as facts.
-use mathlib.Core.Bool.{Bool, true, false, _&&_, true≢false}
+use mathlib.Core.Bool.{Bool, true, false, _&&_, _||_, true≢false}
 use mathlib.Core.List.{List, [], _∷_, _++_}
 use mathlib.Core.Path.{_≡_, refl, sym, ap, ap₂, _∙_}
 use Prim.Native.Nat.{ℕ, _≤_}
@@ -22,6 +22,10 @@ and-r false b e = absurd (true≢false (sym e))
 
 pub and-i : {a b : Bool} → a ≡ true → b ≡ true → (a && b) ≡ true
 and-i {a} {b} e f = rw (e, f)
+
+pub either : (a b : Bool) (P : Type 0) → (a || b) ≡ true → (a ≡ true → P) → (b ≡ true → P) → P
+either true b P e f g = f refl
+either false b P e f g = g e
 
 -- ---- texts
 pub same-eq : (v w : List ℕ) → same v w ≡ true → v ≡ w

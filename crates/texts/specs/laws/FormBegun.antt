@@ -12,7 +12,7 @@ use Rattle.texts.specs.definitions.FormMeaning.{Begun}
 use Rattle.texts.specs.definitions.FormReading.{Frame, inPop, inPow, inRest, Kind, popKind, powKind, Spot, before, number, head, index, behind, intBegun, headBegun}
 use Rattle.texts.specs.definitions.FormText.{text, popHead, powHead}
 use Rattle.texts.specs.definitions.Numerals.{canonical, valueFrom, readInt, dec, writeInt, isSome}
-use Rattle.texts.specs.laws.Bytes.{same-eq}
+use Rattle.texts.specs.laws.Bytes.{either, same-eq}
 use Rattle.texts.specs.laws.FormSofar.{frameBytes, stackBytes, kindBytes, spotBytes, soFar, Front, SpotOk, StackOk}
 use Rattle.texts.specs.laws.Numerals.{int-read, dec-canonical}
 
@@ -52,10 +52,6 @@ number-begun w e = go (same w (bytes "-")) refl
     go : (b : Bool) → same w (bytes "-") ≡ b → Begun w
     go true k = is-begun (int (negsuc 0)) w (45 ∷ []) (dec 1) refl (same-eq w (bytes "-") k)
     go false k = whole (readInt w) refl (let h : (false || isSome (readInt w)) ≡ true = rw k at e in h)
-
-either : (a b : Bool) (P : Type 0) → (a || b) ≡ true → (a ≡ true → P) → (b ≡ true → P) → P
-either true b P e f g = f refl
-either false b P e f g = g e
 
 -- what follows `(POP ` and `(POW ` where nothing of i stands yet
 abbrev popRest : List ℕ

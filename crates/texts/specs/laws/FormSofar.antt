@@ -116,7 +116,7 @@ module _ (room : ℕ → Bool) where
   held-indexed popKind w fs (some i) e r h = (rw (← dec-read w i e) (simp (append-assoc, append-nil)), (tt, (r, h)))
   held-indexed powKind w fs (some i) e r h = (rw (← dec-read w i e) (simp (append-assoc, append-nil)), (tt, (r, h)))
 
-  room-check : (d : ℕ) → _≡_ {A = ℕ} (cond (room d) 0 6) 0 → room d ≡ true
+  pub room-check : (d : ℕ) → _≡_ {A = ℕ} (cond (room d) 0 6) 0 → room d ≡ true
   room-check d e = go (room d) refl
     where
       go : (b : Bool) → room d ≡ b → room d ≡ true
