@@ -1,7 +1,6 @@
 -- What a program keeps of a state while it reads a term: what may come, and for each open parenthesis what it waits for. laws/Kinds: the refusals are the same.
 use mathlib.Core.Bool.{Bool, true, false, _||_, cond}
-use mathlib.Core.List.{List, [], _∷_, map}
-use mathlib.Core.Option.{Option, none, some}
+use mathlib.Core.List.{List, [], _∷_}
 use Prim.Native.Nat.{ℕ}
 use lib.Dec.{leb, ltb}
 use lib.ListN.{length}
@@ -10,7 +9,7 @@ use Rattle.texts.specs.definitions.Bytes.{bytes, same, capital, inRow}
 use Rattle.texts.specs.definitions.Numerals.{canonical, readInt, isSome}
 use Rattle.texts.specs.definitions.Reading.{Frame, first, second, base, Spot, operand, operator, exponent, ending, raised, check}
 use Rattle.texts.specs.definitions.Tokens.{Token, opening, closing, word, placeOf, tokens}
-use Rattle.texts.specs.definitions.Tree.{Sign, add, sub, mul}
+use Rattle.texts.specs.definitions.Tree.{add, sub, mul}
 
 -- an operand, an operator, an exponent, or `)`
 pub data Want : Type 0 where

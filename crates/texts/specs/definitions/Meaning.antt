@@ -1,5 +1,5 @@
 -- What the readings are for, said without reading: a text is the text of a term when its tokens are the term's tokens at their places.
-use mathlib.Core.Bool.{Bool, true, false, _&&_}
+use mathlib.Core.Bool.{true, false, _&&_}
 use mathlib.Core.List.{List, [], _∷_, _++_}
 use mathlib.Core.Path.{_≡_}
 use Prim.Native.Nat.{ℕ, suc, pred, _≤_, _<_}

@@ -7,7 +7,7 @@ use lib.ListN.{length, take, drop}
 use Rattle.horner.specs.definitions.Measures.{weightOf, degreesOf, termsOf, AllLe}
 use Rattle.texts.specs.definitions.Limits.{exponentFits, finishing, passes}
 use Rattle.texts.specs.definitions.Tokens.{tokens}
-use Rattle.texts.specs.definitions.Tree.{Sign, Tree, num, letter, neg, two, power, startOf, endOf, placed, termOf}
+use Rattle.texts.specs.definitions.Tree.{Sign, Tree, neg, two, power, startOf, endOf, placed, termOf}
 
 -- x is a subterm of the other
 pub data Part (x : Tree) : Tree → Type 0 where

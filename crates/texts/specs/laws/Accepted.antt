@@ -1,5 +1,5 @@
 -- A term's text is accepted exactly when it is the text of a term and every subterm is within the limits; else the refusal is as document 01 orders them.
-use mathlib.Core.List.{List, []}
+use mathlib.Core.List.{List}
 use mathlib.Core.Logic.{_↔_}
 use mathlib.Core.Path.{_≡_, refl, sym, ap, _∙_}
 use Prim.Native.Nat.{ℕ, suc}
@@ -7,7 +7,7 @@ use native.Mathlib.Omega.{arith}
 use Rattle.texts.specs.definitions.Answer.{Reading, read, refused}
 use Rattle.texts.specs.definitions.Limits.{finishing, firstPast, measured, thenMeasured, acceptTerm}
 use Rattle.texts.specs.definitions.Meaning.{IsTerm}
-use Rattle.texts.specs.definitions.Parts.{Part, Fits, AllPass, FirstOver}
+use Rattle.texts.specs.definitions.Parts.{Part, Fits, FirstOver}
 use Rattle.texts.specs.definitions.Reading.{readTerm}
 use Rattle.texts.specs.definitions.Tree.{Tree}
 use Rattle.texts.specs.laws.Measured.{parts-fit, fit-parts, all-pass, Past, none-over, one-over, past}

@@ -1,5 +1,5 @@
 -- Whether a term begins with some tokens does not depend on the tokens' places.
-use mathlib.Core.Bool.{Bool, true, _&&_}
+use mathlib.Core.Bool.{Bool, _&&_}
 use mathlib.Core.List.{List, [], _∷_, _++_, append-assoc, append-nil}
 use mathlib.Core.Path.{_≡_, refl, sym, ap, ap₂, _∙_}
 use Prim.Native.Nat.{ℕ}
@@ -7,7 +7,7 @@ use Rattle.texts.specs.definitions.Bytes.{bytes, capital}
 use Rattle.texts.specs.definitions.Meaning.{Alike, Begun}
 use Rattle.texts.specs.definitions.Numerals.{dec, writeInt}
 use Rattle.texts.specs.definitions.Tokens.{Token, opening, closing, word}
-use Rattle.texts.specs.definitions.Tree.{Sign, signText, sub, Tree, num, letter, neg, two, power, placed, letters}
+use Rattle.texts.specs.definitions.Tree.{signText, sub, Tree, num, letter, neg, two, power, placed, letters}
 
 alike-refl : (ks : List Token) → Alike ks ks
 alike-refl [] = tt

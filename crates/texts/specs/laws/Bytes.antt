@@ -1,12 +1,12 @@
 -- Tests on bytes and texts, as facts.
 use mathlib.Core.Bool.{Bool, true, false, _&&_, _||_, true≢false}
 use mathlib.Core.List.{List, [], _∷_, _++_}
-use mathlib.Core.Path.{_≡_, refl, sym, ap, ap₂, _∙_}
+use mathlib.Core.Path.{_≡_, refl, sym, ap₂, _∙_}
 use Prim.Native.Nat.{ℕ, _≤_}
 use Rattle.horner.specs.definitions.Measures.{AllLe}
 use borrow.Author.Tests.{eqb-true, leb-true, eq-eqb, le-leb}
 use lib.Dec.{eqb, leb}
-use Rattle.texts.specs.definitions.Bytes.{same, all, digit, capital}
+use Rattle.texts.specs.definitions.Bytes.{same, all, digit}
 
 -- ---- Booleans
 pub not-both : {b : Bool} → b ≡ true → b ≡ false → ⊥

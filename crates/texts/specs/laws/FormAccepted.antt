@@ -1,9 +1,9 @@
 -- A form text is accepted exactly when it is the text of a normal form within the limits; else the refusal is as document 01 orders them.
-use mathlib.Core.Bool.{Bool, true, false, true≢false, _&&_}
+use mathlib.Core.Bool.{Bool, true, false, true≢false}
 use mathlib.Core.List.{List, [], _∷_, _++_}
 use mathlib.Core.Logic.{_↔_}
 use mathlib.Core.Path.{_≡_, refl, sym, ap, _∙_}
-use Prim.Native.Nat.{ℕ, zero, suc, _-_, _≤_, _<_}
+use Prim.Native.Nat.{ℕ, zero, suc, _≤_, _<_}
 use native.Mathlib.Nat.{sub-zero}
 use native.Mathlib.Omega.{arith}
 use borrow.Author.Tests.{leb-true, leb-false, le-leb}
@@ -18,10 +18,9 @@ use Rattle.texts.specs.definitions.Bytes.{all}
 use Rattle.texts.specs.definitions.FormJudging.{Node, nodes, stands, firstWrong, passes, thenMeasured, thenJudged, acceptForm}
 use Rattle.texts.specs.definitions.FormMeaning.{IsFormText, IsForm, AllStand, WrongNode}
 use Rattle.texts.specs.definitions.FormReading.{readForm}
-use Rattle.texts.specs.laws.Bytes.{and-l, and-r, and-i, all-le, le-all}
+use Rattle.texts.specs.laws.Bytes.{all-le, le-all}
 use Rattle.texts.specs.laws.FormNormal.{stand-normal, normal-stand}
 use Rattle.texts.specs.laws.FormReading.{reads}
-use Rattle.texts.specs.laws.Places.{refusal-parts}
 use Rattle.texts.specs.laws.Sofar.{no-refusal}
 
 -- ---- the limits

@@ -3,17 +3,17 @@ use mathlib.Core.Bool.{Bool, true, false, true≢false, _||_}
 use mathlib.Core.List.{List, [], _∷_, _++_, append-assoc, append-nil}
 use mathlib.Core.Option.{Option, none, some}
 use mathlib.Core.Path.{_≡_, refl, sym, ap, _∙_}
-use Prim.Native.Nat.{ℕ, zero, suc}
+use Prim.Native.Nat.{ℕ}
 use lib.IntN.{ℤ, pos, negsuc}
 use lib.ListN.{length}
 use Rattle.horner.specs.definitions.Form.{Form, int, pop, pow}
 use Rattle.texts.specs.definitions.Bytes.{bytes, same}
 use Rattle.texts.specs.definitions.FormMeaning.{Begun}
 use Rattle.texts.specs.definitions.FormReading.{Frame, inPop, inPow, inRest, Kind, popKind, powKind, Spot, before, number, head, index, behind, intBegun, headBegun}
-use Rattle.texts.specs.definitions.FormText.{text, popHead, powHead}
-use Rattle.texts.specs.definitions.Numerals.{canonical, valueFrom, readInt, dec, writeInt, isSome}
+use Rattle.texts.specs.definitions.FormText.{text}
+use Rattle.texts.specs.definitions.Numerals.{canonical, valueFrom, readInt, dec, isSome}
 use Rattle.texts.specs.laws.Bytes.{either, same-eq}
-use Rattle.texts.specs.laws.FormSofar.{frameBytes, stackBytes, kindBytes, spotBytes, soFar, Front, SpotOk, StackOk}
+use Rattle.texts.specs.laws.FormSofar.{stackBytes, kindBytes, spotBytes, soFar, SpotOk}
 use Rattle.texts.specs.laws.Numerals.{int-read, dec-canonical}
 
 -- ---- a form that goes on from a state: what is missing is filled with 0

@@ -1,8 +1,8 @@
 -- Every node of a form stands exactly when the form is normal.
-use mathlib.Core.Bool.{Bool, true, false, true≢false, _&&_, not}
+use mathlib.Core.Bool.{true, true≢false, _&&_, not}
 use mathlib.Core.List.{List, [], _∷_, _++_}
-use mathlib.Core.Path.{_≡_, refl, sym, ap, _∙_}
-use Prim.Native.Nat.{ℕ, zero, suc, _+_, _-_, _≤_, _<_}
+use mathlib.Core.Path.{_≡_, refl, sym, ap}
+use Prim.Native.Nat.{ℕ, suc, _+_, _-_, _<_}
 use native.Mathlib.Omega.{arith}
 use borrow.Author.Tests.{ltb-true, lt-ltb, leb-true, le-leb, not-true}
 use lib.Dec.{leb, ltb}
@@ -11,7 +11,7 @@ use lib.ListN.{length}
 use Rattle.horner.specs.definitions.Form.{Form, int, pop, pow, isZero}
 use Rattle.horner.specs.definitions.Integers.{ℤ-ring, isZeroℤ}
 use Rattle.horner.specs.definitions.Normal.{Normal, IsPow, Lead, isPow, leads}
-use Rattle.texts.specs.definitions.FormJudging.{Node, nodes, stands}
+use Rattle.texts.specs.definitions.FormJudging.{Node, nodes}
 use Rattle.texts.specs.definitions.FormMeaning.{AllStand}
 use Rattle.texts.specs.definitions.FormText.{text, popHead, powHead}
 use Rattle.texts.specs.laws.Bytes.{and-l, and-r, and-i}

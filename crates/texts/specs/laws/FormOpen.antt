@@ -3,7 +3,7 @@ use mathlib.Core.Bool.{Bool, true, false, true≢false, _||_}
 use mathlib.Core.List.{List, [], _∷_, _++_, append-assoc}
 use mathlib.Core.Option.{Option, none, some}
 use mathlib.Core.Path.{_≡_, refl, sym, ap, ap₂, _∙_}
-use Prim.Native.Nat.{ℕ, zero, suc, pred, _+_}
+use Prim.Native.Nat.{ℕ, suc, pred, _+_}
 use native.Mathlib.Nat.{add-zero, zero-add}
 use native.Mathlib.Omega.{arith}
 use borrow.Author.Tests.{ne-eqb}
@@ -13,7 +13,7 @@ use lib.ListN.{length}
 use Rattle.horner.specs.definitions.Form.{Form, int, pop, pow}
 use Rattle.texts.specs.definitions.Bytes.{bytes, same, digit, all}
 use Rattle.texts.specs.definitions.FormMeaning.{openAfter}
-use Rattle.texts.specs.definitions.FormReading.{Frame, inPop, inPow, inRest, Kind, Spot, before, number, head, index, behind, Next, on, off, intBegun, headBegun, follow, followInt, step, check}
+use Rattle.texts.specs.definitions.FormReading.{Frame, inPop, inPow, inRest, Kind, Spot, before, number, head, index, behind, on, off, intBegun, headBegun, follow, followInt, step, check}
 use Rattle.texts.specs.definitions.FormText.{text, popHead, powHead}
 use Rattle.texts.specs.definitions.Numerals.{canonical, readInt, dec, writeInt}
 use Rattle.texts.specs.laws.Bytes.{and-l, and-r, either, same-eq, digit-range}

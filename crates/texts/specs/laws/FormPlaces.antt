@@ -1,20 +1,17 @@
 -- Where a form's text is refused: the first byte such that no form text begins with the bytes so far, or the text's length if it ends early.
-use mathlib.Core.Bool.{Bool, true, false, true≢false, cond}
+use mathlib.Core.Bool.{Bool, true, false}
 use mathlib.Core.List.{List, [], _∷_, _++_, append-assoc, append-nil}
-use mathlib.Core.Logic.{_⊎_, inl, inr}
 use mathlib.Core.Option.{Option, none, some}
-use mathlib.Core.Path.{_≡_, refl, sym, ap, subst, _∙_}
+use mathlib.Core.Path.{_≡_, refl, sym, ap, _∙_}
 use Prim.Native.Nat.{ℕ, zero, suc, _+_}
-use native.Mathlib.Nat.{zero-add}
 use native.Mathlib.Omega.{arith}
-use lib.Dec.{leb, ltb, eqb}
+use lib.Dec.{eqb}
 use lib.IntN.{ℤ}
 use lib.ListN.{length}
 use Rattle.horner.specs.definitions.Form.{Form}
-use Rattle.texts.specs.definitions.Answer.{Reading, read, refused, fine}
+use Rattle.texts.specs.definitions.Answer.{refused, fine}
 use Rattle.texts.specs.definitions.FormMeaning.{openAfter}
-use Rattle.texts.specs.definitions.FormReading.{Frame, Spot, before, number, head, index, behind, Next, on, off, step, caseNext, wholeForm, wholeOr, check, run, readForm}
-use Rattle.texts.specs.definitions.FormText.{text}
+use Rattle.texts.specs.definitions.FormReading.{Frame, Spot, before, number, head, index, behind, Next, on, off, step, caseNext, wholeForm, wholeOr, check, run}
 use Rattle.texts.specs.laws.FormOpen.{Checks, checks-before}
 use Rattle.texts.specs.laws.FormSofar.{soFar, SpotOk, StackOk, Held, held-step}
 use Rattle.texts.specs.laws.Places.{refusal-parts}

@@ -1,10 +1,10 @@
 -- What each refusal of a form's text, before its normality is judged, says of the text.
-use mathlib.Core.Bool.{Bool, true, false, true≢false, cond}
+use mathlib.Core.Bool.{Bool, true, false, cond}
 use mathlib.Core.List.{List, [], _∷_, _++_, append-assoc, append-nil}
 use mathlib.Core.Logic.{_⊎_, inl, inr}
 use mathlib.Core.Option.{none}
 use mathlib.Core.Path.{_≡_, refl, sym, ap, _∙_}
-use Prim.Native.Nat.{ℕ, _+_, _≤_}
+use Prim.Native.Nat.{ℕ, _+_}
 use native.Mathlib.Nat.{zero-add}
 use native.Mathlib.Omega.{arith}
 use borrow.Author.Tests.{eqb-true, ltb-true, ltb-false}
@@ -12,9 +12,9 @@ use lib.Dec.{leb, ltb, eqb}
 use lib.IntN.{ℤ}
 use lib.ListN.{length}
 use Rattle.horner.specs.definitions.Form.{Form}
-use Rattle.texts.specs.definitions.Answer.{Reading, read, refused}
+use Rattle.texts.specs.definitions.Answer.{refused}
 use Rattle.texts.specs.definitions.FormMeaning.{Begun, FirstBad, EndsEarly, TooDeep, openAfter, Clean}
-use Rattle.texts.specs.definitions.FormReading.{Frame, Spot, before, number, head, index, behind, Next, on, off, step, wholeForm, wholeOr, check, run, readForm}
+use Rattle.texts.specs.definitions.FormReading.{Frame, Spot, before, number, head, index, behind, on, off, step, wholeForm, wholeOr, check, run, readForm}
 use Rattle.texts.specs.definitions.FormText.{text}
 use Rattle.texts.specs.laws.FormBegun.{begun-state}
 use Rattle.texts.specs.laws.FormOpen.{open-stack, Checks}

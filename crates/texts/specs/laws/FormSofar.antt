@@ -1,8 +1,8 @@
 -- A state of the reading of a form stands for the bytes read so far.
-use mathlib.Core.Bool.{Bool, true, false, true≢false, _&&_, _||_, cond}
+use mathlib.Core.Bool.{Bool, true, false, _&&_, cond}
 use mathlib.Core.List.{List, [], _∷_, _++_, append-assoc, append-nil}
 use mathlib.Core.Option.{Option, none, some}
-use mathlib.Core.Path.{_≡_, refl, sym, ap, ap₂, _∙_}
+use mathlib.Core.Path.{_≡_, refl, sym, ap, _∙_}
 use Prim.Native.Nat.{ℕ, zero, suc}
 use native.Mathlib.Omega.{arith}
 use borrow.Author.Tests.{eqb-true}
@@ -14,7 +14,7 @@ use Rattle.texts.specs.definitions.Answer.{Reading, read, refused, fine}
 use Rattle.texts.specs.definitions.Bytes.{bytes, same}
 use Rattle.texts.specs.definitions.FormReading.{Frame, inPop, inPow, inRest, Kind, popKind, powKind, Spot, before, number, head, index, behind, Next, on, off, intBegun, headBegun, headWord, follow, followInt, indexed, step, caseNext, intForm, wholeForm, wholeOr, check, run}
 use Rattle.texts.specs.definitions.FormText.{text, popHead, powHead}
-use Rattle.texts.specs.definitions.Numerals.{canonical, readNat, readInt, dec, writeInt}
+use Rattle.texts.specs.definitions.Numerals.{canonical, readNat, readInt}
 use Rattle.texts.specs.laws.Bytes.{and-i, same-eq}
 use Rattle.texts.specs.laws.Numerals.{no-none, int-read, dec-read}
 use Rattle.texts.specs.laws.Sofar.{no-refusal}

@@ -1,22 +1,21 @@
 -- The reading goes through the text of every form.
-use mathlib.Core.Bool.{Bool, true, false, true≢false, _&&_, cond}
+use mathlib.Core.Bool.{Bool, true, false, true≢false, _&&_}
 use mathlib.Core.List.{List, [], _∷_, _++_, append-assoc, append-nil}
-use mathlib.Core.Option.{Option, none, some}
-use mathlib.Core.Path.{_≡_, refl, sym, ap, ap₂, _∙_}
-use Prim.Native.Nat.{ℕ, zero, suc, _+_}
-use native.Mathlib.Nat.{add-zero}
+use mathlib.Core.Option.{some}
+use mathlib.Core.Path.{_≡_, refl, sym, ap, _∙_}
+use Prim.Native.Nat.{ℕ, suc, _+_}
 use native.Mathlib.Omega.{arith}
 use borrow.Author.Tests.{eqb-true, ne-eqb}
 use lib.Dec.{eqb}
 use lib.IntN.{ℤ}
 use lib.ListN.{length, length-append}
 use Rattle.horner.specs.definitions.Form.{Form, int, pop, pow}
-use Rattle.texts.specs.definitions.Answer.{Reading, read, refused, fine}
-use Rattle.texts.specs.definitions.Bytes.{bytes, digit, all}
-use Rattle.texts.specs.definitions.FormReading.{Frame, inPop, inPow, inRest, Kind, popKind, powKind, Spot, before, number, head, index, behind, Next, on, off, intBegun, follow, followInt, indexed, step, caseNext, intForm, wholeForm, wholeOr, check, run}
+use Rattle.texts.specs.definitions.Answer.{read}
+use Rattle.texts.specs.definitions.Bytes.{digit}
+use Rattle.texts.specs.definitions.FormReading.{Frame, inPop, inPow, inRest, Kind, popKind, powKind, Spot, before, number, index, behind, intBegun, step, check, run}
 use Rattle.texts.specs.definitions.FormText.{text, popHead, powHead}
 use Rattle.texts.specs.definitions.Numerals.{canonical, readNat, readInt, dec, writeInt}
-use Rattle.texts.specs.laws.Bytes.{and-l, and-r, and-i, digit-range}
+use Rattle.texts.specs.laws.Bytes.{and-l, and-r, digit-range}
 use Rattle.texts.specs.laws.FormSofar.{roomy}
 use Rattle.texts.specs.laws.Numerals.{no-none, read-int, read-dec}
 use Rattle.texts.specs.laws.Prefixes.{Grows, grows-int, grows-nat, begun-stop, canonical-digits, all-back}

@@ -1,6 +1,6 @@
 -- How long the text of a form is.
 use mathlib.Core.List.{List, [], _∷_, _++_}
-use mathlib.Core.Path.{_≡_, refl, sym, ap, _∙_}
+use mathlib.Core.Path.{ap, _∙_}
 use Prim.Native.Nat.{ℕ, zero, suc, _+_, _-_, _*_, _/_, _%_, _^_, _≤_, _<_}
 use native.Mathlib.Omega.{arith}
 use lib.IntN.{ℤ, pos, negsuc, natAbs}
@@ -9,7 +9,7 @@ use Rattle.horner.specs.definitions.Form.{Form, int, pop, pow, size}
 use Rattle.horner.specs.definitions.Integers.{ℤ-ring}
 use Rattle.horner.specs.definitions.Measures.{AllLe, Bounded, weight}
 use Rattle.horner.specs.definitions.Normal.{Normal}
-use Rattle.horner.specs.definitions.Value.{tl, after}
+use Rattle.horner.specs.definitions.Value.{after}
 use Rattle.horner.specs.laws.Count.{pow-level}
 use Rattle.texts.specs.definitions.FormText.{text, popHead, powHead}
 use Rattle.texts.specs.definitions.Numerals.{dec, writeInt}

@@ -1,7 +1,6 @@
 -- The measuring refuses exactly when some subterm is over a limit, and at the first one in order of finishing.
-use mathlib.Core.Bool.{Bool, true, false, true≢false, _&&_}
+use mathlib.Core.Bool.{Bool, true, false, true≢false}
 use mathlib.Core.List.{List, [], _∷_, _++_}
-use mathlib.Core.Logic.{_↔_}
 use mathlib.Core.Path.{_≡_, refl, sym, ap, _∙_}
 use Prim.Native.Nat.{ℕ, zero, suc, _≤_, _<_}
 use native.Mathlib.Omega.{arith}
@@ -11,14 +10,10 @@ use lib.ListN.{length}
 use Rattle.horner.specs.definitions.Measures.{weightOf, degreesOf, termsOf, AllLe}
 use Rattle.texts.specs.definitions.Answer.{Reading, read, refused, fine}
 use Rattle.texts.specs.definitions.Bytes.{all}
-use Rattle.texts.specs.definitions.Limits.{finishing, exponentFits, powersFit, weightFits, termsFit, passes, firstPast, measured, thenMeasured, acceptTerm}
-use Rattle.texts.specs.definitions.Meaning.{IsTerm}
-use Rattle.texts.specs.definitions.Parts.{Part, itself, in-neg, in-left, in-right, in-base, Fits, AllPass, FirstOver}
-use Rattle.texts.specs.definitions.Reading.{readTerm}
+use Rattle.texts.specs.definitions.Limits.{finishing, exponentFits, powersFit, weightFits, termsFit, passes, firstPast}
+use Rattle.texts.specs.definitions.Parts.{Part, itself, in-neg, in-left, in-right, in-base, Fits, AllPass}
 use Rattle.texts.specs.definitions.Tree.{Tree, num, letter, neg, two, power, startOf, termOf}
 use Rattle.texts.specs.laws.Bytes.{and-l, and-r, and-i, all-le, le-all}
-use Rattle.texts.specs.laws.Reading.{reads}
-use Rattle.texts.specs.laws.Sofar.{no-refusal}
 
 -- ---- one node: 0 within the limits, else the lowest number
 module _ (row : List ℕ) (t : Tree) where

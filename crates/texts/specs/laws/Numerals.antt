@@ -1,16 +1,16 @@
 -- Reading an integer's text gives the integer back, and only its own text does.
-use mathlib.Core.Bool.{Bool, true, false, true≢false, _&&_, cond}
+use mathlib.Core.Bool.{Bool, true, false, true≢false, _&&_}
 use mathlib.Core.List.{List, [], _∷_, _++_, append-assoc}
 use mathlib.Core.Option.{Option, none, some}
 use mathlib.Core.Path.{_≡_, refl, sym, ap, ap₂, _∙_}
 use Prim.Native.Nat.{ℕ, zero, suc, _+_, _-_, _*_, _/_, _%_, _≤_, _<_}
 use native.Mathlib.Omega.{arith}
 use borrow.Author.Tests.{ltb-true, ltb-false, lt-ltb, le-ltb, eqb-true, eqb-false, ne-eqb}
-use lib.Dec.{ltb, leb, eqb}
+use lib.Dec.{ltb, eqb}
 use lib.IntN.{ℤ, pos, negsuc}
 use Rattle.texts.specs.definitions.Bytes.{digit, all}
 use Rattle.texts.specs.definitions.Numerals.{decF, dec, writeInt, canonical, isEmpty, valueFrom, readNat, below0, from0, readInt}
-use Rattle.texts.specs.laws.Bytes.{not-both, and-l, and-r, and-i, digit-range, range-digit, all-append}
+use Rattle.texts.specs.laws.Bytes.{and-l, and-r, and-i, digit-range, range-digit, all-append}
 
 pub no-none : {A : Type 0} {a : A} {P : Type 0} → _≡_ {A = Option A} none (some a) → P
 no-none e = let z : _≡_ {A = ℕ} 0 1 = cc in absurd (omega arith)

@@ -1,22 +1,19 @@
 -- Where a term's text is refused: "the first token such that no term of any size begins with the tokens so far .., or the text's length if it ends early".
-use mathlib.Core.Bool.{Bool, true, false, true≢false, cond, _&&_, not}
+use mathlib.Core.Bool.{Bool}
 use mathlib.Core.List.{List, [], _∷_, _++_, append-assoc, append-nil}
 use mathlib.Core.Path.{_≡_, refl, sym, ap, subst, _∙_}
-use Prim.Native.Nat.{ℕ, zero, suc, _≤_}
+use Prim.Native.Nat.{ℕ, zero, suc}
 use native.Mathlib.Omega.{arith}
-use borrow.Author.Tests.{leb-true, leb-false}
-use lib.Dec.{leb, ltb}
 use lib.ListN.{length}
-use Rattle.texts.specs.definitions.Answer.{Reading, read, refused, fine}
-use Rattle.texts.specs.definitions.Bytes.{capital, inRow}
-use Rattle.texts.specs.definitions.Meaning.{Begun, openAfter}
-use Rattle.texts.specs.definitions.Reading.{Frame, Spot, operand, Next, on, whole, off, step, caseNext, check, onlyEnd, run, readTerm}
-use Rattle.texts.specs.definitions.Tokens.{Token, placeOf, tokens}
-use Rattle.texts.specs.definitions.Tree.{Tree, placed, letters}
-use Rattle.texts.specs.laws.Begun.{yes′, check-yes, capitals-admits, Live, begun-next}
+use Rattle.texts.specs.definitions.Answer.{Reading, refused, fine}
+use Rattle.texts.specs.definitions.Meaning.{openAfter}
+use Rattle.texts.specs.definitions.Reading.{Frame, Spot, Next, on, whole, off, step, caseNext, check, onlyEnd, run}
+use Rattle.texts.specs.definitions.Tokens.{Token, placeOf}
+use Rattle.texts.specs.definitions.Tree.{Tree}
+use Rattle.texts.specs.laws.Begun.{yes′, check-yes, Live}
 use Rattle.texts.specs.laws.Open.{Checks, checks-before, checks-one}
-use Rattle.texts.specs.laws.Sofar.{soFar, admits, StackOk, SpotOk, Held, held-step, no-refusal}
-use Rattle.texts.specs.laws.Through.{goOn, through-all}
+use Rattle.texts.specs.laws.Sofar.{soFar, StackOk, SpotOk, Held, held-step, no-refusal}
+use Rattle.texts.specs.laws.Through.{goOn}
 
 pub refusal-parts : {A : Type 0} (e p e′ p′ : ℕ) → _≡_ {A = Reading A} (refused e p) (refused e′ p′) → (e′ ≡ e) × (p′ ≡ p)
 refusal-parts e p e′ p′ h = ((let i : e′ ≡ e = cc in i), (let i : p′ ≡ p = cc in i))

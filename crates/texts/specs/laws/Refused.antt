@@ -1,24 +1,23 @@
 -- What each refusal of a term's text says of the text.
-use mathlib.Core.Bool.{Bool, true, false, true≢false, cond, _&&_, not}
+use mathlib.Core.Bool.{Bool, true, false, cond, _&&_, not}
 use mathlib.Core.List.{List, [], _∷_, _++_, append-assoc, append-nil}
 use mathlib.Core.Logic.{_⊎_, inl, inr}
 use mathlib.Core.Path.{_≡_, refl, sym, ap, subst, _∙_}
-use Prim.Native.Nat.{ℕ, zero, suc, _≤_, _<_}
-use native.Mathlib.Nat.{zero-add}
+use Prim.Native.Nat.{ℕ, _<_}
 use native.Mathlib.Omega.{arith}
 use borrow.Author.Tests.{ltb-true, ltb-false, lt-leb}
 use lib.Dec.{leb, ltb}
 use lib.ListN.{length}
-use Rattle.texts.specs.definitions.Answer.{Reading, read, refused, fine}
+use Rattle.texts.specs.definitions.Answer.{refused}
 use Rattle.texts.specs.definitions.Bytes.{capital, inRow}
 use Rattle.texts.specs.definitions.Meaning.{Begun, FirstBad, EndsEarly, Unknown, TooDeep, openAfter, Passes, Clean}
-use Rattle.texts.specs.definitions.Reading.{Frame, Spot, operand, operator, exponent, ending, raised, Next, on, whole, off, step, check, letterCheck, run, readTerm}
+use Rattle.texts.specs.definitions.Reading.{Frame, Spot, operand, Next, on, step, check, run, readTerm}
 use Rattle.texts.specs.definitions.Tokens.{Token, opening, closing, word, placeOf, tokens}
 use Rattle.texts.specs.definitions.Tree.{Tree, placed, letters}
 use Rattle.texts.specs.laws.Begun.{yes′, check-yes, capitals-admits, Live, begun-next}
 use Rattle.texts.specs.laws.Open.{open-depth, Checks}
 use Rattle.texts.specs.laws.Places.{Reached, Refusal, early, bad, past, trace, refusal-parts}
-use Rattle.texts.specs.laws.Sofar.{soFar, admits, Held, room-check, held-step, no-refusal}
+use Rattle.texts.specs.laws.Sofar.{Held, room-check, held-step, no-refusal}
 use Rattle.texts.specs.laws.Words.{letter-check}
 use Rattle.texts.specs.laws.Through.{goOn, through-all}
 

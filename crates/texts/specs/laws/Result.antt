@@ -1,7 +1,7 @@
 -- The form of an accepted term has a text that is accepted, as that form: the written form is a form again.
 use mathlib.Core.List.{List, [], _∷_}
-use mathlib.Core.Path.{_≡_, refl, sym, ap, _∙_}
-use Prim.Native.Nat.{ℕ, zero, suc, _+_, _-_, _*_, _≤_, max}
+use mathlib.Core.Path.{_≡_, refl}
+use Prim.Native.Nat.{ℕ, zero, suc, _-_, _*_, _≤_}
 use native.Mathlib.Nat.{mul-le-mul}
 use native.Mathlib.Omega.{arith}
 use mathlib.Core.Bool.{true}
@@ -9,7 +9,7 @@ use lib.IntN.{ℤ}
 use lib.ListN.{length}
 use Rattle.horner.specs.definitions.Form.{Form, int, pop, pow, size}
 use Rattle.horner.specs.definitions.Integers.{ℤ-ring}
-use Rattle.horner.specs.definitions.Measures.{AllLe, Bounded, zeros, firstOr0, maxs, total, degrees, degreesOf, termsOf, weight, weightOf, count, terms, nest}
+use Rattle.horner.specs.definitions.Measures.{AllLe, Bounded, zeros, firstOr0, maxs, total, degrees, degreesOf, weight, count, terms, nest}
 use Rattle.horner.specs.definitions.Normal.{Normal}
 use Rattle.horner.specs.definitions.Term.{normℤ}
 use Rattle.horner.specs.definitions.Value.{tl, after}

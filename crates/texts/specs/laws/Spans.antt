@@ -1,10 +1,10 @@
 -- Each subterm's start and end are inside the text and delimit exactly its tokens.
 use mathlib.Core.List.{List, [], _∷_, _++_, append-assoc, append-nil}
 use mathlib.Core.Path.{_≡_, refl, sym, ap, _∙_}
-use Prim.Native.Nat.{ℕ, zero, suc, _+_, _-_, _≤_, _<_}
+use Prim.Native.Nat.{ℕ, suc, _+_, _-_, _≤_, _<_}
 use native.Mathlib.Nat.{zero-add}
 use native.Mathlib.Omega.{arith}
-use lib.ListN.{length, take, drop}
+use lib.ListN.{length, drop}
 use Rattle.texts.specs.definitions.Bytes.{bytes}
 use Rattle.texts.specs.definitions.Meaning.{IsTerm}
 use Rattle.texts.specs.definitions.Numerals.{dec, writeInt}

@@ -1,13 +1,12 @@
 -- Tokens stand one behind the other within the text, and a reader finds them so.
 use mathlib.Core.Bool.{Bool, true, false, true≢false, _&&_, not}
-use mathlib.Core.List.{List, [], _∷_, _++_, append-nil}
-use mathlib.Core.Path.{_≡_, refl, sym, ap, ap₂, _∙_}
-use Prim.Native.Nat.{ℕ, zero, suc, _+_, _-_, _≤_, _<_}
-use native.Mathlib.Numerals.{add-one}
+use mathlib.Core.List.{List, [], _∷_}
+use mathlib.Core.Path.{_≡_, refl, sym, ap, _∙_}
+use Prim.Native.Nat.{ℕ, suc, _+_, _-_, _≤_, _<_}
 use native.Mathlib.Omega.{arith}
-use borrow.Author.Tests.{eqb-true, eqb-false, eq-eqb, ne-eqb, not-true, not-false}
+use borrow.Author.Tests.{eqb-true, eq-eqb, ne-eqb, not-true}
 use lib.Dec.{eqb}
-use lib.ListN.{length, drop, take, getD, drop-of-length-le, length-drop, take-append-drop}
+use lib.ListN.{length, drop, take, getD, drop-of-length-le}
 use lib.Seq.{drop-cons, drop-drop}
 use Rattle.texts.specs.definitions.Bytes.{blank}
 use Rattle.texts.specs.definitions.Tokens.{Token, opening, closing, word, placeOf, pastOf, Class, gap, left, right, plain, classOf, join, put, tokens, tokensAt, inWord, lead, skipTo, wordTo}
