@@ -14,3 +14,4 @@ pub mod FormText
 pub mod FormReading
 pub mod FormJudging
 pub mod FormMeaning
+pub mod FormKinds

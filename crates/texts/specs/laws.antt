@@ -30,3 +30,4 @@ pub mod Alike
 pub mod FormNodes
 pub mod Capped
 pub mod Kinds
+pub mod FormKinds

@@ -103,7 +103,7 @@ abbrev pub Leading : List ℕ → Type 0
 Leading [] = ⊥
 Leading (x ∷ w) = (eqb x 48 ≡ false) × (digit x ≡ true) × (all digit w ≡ true)
 
-leading-more : (w : List ℕ) (x : ℕ) → Leading w → digit x ≡ true → Leading (w ++ (x ∷ []))
+pub leading-more : (w : List ℕ) (x : ℕ) → Leading w → digit x ≡ true → Leading (w ++ (x ∷ []))
 leading-more [] x l d = absurd l
 leading-more (y ∷ w) x l d = (l .0, l .1, all-append digit w (x ∷ []) (l .2) (and-i d refl))
 
