@@ -31,3 +31,4 @@ pub mod FormNodes
 pub mod Capped
 pub mod Kinds
 pub mod FormKinds
+pub mod FormWalk

@@ -107,3 +107,36 @@ isWhole (zero-i k) ws = false
 isWhole (digits-i k) ws = false
 isWhole done [] = true
 isWhole done (w ∷ ws) = false
+
+abbrev pub caseMove : {B : Type 0} → Move → B → (Stand → List Wait → B) → B
+caseMove stuck a f = a
+caseMove (moved s ws) a f = f s ws
+
+module _ (room : ℕ → Bool) where
+  -- "a parenthesis opened beyond the limit": asked where a form may begin
+  abbrev pub check : Stand → ℕ → ℕ → ℕ
+  check start d b = cond (eqb b 40) (cond (room d) 0 6) 0
+  check sign d b = 0
+  check zeroInt d b = 0
+  check digits d b = 0
+  check open0 d b = 0
+  check openP d b = 0
+  check openPO d b = 0
+  check openPOP d b = 0
+  check openPOW d b = 0
+  check (before-i k) d b = 0
+  check (zero-i k) d b = 0
+  check (digits-i k) d b = 0
+  check done d b = 0
+
+  abbrev pub ended : Bool → ℕ → Reading (Unit {0})
+  ended true p = read tt
+  ended false p = refused 4 p
+
+  abbrev pub walk : ℕ → Stand → List Wait → List ℕ → Reading (Unit {0})
+  walk p s ws [] = ended (isWhole s ws) p
+  walk p s ws (b ∷ bs) = caseMove (move s ws b) (refused 4 p) (λ s′ ws′. fine (check s (length ws) b) p (λ u. walk (suc p) s′ ws′ bs))
+
+-- the syntax of a form's text (laws/FormWalk, syntax-verdict)
+unfoldable pub syntax : List ℕ → Reading (Unit {0})
+syntax s = elim (leb (length s) 65535) [ true ↦ walk (λ d. ltb d 256) 0 start [] s | false ↦ refused 3 0 ]

@@ -1,46 +1,45 @@
 -- A program that keeps the kinds alone refuses as the reading of a form does.
-use mathlib.Core.Bool.{Bool, true, false, true≢false, _&&_, _||_, cond, not, or-true}
+use mathlib.Core.Bool.{Bool, true, false, true≢false, _&&_, cond, not}
 use mathlib.Core.List.{List, [], _∷_, _++_, map, head-eq-of-cons-eq}
 use mathlib.Core.Option.{Option, none, some}
 use mathlib.Core.Path.{_≡_, refl, sym, ap, ap₂, _∙_}
-use Prim.Native.Nat.{ℕ, zero, suc, _≤_}
+use Prim.Native.Nat.{ℕ}
 use native.Mathlib.Omega.{arith}
 use borrow.Author.Tests.{eqb-true, eqb-false, ne-eqb}
 use lib.Dec.{eqb}
 use lib.IntN.{ℤ}
-use lib.ListN.{length}
-use Rattle.horner.specs.definitions.Form.{Form, int, pop, pow}
+use Rattle.horner.specs.definitions.Form.{Form, int}
 use Rattle.texts.specs.definitions.Bytes.{bytes, same, digit, all}
-use Rattle.texts.specs.definitions.FormKinds.{Stand, start, sign, zeroInt, digits, open0, openP, openPO, openPOP, openPOW, before-i, zero-i, digits-i, done, Wait, popWait, powWait, restWait, numberStand, headStand, indexStand, standOf, waitOf, Move, moved, stuck, leave, pushed, first, move, isWhole}
-use Rattle.texts.specs.definitions.FormReading.{Frame, inPop, inPow, inRest, Kind, popKind, powKind, Spot, before, number, head, index, behind, Next, on, off, intBegun, headBegun, headWord, follow, followInt, indexed, step}
-use Rattle.texts.specs.definitions.Numerals.{canonical, isEmpty, readNat, readInt, isSome, below0, from0}
+use Rattle.texts.specs.definitions.FormKinds.{Stand, start, sign, zeroInt, digits, Wait, numberStand, standOf, waitOf, Move, moved, stuck, leave, first, move}
+use Rattle.texts.specs.definitions.FormReading.{Frame, inPop, inPow, inRest, before, number, Next, on, off, intBegun, follow, followInt, step}
+use Rattle.texts.specs.definitions.Numerals.{canonical, readNat, readInt, isSome, below0, from0}
 use Rattle.texts.specs.laws.Bytes.{and-l, and-r, and-i, either, same-eq, digit-range}
 use Rattle.texts.specs.laws.Numerals.{Leading, leading-more, leading-canonical, read-unsigned}
-use Rattle.texts.specs.laws.Prefixes.{begun-tail, begun-stop, begun-canonical, begun-leading}
+use Rattle.texts.specs.laws.Prefixes.{begun-stop, begun-canonical, begun-leading}
 
-abbrev waits : List Frame → List Wait
+abbrev pub waits : List Frame → List Wait
 waits fs = map waitOf fs
 
-abbrev moveOf : Next → Move
+abbrev pub moveOf : Next → Move
 moveOf off = stuck
 moveOf (on s fs) = moved (standOf s) (waits fs)
 
-cond-move : (b : Bool) (x y : Next) (m n : Move) → moveOf x ≡ m → moveOf y ≡ n → moveOf (cond b x y) ≡ cond b m n
+pub cond-move : (b : Bool) (x y : Next) (m n : Move) → moveOf x ≡ m → moveOf y ≡ n → moveOf (cond b x y) ≡ cond b m n
 cond-move true x y m n e f = e
 cond-move false x y m n e f = f
 
-follow-move : (f : Form ℤ) (fs : List Frame) (b : ℕ) → moveOf (follow f fs b) ≡ leave (waits fs) b
+pub follow-move : (f : Form ℤ) (fs : List Frame) (b : ℕ) → moveOf (follow f fs b) ≡ leave (waits fs) b
 follow-move f [] b = refl
 follow-move f (inPop i ∷ fs) b = cond-move (eqb b 41) _ _ _ _ refl refl
 follow-move f (inPow i ∷ fs) b = cond-move (eqb b 32) _ _ _ _ refl refl
 follow-move f (inRest i p ∷ fs) b = cond-move (eqb b 41) _ _ _ _ refl refl
 
 -- ---- what stands of an integer
-data Natural (w : List ℕ) : Type 0 where
+pub data Natural (w : List ℕ) : Type 0 where
   is-zero : w ≡ 48 ∷ [] → Natural w
   is-leading : Leading w → Natural w
 
-natural : (w : List ℕ) → canonical w ≡ true → Natural w
+pub natural : (w : List ℕ) → canonical w ≡ true → Natural w
 natural [] c = absurd (true≢false (sym c))
 natural (x ∷ w) c = go (eqb x 48) refl w c
   where
@@ -49,7 +48,7 @@ natural (x ∷ w) c = go (eqb x 48) refl w c
     go true k (y ∷ w) c = absurd (true≢false (sym (rw (k, canonical) at c)))
     go false k w c = let d : (digit x && all digit w) ≡ true = rw (k, canonical) at c in is-leading (k, and-l (digit x) (all digit w) d, and-r (digit x) (all digit w) d)
 
-data Begun (w : List ℕ) : Type 0 where
+pub data Begun (w : List ℕ) : Type 0 where
   is-sign : w ≡ 45 ∷ [] → Begun w
   is-natural : Natural w → Begun w
   is-negative : (v : List ℕ) → w ≡ 45 ∷ v → Leading v → Begun w
@@ -74,7 +73,7 @@ unsigned x v h = go (canonical (x ∷ v)) refl
     go true k = is-natural (natural (x ∷ v) k)
     go false k = absurd (true≢false (sym (rw k at h)))
 
-begun : (w : List ℕ) → intBegun w ≡ true → Begun w
+pub begun : (w : List ℕ) → intBegun w ≡ true → Begun w
 unfolding readInt
 begun [] h = absurd (true≢false (sym h))
 begun (x ∷ v) h =
@@ -85,7 +84,7 @@ begun (x ∷ v) h =
     go false k e = unsigned x v (rw (k, readInt) at e)
 
 -- ---- one more byte
-leading-stand : (w : List ℕ) → Leading w → numberStand w ≡ digits
+pub leading-stand : (w : List ℕ) → Leading w → numberStand w ≡ digits
 leading-stand [] l = absurd l
 leading-stand (x ∷ []) l = let r = digit-range x (l .1) in rw (ne-eqb x 45 (omega arith), l .0)
 leading-stand (x ∷ y ∷ w) l = refl
@@ -107,7 +106,7 @@ number-goes x v fs b grows h = go (digit b) refl
     go true k = rw (grows k) (rw k (ap (λ (z : Stand). moved z (waits fs)) (longer-stand x v b)))
     go false k = rw (begun-stop x v b k) (rw k (some-follow (readInt (x ∷ v)) fs b h))
 
-leading-some : (w : List ℕ) → Leading w → isSome (readInt w) ≡ true
+pub leading-some : (w : List ℕ) → Leading w → isSome (readInt w) ≡ true
 unfolding readNat
 leading-some w l = let c = leading-canonical w l in rw (read-unsigned w c, c)
 
@@ -139,7 +138,7 @@ unfolding readInt
 negative-step [] fs b l = absurd l
 negative-step (y ∷ v) fs b l = number-goes 45 (y ∷ v) fs b (λ d. begun-leading (y ∷ v ++ (b ∷ [])) (leading-more (y ∷ v) b l d)) (begun-leading (y ∷ v) l)
 
-number-step : (w : List ℕ) (fs : List Frame) (b : ℕ) → Begun w → moveOf (step (number w) fs b) ≡ move (numberStand w) (waits fs) b
+pub number-step : (w : List ℕ) (fs : List Frame) (b : ℕ) → Begun w → moveOf (step (number w) fs b) ≡ move (numberStand w) (waits fs) b
 number-step w fs b (is-sign e) = rw e (sign-step fs b)
 number-step w fs b (is-natural (is-zero e)) = rw e (zero-step fs b)
 number-step w fs b (is-natural (is-leading l)) = leading-step w fs b l
@@ -177,7 +176,7 @@ first-move fs b = go₁ (eqb b 45) refl
     go₁ true m = rw (eqb-true b 45 m) refl
     go₁ false m = go₂ (eqb b 48) refl m
 
-before-step : (fs : List Frame) (b : ℕ) → moveOf (step before fs b) ≡ move start (waits fs) b
+pub before-step : (fs : List Frame) (b : ℕ) → moveOf (step before fs b) ≡ move start (waits fs) b
 before-step fs b = go (eqb b 40) refl
   where
     go : (o : Bool) → eqb b 40 ≡ o → moveOf (step before fs b) ≡ move start (waits fs) b
