@@ -7,7 +7,7 @@ use native.Mathlib.Nat.{mul-comm, mul-zero, pow-zero, pow-succ', mul-le-mul-righ
 use native.Mathlib.Omega.{arith}
 use borrow.Author.Tests.{leb-true, leb-false, le-leb, lt-leb}
 use lib.Dec.{leb}
-use Rattle.texts.specs.definitions.Capped.{cap, cappedFrom, cappedPower}
+use Rattle.texts.specs.program.Capped.{cap, cappedFrom, cappedPower}
 use Rattle.texts.specs.definitions.Numerals.{valueFrom}
 
 module _ (K : ℕ) where

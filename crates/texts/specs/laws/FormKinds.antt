@@ -10,7 +10,7 @@ use lib.Dec.{eqb}
 use lib.IntN.{ℤ}
 use Rattle.horner.specs.definitions.Form.{Form, int}
 use Rattle.texts.specs.definitions.Bytes.{bytes, same, digit, all}
-use Rattle.texts.specs.definitions.FormKinds.{Stand, start, sign, zeroInt, digits, Wait, numberStand, standOf, waitOf, Move, moved, stuck, leave, first, move}
+use Rattle.texts.specs.program.FormKinds.{Stand, start, sign, zeroInt, digits, Wait, numberStand, standOf, waitOf, Move, moved, stuck, leave, first, move}
 use Rattle.texts.specs.definitions.FormReading.{Frame, inPop, inPow, inRest, before, number, Next, on, off, intBegun, follow, followInt, step}
 use Rattle.texts.specs.definitions.Numerals.{canonical, readNat, readInt, isSome, below0, from0}
 use Rattle.texts.specs.laws.Bytes.{and-l, and-r, and-i, either, same-eq, digit-range}

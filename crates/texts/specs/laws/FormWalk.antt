@@ -11,9 +11,9 @@ use lib.ListN.{length, length-map}
 use Rattle.horner.specs.definitions.Form.{Form}
 use Rattle.texts.specs.definitions.Answer.{Reading, refused, fine}
 use Rattle.texts.specs.definitions.Bytes.{bytes, same, digit}
-use Rattle.texts.specs.definitions.FormKinds.{Stand, start, sign, zeroInt, digits, open0, openP, openPO, openPOP, openPOW, zero-i, digits-i, Wait, numberStand, headStand, indexStand, standOf, waitOf, Move, moved, pushed, move, isWhole, caseMove, check as checkStand, ended, walk, syntax}
+use Rattle.texts.specs.program.FormKinds.{Stand, start, sign, zeroInt, digits, open0, openP, openPO, openPOP, openPOW, zero-i, digits-i, Wait, numberStand, headStand, indexStand, standOf, waitOf, Move, moved, pushed, move, isWhole, caseMove, check as checkStand, ended, walk, syntax}
 use Rattle.texts.specs.definitions.FormReading.{Frame, Kind, popKind, powKind, Spot, before, number, head, index, behind, Next, on, off, headBegun, indexed, step, caseNext, intForm, wholeForm, wholeOr, check, run, readForm}
-use Rattle.texts.specs.definitions.Kinds.{verdict}
+use Rattle.texts.specs.program.Kinds.{verdict}
 use Rattle.texts.specs.definitions.Numerals.{canonical, readNat, readInt, isSome, valueFrom}
 use Rattle.texts.specs.laws.Bytes.{and-l, either, same-eq}
 use Rattle.texts.specs.laws.FormKinds.{waits, moveOf, follow-move, Natural, is-zero, is-leading, natural, Begun, is-sign, is-natural, is-negative, begun, number-step, before-step, leading-some, leading-stand}

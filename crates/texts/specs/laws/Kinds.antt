@@ -9,7 +9,7 @@ use lib.IntN.{ℤ}
 use lib.ListN.{length, length-map}
 use Rattle.texts.specs.definitions.Answer.{Reading, refused, fine}
 use Rattle.texts.specs.definitions.Bytes.{bytes, same, capital, inRow}
-use Rattle.texts.specs.definitions.Kinds.{anOperand, anOperator, aClosing, Kind, binary, minus, raising, wantOf, kindOf, Move, moved, finished, stuck, finish, finishShort, isCapital, isLeaf, move, caseMove, nothingBehind, walk, verdict, syntax}
+use Rattle.texts.specs.program.Kinds.{anOperand, anOperator, aClosing, Kind, binary, minus, raising, wantOf, kindOf, Move, moved, finished, stuck, finish, finishShort, isCapital, isLeaf, move, caseMove, nothingBehind, walk, verdict, syntax}
 use Rattle.texts.specs.definitions.Numerals.{canonical, readNat, readInt, valueFrom, isSome}
 use Rattle.texts.specs.definitions.Reading.{Frame, first, second, base, Spot, operand, operator, exponent, ending, raised, Next, on, whole, off, deliver, lone, intOr, leaf, deliverSome, operatorWord, raise, closeShort, step, caseNext, check, onlyEnd, run, readTerm}
 use Rattle.texts.specs.definitions.Tokens.{Token, opening, closing, word, placeOf, tokens}
