@@ -13,13 +13,13 @@ use Rattle.horner.specs.definitions.Normal.{Normal}
 use Rattle.texts.specs.definitions.FormJudging.{Node, nodes, stands}
 use Rattle.texts.specs.definitions.FormText.{text}
 
--- s is the text of the form f (laws/FormReading, reads: exactly then it is read as f)
+-- s is the text of the form f (textlaws/FormReading, reads: exactly then it is read as f)
 pub record IsFormText (s : List ℕ) (f : Form ℤ) : Type 0 where
   pub short : length s ≤ 65535
   pub is : s ≡ text f
   pub shallow : nest f ≤ 256
 
--- s is the text of a normal form f over a row of m, within the limits (laws/FormAccepted, accepts: exactly then it is accepted as f)
+-- s is the text of a normal form f over a row of m, within the limits (textlaws/FormAccepted, accepts: exactly then it is accepted as f)
 pub record IsForm (m : ℕ) (s : List ℕ) (f : Form ℤ) : Type 0 where
   pub written : IsFormText s f
   pub normal : Normal ℤ-ring m f

@@ -8,7 +8,7 @@ use Rattle.texts.specs.definitions.Bytes.{capital, inRow}
 use Rattle.texts.specs.definitions.Tokens.{Token, opening, closing, word, placeOf, tokens}
 use Rattle.texts.specs.definitions.Tree.{Tree, placed, letters, nesting}
 
--- s is the text of the term t over the row (laws/Reading, reads: exactly then it is read as t)
+-- s is the text of the term t over the row (textlaws/Reading, reads: exactly then it is read as t)
 pub record IsTerm (row s : List ℕ) (t : Tree) : Type 0 where
   pub short : length s ≤ 4096
   pub tokens-are : tokens 0 s ≡ placed t
@@ -31,7 +31,7 @@ Alike (word p w ∷ ks) (closing q ∷ ls) = ⊥
 Alike (word p w ∷ ks) (word q v ∷ ls) = (w ≡ v) × Alike ks ls
 
 -- "a term of any size begins with the tokens so far (an unknown capital counts as a letter here)": the tokens, some tokens behind them, are a term's; the
--- places in a tree are any numbers, and it does not matter where the tokens stand (laws/Alike, begun-alike)
+-- places in a tree are any numbers, and it does not matter where the tokens stand (textlaws/Alike, begun-alike)
 pub record Begun (ks : List Token) : Type 0 where
   pub term : Tree
   pub rest : List Token

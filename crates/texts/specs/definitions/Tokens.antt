@@ -51,7 +51,7 @@ unfoldable pub tokens : ℕ → List ℕ → List Token
 tokens p [] = []
 tokens p (x ∷ xs) = put (classOf x) p x (tokens (suc p) xs)
 
--- ---- as a reader goes over a text s, from its place i on (laws/Tokens: `here`, `at-end`, `at-opening`, `at-closing`, `at-word`)
+-- ---- as a reader goes over a text s, from its place i on (textlaws/Tokens: `here`, `at-end`, `at-opening`, `at-closing`, `at-word`)
 unfoldable pub tokensAt : List ℕ → ℕ → List Token
 unfolding tokens
 tokensAt s i = tokens i (drop i s)

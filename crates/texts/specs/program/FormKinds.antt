@@ -1,4 +1,4 @@
--- What a program keeps of a state while it reads a form: where it stands, and what each open parenthesis waits for. laws/FormKinds: the refusals are the same.
+-- What a program keeps of a state while it reads a form: where it stands, and what each open parenthesis waits for. textlaws/FormKinds: the refusals are the same.
 use mathlib.Core.Bool.{Bool, true, false, _&&_, cond, not}
 use mathlib.Core.List.{List, [], _∷_}
 use Prim.Native.Nat.{ℕ, suc}
@@ -137,6 +137,6 @@ module _ (room : ℕ → Bool) where
   walk p s ws [] = ended (isWhole s ws) p
   walk p s ws (b ∷ bs) = caseMove (move s ws b) (refused 4 p) (λ s′ ws′. fine (check s (length ws) b) p (λ u. walk (suc p) s′ ws′ bs))
 
--- the syntax of a form's text (laws/FormWalk, syntax-verdict)
+-- the syntax of a form's text (textlaws/FormWalk, syntax-verdict)
 unfoldable pub syntax : List ℕ → Reading (Unit {0})
 syntax s = elim (leb (length s) 65535) [ true ↦ walk (λ d. ltb d 256) 0 start [] s | false ↦ refused 3 0 ]

@@ -1,4 +1,4 @@
--- What a program keeps of a state while it reads a term: what may come, and for each open parenthesis what it waits for. laws/Kinds: the refusals are the same.
+-- What a program keeps of a state while it reads a term: what may come, and for each open parenthesis what it waits for. textlaws/Kinds: the refusals are the same.
 use mathlib.Core.Bool.{Bool, true, false, _||_, cond}
 use mathlib.Core.List.{List, [], _∷_}
 use Prim.Native.Nat.{ℕ}
@@ -111,7 +111,7 @@ abbrev pub verdict : {A : Type 0} → Reading A → Reading (Unit {0})
 verdict (read a) = read tt
 verdict (refused e p) = refused e p
 
--- the syntax of a term's text (laws/Kinds, syntax-verdict)
+-- the syntax of a term's text (textlaws/Kinds, syntax-verdict)
 unfoldable pub syntax : List ℕ → List ℕ → Reading (Unit {0})
 unfolding tokens readInt
 syntax row s = elim (leb (length s) 4096) [ true ↦ walk (inRow row) (λ d. ltb d 16) (length s) anOperand [] (tokens 0 s) | false ↦ refused 3 0 ]
