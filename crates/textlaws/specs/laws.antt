@@ -14,6 +14,7 @@ pub mod Open
 pub mod Places
 pub mod Refused
 pub mod Alike
+pub mod Exactly
 -- the measures of every subterm (Measured); a text is accepted exactly when .. (Accepted); the spans of subterms (Spans)
 pub mod Measured
 pub mod Accepted

@@ -3,14 +3,14 @@ use mathlib.Core.Bool.{Bool, true, false, cond, _&&_, not}
 use mathlib.Core.List.{List, [], _∷_, _++_, append-assoc, append-nil}
 use mathlib.Core.Logic.{_⊎_, inl, inr}
 use mathlib.Core.Path.{_≡_, refl, sym, ap, subst, _∙_}
-use Prim.Native.Nat.{ℕ, _<_}
+use Prim.Native.Nat.{ℕ, _≤_, _<_}
 use native.Mathlib.Omega.{arith}
-use borrow.Author.Tests.{ltb-true, ltb-false, lt-leb}
+use borrow.Author.Tests.{leb-true, leb-false, ltb-true, ltb-false, lt-leb}
 use lib.Dec.{leb, ltb}
 use lib.ListN.{length}
 use Rattle.texts.specs.definitions.Answer.{refused}
 use Rattle.texts.specs.definitions.Bytes.{capital, inRow}
-use Rattle.texts.specs.definitions.Meaning.{Begun, FirstBad, EndsEarly, Unknown, TooDeep, openAfter, Passes, Clean}
+use Rattle.texts.specs.definitions.Meaning.{Begun, FirstBad, EndsEarly, Unknown, TooDeep, openAfter, Passes, Clean, RefusedAs, too-long as too-long′, no-term-so, ended, unknown-letter, too-deep}
 use Rattle.texts.specs.definitions.Reading.{Frame, Spot, operand, Next, on, step, check, run, readTerm}
 use Rattle.texts.specs.definitions.Tokens.{Token, opening, closing, word, placeOf, tokens}
 use Rattle.texts.specs.definitions.Tree.{Tree, placed, letters}
@@ -156,3 +156,24 @@ module _ (row s : List ℕ) where
 
   pub place-6 : (p : ℕ) → readTerm row s ≡ refused 6 p → TooDeep row 16 (tokens 0 s) p
   place-6 p r = place-6-of p (ran 6 p (omega arith) r)
+
+  why-of : (e p : ℕ) → length s ≤ 4096 → Refusal (length s) (inRow row) (λ d. ltb d 16) operand [] (tokens 0 s) e p → RefusedAs row s e p
+  why-of e p h (early s′ fs′ q c i j) = ended i h (ends-early (length s) row (tokens 0 s) s′ fs′ q (clean 0 (tokens 0 s) c)) j
+  why-of e p h (bad ks k zs x f q c g i j) = no-term-so i h (first-bad (length s) row (tokens 0 s) ks k zs x p f q (clean 0 ks c) g j)
+  why-of e p h (past ks k zs s′ fs′ x f q c g l i m j) = go k f q c g l i m j (checked (inRow row) (λ d. ltb d 16) (length fs′) e k m i)
+    where
+      go : (k : Token) → tokens 0 s ≡ ks ++ (k ∷ zs) → Reached (length s) operand [] ks (on s′ fs′) → Checks (inRow row) (λ d. ltb d 16) 0 ks → step s′ fs′ k ≡ x → Live x
+          → e ≡ check (inRow row) (λ d. ltb d 16) (length fs′) k → (e ≡ 0 → ⊥) → p ≡ placeOf k → Checked (inRow row) (λ d. ltb d 16) (length fs′) e k → RefusedAs row s e p
+      go k f q c g l i m j (deep r o v) =
+          too-deep o h (place-6-of p (past ks (opening r) zs s′ fs′ x f q c g l (sym o ∙ i) (omega arith) j))
+      go k f q c g l i m j (unknown r b o u v) =
+          unknown-letter o h (place-5-of p (past ks (word r (b ∷ [])) zs s′ fs′ x f q c g l (sym o ∙ i) (omega arith) j))
+
+  -- each refusal is one that document 01 describes
+  pub why : (e p : ℕ) → readTerm row s ≡ refused e p → RefusedAs row s e p
+  unfolding readTerm
+  why e p r = go (leb (length s) 4096) refl
+    where
+      go : (b : Bool) → leb (length s) 4096 ≡ b → RefusedAs row s e p
+      go true k = why-of e p (leb-true (length s) 4096 k) (trace (inRow row) (λ d. ltb d 16) (length s) (tokens 0 s) operand [] e p tt tt (rw (k, readTerm) at r))
+      go false k = let q = refusal-parts 3 0 e p (rw (k, readTerm) at r) in too-long′ (q .0) (q .1) (leb-false (length s) 4096 k)

@@ -94,3 +94,11 @@ pub record TooDeep (row : List ℕ) (limit : ℕ) (ts : List Token) (p : ℕ) : 
   pub clean : Clean row limit 0 before
   pub open-before : limit ≤ openAfter 0 before
   pub begun : Begun (before ++ (opening p ∷ []))
+
+-- The refusals of a term's text before it is measured: "3; then 4, 5, 6 at the earliest place" (textlaws/Exactly, refused-exactly: exactly then it is refused so)
+pub data RefusedAs (row s : List ℕ) (e p : ℕ) : Type 0 where
+  too-long : e ≡ 3 → p ≡ 0 → 4096 < length s → RefusedAs row s e p
+  no-term-so : e ≡ 4 → length s ≤ 4096 → FirstBad row 16 (tokens 0 s) p → RefusedAs row s e p
+  ended : e ≡ 4 → length s ≤ 4096 → EndsEarly row 16 (tokens 0 s) → p ≡ length s → RefusedAs row s e p
+  unknown-letter : e ≡ 5 → length s ≤ 4096 → Unknown row 16 (tokens 0 s) p → RefusedAs row s e p
+  too-deep : e ≡ 6 → length s ≤ 4096 → TooDeep row 16 (tokens 0 s) p → RefusedAs row s e p
