@@ -1,4 +1,5 @@
 -- bytes, integers, tokens
+pub mod Lists
 pub mod Bytes
 pub mod Numerals
 pub mod Prefixes
@@ -30,6 +31,7 @@ pub mod FormBegun
 pub mod FormOpen
 pub mod FormPlaces
 pub mod FormRefused
+pub mod FormExactly
 pub mod FormNodes
 -- the form of an accepted term has a text that is accepted
 pub mod Length

@@ -5,7 +5,7 @@ use mathlib.Core.Path.{_≡_, refl, sym, ap, _∙_}
 use Prim.Native.Nat.{ℕ, zero, suc, _+_}
 use lib.IntN.{ℤ}
 use lib.ListN.{length}
-use Rattle.horner.specs.definitions.Form.{Form, int, pop, pow}
+use Rattle.horner.specs.definitions.Form.{Form, pop, pow}
 use Rattle.texts.specs.definitions.Answer.{Reading, read, refused, fine}
 use Rattle.texts.specs.definitions.FormJudging.{Node, nodes, stands, firstWrong}
 use Rattle.texts.specs.definitions.FormText.{text, popHead, powHead}

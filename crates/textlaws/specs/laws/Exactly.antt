@@ -1,49 +1,26 @@
 -- The refusals of a term's text are exactly those that document 01 describes.
 use mathlib.Core.Bool.{Bool, true, false, true≢false, _&&_}
-use mathlib.Core.List.{List, [], _∷_, _++_, append-assoc, append-nil, head-eq-of-cons-eq, tail-eq-of-cons-eq, nil≢cons, cons≢nil}
-use mathlib.Core.Logic.{_⊎_, inl, inr, _↔_}
+use mathlib.Core.List.{List, [], _∷_, _++_, append-assoc, append-nil}
+use mathlib.Core.Logic.{_↔_}
 use mathlib.Core.Option.{some}
 use mathlib.Core.Path.{_≡_, refl, sym, ap, ap₂, _∙_}
-use Prim.Native.Nat.{ℕ, zero, suc, pred, _+_, _≤_, _<_}
+use Prim.Native.Nat.{ℕ, suc, pred, _+_, _≤_, _<_}
 use native.Mathlib.Omega.{arith}
-use borrow.Author.Tests.{leb-true, leb-false}
-use lib.Dec.{leb, ltb}
 use lib.IntN.{ℤ, pos}
 use lib.ListN.{length}
 use Rattle.texts.specs.definitions.Answer.{Reading, read, refused}
-use Rattle.texts.specs.definitions.Bytes.{bytes, capital, inRow}
-use Rattle.texts.specs.definitions.Meaning.{IsTerm, Begun, openAfter, Passes, Clean, FirstBad, EndsEarly, Unknown, TooDeep, RefusedAs, too-long, no-term-so, ended, unknown-letter, too-deep}
+use Rattle.texts.specs.definitions.Bytes.{capital, inRow}
+use Rattle.texts.specs.definitions.Meaning.{IsTerm, Begun, openAfter, Passes, Clean, EndsEarly, RefusedAs, too-long, no-term-so, ended, unknown-letter, too-deep}
 use Rattle.texts.specs.definitions.Numerals.{dec, writeInt, readInt}
-use Rattle.texts.specs.definitions.Reading.{operand, run, readTerm}
+use Rattle.texts.specs.definitions.Reading.{readTerm}
 use Rattle.texts.specs.definitions.Tokens.{Token, opening, closing, word, placeOf, tokens}
 use Rattle.texts.specs.definitions.Tree.{Sign, add, sub, mul, signText, Tree, num, letter, neg, two, power, placed, letters, nesting}
 use Rattle.textlaws.specs.laws.Bytes.{and-l, and-r, and-i}
+use Rattle.textlaws.specs.laws.Lists.{Places, same-place, earlier, later, places}
 use Rattle.textlaws.specs.laws.Numerals.{no-none, read-int}
-use Rattle.textlaws.specs.laws.Places.{refusal-parts}
 use Rattle.textlaws.specs.laws.Reading.{reads}
 use Rattle.textlaws.specs.laws.Refused.{why}
-use Rattle.textlaws.specs.laws.Sofar.{no-refusal}
 use Rattle.textlaws.specs.laws.Words.{capital-no-int}
-
--- ---- two places in one list
-data Places (ks : List Token) (k : Token) (js : List Token) (j : Token) : Type 0 where
-  same-place : ks ≡ js → k ≡ j → Places ks k js j
-  earlier : (us : List Token) → js ≡ ks ++ (k ∷ us) → Places ks k js j
-  later : (us : List Token) → ks ≡ js ++ (j ∷ us) → Places ks k js j
-
-places : (ks : List Token) (k : Token) (zs js : List Token) (j : Token) (ys : List Token) → ks ++ (k ∷ zs) ≡ js ++ (j ∷ ys) → Places ks k js j
-places [] k zs [] j ys e = same-place refl (head-eq-of-cons-eq e)
-places [] k zs (i ∷ js) j ys e = earlier js (ap (λ (z : Token). z ∷ js) (sym (head-eq-of-cons-eq e)))
-places (i ∷ ks) k zs [] j ys e = later ks (ap (λ (z : Token). z ∷ ks) (head-eq-of-cons-eq e))
-places (i ∷ ks) k zs (i′ ∷ js) j ys e = go (places ks k zs js j ys (tail-eq-of-cons-eq e))
-  where
-    h : i ≡ i′
-    h = head-eq-of-cons-eq e
-
-    go : Places ks k js j → Places (i ∷ ks) k (i′ ∷ js) j
-    go (same-place a b) = same-place (ap₂ _∷_ h a) b
-    go (earlier us a) = earlier us (ap₂ _∷_ (sym h) a)
-    go (later us a) = later us (ap₂ _∷_ h a)
 
 begun-front : (ks us : List Token) → Begun (ks ++ us) → Begun ks
 begun-front ks us b = record { term = b .term; rest = us ++ b .rest; capitals = b .capitals; is = b .is ∙ append-assoc ks us (b .rest) }

@@ -4,16 +4,16 @@ use mathlib.Core.List.{List, [], _∷_, _++_, append-assoc, append-nil}
 use mathlib.Core.Logic.{_⊎_, inl, inr}
 use mathlib.Core.Option.{none}
 use mathlib.Core.Path.{_≡_, refl, sym, ap, _∙_}
-use Prim.Native.Nat.{ℕ, _+_}
+use Prim.Native.Nat.{ℕ, _+_, _≤_}
 use native.Mathlib.Nat.{zero-add}
 use native.Mathlib.Omega.{arith}
-use borrow.Author.Tests.{eqb-true, ltb-true, ltb-false}
+use borrow.Author.Tests.{eqb-true, leb-true, leb-false, ltb-true, ltb-false}
 use lib.Dec.{leb, ltb, eqb}
 use lib.IntN.{ℤ}
 use lib.ListN.{length}
 use Rattle.horner.specs.definitions.Form.{Form}
 use Rattle.texts.specs.definitions.Answer.{refused}
-use Rattle.texts.specs.definitions.FormMeaning.{Begun, FirstBad, EndsEarly, TooDeep, openAfter, Clean}
+use Rattle.texts.specs.definitions.FormMeaning.{Begun, FirstBad, EndsEarly, TooDeep, openAfter, Clean, RefusedAs, too-long, no-form-so, ended, too-deep}
 use Rattle.texts.specs.definitions.FormReading.{Frame, Spot, before, number, head, index, behind, on, off, step, wholeForm, wholeOr, check, run, readForm}
 use Rattle.texts.specs.definitions.FormText.{text}
 use Rattle.textlaws.specs.laws.FormBegun.{begun-state}
@@ -115,3 +115,19 @@ module _ (s : List ℕ) where
 
   pub place-6 : (p : ℕ) → readForm s ≡ refused 6 p → TooDeep 256 s p
   place-6 p r = place-6-of p (ran 6 p (omega arith) r)
+
+  why-of : (e p : ℕ) → length s ≤ 65535 → Refusal (λ d. ltb d 256) 0 before [] s e p → RefusedAs s e p
+  why-of e p h (early s′ fs′ q c w i j) = ended i h (ends-early s s′ fs′ q w (clean 0 s c)) (j ∙ zero-add (length s))
+  why-of e p h (bad ks b zs s′ fs′ f q c g i j) = no-form-so i h (first-bad s ks b zs s′ fs′ p f q (clean 0 ks c) g (j ∙ zero-add (length ks)))
+  why-of e p h (past ks b zs s′ fs′ s″ fs″ f q c g i m j) =
+      let o = checked (λ d. ltb d 256) s′ (length fs′) b e m i in
+      too-deep (o .1 .1 .0) h (deep-of p ks b zs s′ fs′ s″ fs″ f q (clean 0 ks c) g (j ∙ zero-add (length ks)) (o .0) (o .1 .0) (o .1 .1 .1))
+
+  -- each refusal is one that document 01 describes
+  pub why : (e p : ℕ) → readForm s ≡ refused e p → RefusedAs s e p
+  unfolding readForm
+  why e p r = go (leb (length s) 65535) refl
+    where
+      go : (b : Bool) → leb (length s) 65535 ≡ b → RefusedAs s e p
+      go true k = why-of e p (leb-true (length s) 65535 k) (trace (λ d. ltb d 256) s 0 before [] e p tt tt (rw (k, readForm) at r))
+      go false k = let q = refusal-parts 3 0 e p (rw (k, readForm) at r) in too-long (q .0) (q .1) (leb-false (length s) 65535 k)

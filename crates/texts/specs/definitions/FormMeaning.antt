@@ -70,6 +70,13 @@ pub record TooDeep (limit : ℕ) (s : List ℕ) (p : ℕ) : Type 0 where
   pub open-before : limit ≤ openAfter 0 before
   pub begun : Begun (before ++ (40 ∷ []))
 
+-- The refusals of a form's text before it is judged: "3; then 4, .. 6 at the earliest place" (textlaws/FormExactly, refused-exactly: exactly then it is refused so)
+pub data RefusedAs (s : List ℕ) (e p : ℕ) : Type 0 where
+  too-long : e ≡ 3 → p ≡ 0 → 65535 < length s → RefusedAs s e p
+  no-form-so : e ≡ 4 → length s ≤ 65535 → FirstBad 256 s p → RefusedAs s e p
+  ended : e ≡ 4 → length s ≤ 65535 → EndsEarly 256 s → p ≡ length s → RefusedAs s e p
+  too-deep : e ≡ 6 → length s ≤ 65535 → TooDeep 256 s p → RefusedAs s e p
+
 -- every node stands
 abbrev pub AllStand : ℕ → List Node → Type 0
 AllStand m [] = Unit {0}
