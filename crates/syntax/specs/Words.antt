@@ -15,10 +15,10 @@ use Rattle.texts.specs.definitions.Numerals.{canonical, readInt, readNat, value
 use Rattle.texts.specs.definitions.Tokens.{Token, word}
 use Rattle.texts.specs.definitions.Tree.{Sign, add, sub, mul, Tree, num, letter}
 use Rattle.texts.specs.definitions.Reading.{Frame, first, second, base, Spot, operand, operator, exponent, ending, raised, Next, on, off, deliver, lone, intOr, leaf, deliverSome, operatorWord, raise, step, letterCheck, check}
-use Rattle.texts.specs.definitions.FormReading.{isSome}
-use Rattle.texts.specs.laws.Bytes.{same-eq, same-refl, not-both}
-use Rattle.texts.specs.laws.Numerals.{int-read, dec-read}
-use Rattle.texts.specs.laws.Words.{check-num}
+use Rattle.texts.specs.definitions.Numerals.{isSome}
+use Rattle.textlaws.specs.laws.Bytes.{same-eq, same-refl, not-both}
+use Rattle.textlaws.specs.laws.Numerals.{int-read, dec-read}
+use Rattle.textlaws.specs.laws.Words.{check-num}
 use Rattle.words.specs.Words.{isInteger, operatorOf}
 use Rattle.words.specs.Laws.{integer-some, in-row, operator-0}
 use Rattle.syntax.specs.declared.Moved.{Moved}

@@ -13,7 +13,7 @@ use borrow.Author.Tests.{eq-eqb, ne-eqb}
 use Rattle.horner.specs.laws.Compare.{lt-or-ge}
 use Rattle.texts.specs.definitions.Bytes.{all, digit, indexIn}
 use Rattle.texts.specs.definitions.Numerals.{valueFrom}
-use Rattle.texts.specs.laws.Bytes.{and-l, and-r, digit-range}
+use Rattle.textlaws.specs.laws.Bytes.{and-l, and-r, digit-range}
 
 -- the bytes from i on are the one at i and those from i + 1 on
 pub one-on : (s : List ℕ) (i : ℕ) → i < length s → drop i s ≡ getD s i 0 ∷ drop (i + 1) s

@@ -14,8 +14,8 @@ use mathlib.Core.Option.{Option, none, some}
 use borrow.Author.Tests.{eq-eqb, ne-eqb, eqb-true, eqb-false, lt-ltb, le-ltb}
 use Rattle.texts.specs.definitions.Bytes.{bytes, same, all, digit, inRow, indexIn}
 use Rattle.texts.specs.definitions.Numerals.{canonical, readInt, readNat, valueFrom, below0, from0, isEmpty}
-use Rattle.texts.specs.definitions.FormReading.{isSome}
-use Rattle.texts.specs.laws.Bytes.{same-eq, same-refl, digit-range, and-l, and-r}
+use Rattle.texts.specs.definitions.Numerals.{isSome}
+use Rattle.textlaws.specs.laws.Bytes.{same-eq, same-refl, digit-range, and-l, and-r}
 use Rattle.words.specs.Words.{isPositive, isInteger, operatorShort, operatorLong, operatorOf}
 
 -- ---- integers

@@ -9,7 +9,7 @@ use lib.ListN.{length, getD, drop}
 use borrow.Author.Tests.{eq-eqb, ne-eqb}
 use Rattle.texts.specs.definitions.Bytes.{same, bytes, all, digit, inRow, indexIn}
 use Rattle.texts.specs.definitions.Numerals.{canonical, readInt, readNat, isEmpty}
-use Rattle.texts.specs.definitions.FormReading.{isSome}
+use Rattle.texts.specs.definitions.Numerals.{isSome}
 
 -- digits that do not begin with 0
 abbrev pub isPositive : List ℕ → Bool

@@ -5,7 +5,7 @@ use native.Mathlib.Omega.{arith}
 use lib.ListN.{length}
 use denote.Ref.{now}
 use borrow.Author.Needs.{needs}
-use Rattle.texts.specs.laws.Refused.{too-long}
+use Rattle.textlaws.specs.laws.Refused.{too-long}
 use Rattle.syntax.specs.declared.Turning.the-variants as T
 use Rattle.syntax.specs.Answer.{syntaxOf}
 use Rattle.syntax.specs.Following.{Follows, follows-start, follows-sane, leads}

@@ -1,15 +1,15 @@
 -- Reading the text of a form, byte by byte, with the open parentheses on a stack: as in Reading, a state knows what was read so far and nothing of what comes.
-use mathlib.Core.Bool.{Bool, true, false, _&&_, _||_, cond}
+use mathlib.Core.Bool.{Bool, true, false, _||_, cond}
 use mathlib.Core.List.{List, [], _∷_, _++_}
 use mathlib.Core.Option.{Option, none, some}
-use Prim.Native.Nat.{ℕ, suc, _+_}
+use Prim.Native.Nat.{ℕ, suc}
 use lib.Dec.{eqb, leb, ltb}
 use lib.IntN.{ℤ}
 use lib.ListN.{length}
 use Rattle.horner.specs.definitions.Form.{Form, int, pop, pow}
 use Rattle.texts.specs.definitions.Answer.{Reading, read, refused, fine}
 use Rattle.texts.specs.definitions.Bytes.{bytes, same}
-use Rattle.texts.specs.definitions.Numerals.{canonical, readNat, readInt}
+use Rattle.texts.specs.definitions.Numerals.{canonical, readNat, readInt, isSome}
 
 -- an open parenthesis that waits for a form: `(POP i `, `(POW i `, `(POW i p `
 pub data Frame : Type 0 where
@@ -33,10 +33,6 @@ pub data Spot : Type 0 where
 pub data Next : Type 0 where
   on : Spot → List Frame → Next
   off : Next
-
-abbrev pub isSome : {A : Type 0} → Option A → Bool
-isSome none = false
-isSome (some a) = true
 
 -- an integer's text, or the `-` that one may begin with: what may stand at the front of an integer's text
 abbrev pub intBegun : List ℕ → Bool

@@ -52,3 +52,8 @@ unfoldable pub readInt : List ℕ → Option ℤ
 unfolding readNat
 readInt [] = none
 readInt (x ∷ xs) = elim (eqb x 45) [ true ↦ below0 (readNat xs) | false ↦ from0 (readNat (x ∷ xs)) ]
+
+-- was anything read?
+abbrev pub isSome : {A : Type 0} → Option A → Bool
+isSome none = false
+isSome (some a) = true

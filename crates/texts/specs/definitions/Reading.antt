@@ -1,6 +1,6 @@
 -- Reading the text of a term, token by token, with the open parentheses on a stack: each token either leads to the next state or is refused where it stands.
 -- A state knows all that was read so far and nothing of what comes, so "the first token such that no term begins with the tokens so far" can be proved of it
--- (laws/Begun), and a program follows it with a small number for the state and one for each open parenthesis, at most 16.
+-- (textlaws/Refused), and a program follows it with a small number for the state and one for each open parenthesis, at most 16.
 use mathlib.Core.Bool.{Bool, true, false, _&&_, cond, not}
 use mathlib.Core.List.{List, [], _∷_}
 use mathlib.Core.Option.{Option, none, some}

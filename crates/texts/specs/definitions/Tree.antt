@@ -1,5 +1,5 @@
 -- A term as it stands in a text: each of its tokens with its place.
-use mathlib.Core.Bool.{Bool, true, false, _&&_}
+use mathlib.Core.Bool.{Bool, true, _&&_}
 use mathlib.Core.List.{List, [], _∷_, _++_}
 use Prim.Native.Nat.{ℕ, suc, _+_, max}
 use lib.IntN.{ℤ}

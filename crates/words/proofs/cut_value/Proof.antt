@@ -9,7 +9,7 @@ use denote.Ref.{now}
 use borrow.Author.Needs.{needs}
 use Rattle.texts.specs.definitions.Bytes.{all, digit}
 use Rattle.texts.specs.definitions.Numerals.{valueFrom}
-use Rattle.texts.specs.laws.Bytes.{digit-range}
+use Rattle.textlaws.specs.laws.Bytes.{digit-range}
 use Rattle.words.proofs.Walk.{all-here, all-rest, value-on, value-end}
 use Rattle.words.proofs.cut_value.Statement.{statement}
 use Rattle.words.proofs.cut_value.Tie as tie

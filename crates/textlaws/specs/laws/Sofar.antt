@@ -2,19 +2,19 @@
 use mathlib.Core.Bool.{Bool, true, false, _&&_, cond}
 use mathlib.Core.List.{List, [], _∷_, _++_, append-assoc, append-nil}
 use mathlib.Core.Option.{Option, none, some}
-use mathlib.Core.Path.{_≡_, refl, sym, ap, ap₂, _∙_}
+use mathlib.Core.Path.{_≡_, refl, sym, ap, _∙_}
 use Prim.Native.Nat.{ℕ, zero, suc}
 use native.Mathlib.Omega.{arith}
 use lib.ListN.{length}
 use Rattle.texts.specs.definitions.Answer.{Reading, read, refused, fine}
 use Rattle.texts.specs.definitions.Bytes.{bytes, same, capital}
 use Rattle.texts.specs.definitions.Numerals.{dec, readNat}
 use Rattle.texts.specs.definitions.Reading.{Frame, first, second, base, Spot, operand, operator, exponent, ending, raised, Next, on, whole, off, deliver, leaf, deliverSome, operatorWord, raise, closeShort, step, caseNext, letterCheck, check, onlyEnd, run}
 use Rattle.texts.specs.definitions.Tokens.{Token, opening, closing, word, placeOf}
 use Rattle.texts.specs.definitions.Tree.{Sign, add, sub, mul, signText, Tree, num, letter, neg, two, power, placed}
-use Rattle.texts.specs.laws.Bytes.{and-i, same-eq}
-use Rattle.texts.specs.laws.Numerals.{dec-read}
-use Rattle.texts.specs.laws.Words.{LeafView, is-int, is-letter, leaf-view, letter-check}
+use Rattle.textlaws.specs.laws.Bytes.{and-i, same-eq}
+use Rattle.textlaws.specs.laws.Numerals.{dec-read}
+use Rattle.textlaws.specs.laws.Words.{LeafView, is-int, is-letter, leaf-view, letter-check}
 
 -- ---- the tokens that a state stands for
 abbrev pub frameTokens : Frame → List Token
@@ -88,7 +88,7 @@ module _ (known room : ℕ → Bool) where
       go (is-letter b k f g) =
           held-deliver t fs (stackTokens fs ++ (word p w ∷ [])) (rw (← g, f) refl) (rw (← g) (and-i k (letter-check known room b k (ap (letterCheck known room) f ∙ c)))) h
 
-  room-check : (d : ℕ) → _≡_ {A = ℕ} (cond (room d) 0 6) 0 → room d ≡ true
+  pub room-check : (d : ℕ) → _≡_ {A = ℕ} (cond (room d) 0 6) 0 → room d ≡ true
   room-check d e = go (room d) refl
     where
       go : (b : Bool) → room d ≡ b → room d ≡ true

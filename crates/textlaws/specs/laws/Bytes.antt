@@ -1,11 +1,12 @@
 -- Tests on bytes and texts, as facts.
-use mathlib.Core.Bool.{Bool, true, false, _&&_, true≢false}
+use mathlib.Core.Bool.{Bool, true, false, _&&_, _||_, true≢false}
 use mathlib.Core.List.{List, [], _∷_, _++_}
-use mathlib.Core.Path.{_≡_, refl, sym, ap, ap₂, _∙_}
+use mathlib.Core.Path.{_≡_, refl, sym, ap₂, _∙_}
 use Prim.Native.Nat.{ℕ, _≤_}
+use Rattle.horner.specs.definitions.Measures.{AllLe}
 use borrow.Author.Tests.{eqb-true, leb-true, eq-eqb, le-leb}
 use lib.Dec.{eqb, leb}
-use Rattle.texts.specs.definitions.Bytes.{same, all, digit, capital}
+use Rattle.texts.specs.definitions.Bytes.{same, all, digit}
 
 -- ---- Booleans
 pub not-both : {b : Bool} → b ≡ true → b ≡ false → ⊥
@@ -21,6 +22,10 @@ and-r false b e = absurd (true≢false (sym e))
 
 pub and-i : {a b : Bool} → a ≡ true → b ≡ true → (a && b) ≡ true
 and-i {a} {b} e f = rw (e, f)
+
+pub either : (a b : Bool) (P : Type 0) → (a || b) ≡ true → (a ≡ true → P) → (b ≡ true → P) → P
+either true b P e f g = f refl
+either false b P e f g = g e
 
 -- ---- texts
 pub same-eq : (v w : List ℕ) → same v w ≡ true → v ≡ w
@@ -43,3 +48,12 @@ range-digit x h k = and-i (le-leb 48 x h) (le-leb x 57 k)
 pub all-append : (p : ℕ → Bool) (v w : List ℕ) → all p v ≡ true → all p w ≡ true → all p (v ++ w) ≡ true
 all-append p [] w e f = f
 all-append p (x ∷ v) w e f = and-i (and-l (p x) (all p v) e) (all-append p v w (and-r (p x) (all p v) e) f)
+
+-- ---- degrees
+pub all-le : (ds : List ℕ) → all (λ d. leb d 63) ds ≡ true → AllLe 63 ds
+all-le [] e = tt
+all-le (d ∷ ds) e = (leb-true d 63 (and-l (leb d 63) (all (λ d. leb d 63) ds) e), all-le ds (and-r (leb d 63) (all (λ d. leb d 63) ds) e))
+
+pub le-all : (ds : List ℕ) → AllLe 63 ds → all (λ d. leb d 63) ds ≡ true
+le-all [] h = refl
+le-all (d ∷ ds) h = and-i (le-leb d 63 (h .0)) (le-all ds (h .1))

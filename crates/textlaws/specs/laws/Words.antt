@@ -1,20 +1,19 @@
 -- What the words of a term stand for.
-use mathlib.Core.Bool.{Bool, true, false, true≢false, _&&_, cond, not}
+use mathlib.Core.Bool.{Bool, true, false, cond}
 use mathlib.Core.List.{List, [], _∷_}
 use mathlib.Core.Option.{Option, none, some}
 use mathlib.Core.Path.{_≡_, refl, sym, ap, _∙_}
 use Prim.Native.Nat.{ℕ, _≤_}
 use native.Mathlib.Omega.{arith}
 use borrow.Author.Tests.{leb-true, le-leb, lt-leb, ne-eqb}
-use lib.Dec.{leb, eqb}
+use lib.Dec.{leb}
 use lib.IntN.{ℤ}
-use Rattle.texts.specs.definitions.Bytes.{capital, digit, all}
-use Rattle.texts.specs.definitions.Numerals.{dec, writeInt, canonical, readNat, readInt, from0}
+use Rattle.texts.specs.definitions.Bytes.{capital}
+use Rattle.texts.specs.definitions.Numerals.{writeInt, canonical, readNat, readInt}
 use Rattle.texts.specs.definitions.Reading.{lone, intOr, leaf, letterCheck}
-use Rattle.texts.specs.definitions.Tokens.{Token, word}
-use Rattle.texts.specs.definitions.Tree.{Tree, num, letter, placed}
-use Rattle.texts.specs.laws.Bytes.{and-l, and-r, not-both}
-use Rattle.texts.specs.laws.Numerals.{no-none, int-read, read-int}
+use Rattle.texts.specs.definitions.Tree.{Tree, num, letter}
+use Rattle.textlaws.specs.laws.Bytes.{and-l, and-r}
+use Rattle.textlaws.specs.laws.Numerals.{no-none, int-read, read-int}
 
 -- no capital letter is an integer
 pub capital-range : (b : ℕ) → capital b ≡ true → (65 ≤ b) × (b ≤ 90)

@@ -1,16 +1,16 @@
 -- Reading an integer's text gives the integer back, and only its own text does.
-use mathlib.Core.Bool.{Bool, true, false, true≢false, _&&_, cond}
+use mathlib.Core.Bool.{Bool, true, false, true≢false, _&&_}
 use mathlib.Core.List.{List, [], _∷_, _++_, append-assoc}
 use mathlib.Core.Option.{Option, none, some}
 use mathlib.Core.Path.{_≡_, refl, sym, ap, ap₂, _∙_}
 use Prim.Native.Nat.{ℕ, zero, suc, _+_, _-_, _*_, _/_, _%_, _≤_, _<_}
 use native.Mathlib.Omega.{arith}
 use borrow.Author.Tests.{ltb-true, ltb-false, lt-ltb, le-ltb, eqb-true, eqb-false, ne-eqb}
-use lib.Dec.{ltb, leb, eqb}
+use lib.Dec.{ltb, eqb}
 use lib.IntN.{ℤ, pos, negsuc}
 use Rattle.texts.specs.definitions.Bytes.{digit, all}
 use Rattle.texts.specs.definitions.Numerals.{decF, dec, writeInt, canonical, isEmpty, valueFrom, readNat, below0, from0, readInt}
-use Rattle.texts.specs.laws.Bytes.{not-both, and-l, and-r, and-i, digit-range, range-digit, all-append}
+use Rattle.textlaws.specs.laws.Bytes.{and-l, and-r, and-i, digit-range, range-digit, all-append}
 
 pub no-none : {A : Type 0} {a : A} {P : Type 0} → _≡_ {A = Option A} none (some a) → P
 no-none e = let z : _≡_ {A = ℕ} 0 1 = cc in absurd (omega arith)
@@ -22,8 +22,9 @@ decF-short k n h = rw (lt-ltb n 10 h, decF)
 decF-long : (k n : ℕ) → 10 ≤ n → decF (suc k) n ≡ decF k (n / 10) ++ ((48 + n % 10) ∷ [])
 decF-long k n h = rw (le-ltb n 10 h, decF)
 
-split : (n : ℕ) → (P : Type 0) → (n < 10 → P) → (10 ≤ n → P) → P
-split n P f g = go (ltb n 10) refl
+-- by the number of digits
+pub short-or-long : (n : ℕ) → (P : Type 0) → (n < 10 → P) → (10 ≤ n → P) → P
+short-or-long n P f g = go (ltb n 10) refl
   where
     go : (b : Bool) → ltb n 10 ≡ b → P
     go true e = f (ltb-true n 10 e)
@@ -34,7 +35,7 @@ decF-any : (j k n : ℕ) → n < j → n < k → decF j n ≡ decF k n
 decF-any zero k n h h′ = absurd (omega arith)
 decF-any (suc j) zero n h h′ = absurd (omega arith)
 decF-any (suc j) (suc k) n h h′ =
-    split n (decF (suc j) n ≡ decF (suc k) n)
+    short-or-long n (decF (suc j) n ≡ decF (suc k) n)
     (λ s. decF-short j n s ∙ sym (decF-short k n s))
     (λ l. decF-long j n l ∙ ap (λ (w : List ℕ). w ++ ((48 + n % 10) ∷ [])) (decF-any j k (n / 10) (omega arith) (omega arith)) ∙ sym (decF-long k n l))
 
@@ -87,7 +88,7 @@ value-append a (x ∷ v) w = value-append (a * 10 + (x - 48)) v w
 value-decF : (k n : ℕ) → n < k → valueFrom 0 (decF k n) ≡ n
 value-decF zero n h = absurd (omega arith)
 value-decF (suc k) n h =
-    split n (valueFrom 0 (decF (suc k) n) ≡ n)
+    short-or-long n (valueFrom 0 (decF (suc k) n) ≡ n)
     (λ s. ap (valueFrom 0) (decF-short k n s) ∙ (let e : 0 * 10 + (48 + n - 48) ≡ n = omega arith in e))
     (λ l. ap (valueFrom 0) (decF-long k n l) ∙ value-append 0 (decF k (n / 10)) ((48 + n % 10) ∷ [])
     ∙ ap (λ (a : ℕ). a * 10 + (48 + n % 10 - 48)) (value-decF k (n / 10) (omega arith))
@@ -102,14 +103,14 @@ abbrev pub Leading : List ℕ → Type 0
 Leading [] = ⊥
 Leading (x ∷ w) = (eqb x 48 ≡ false) × (digit x ≡ true) × (all digit w ≡ true)
 
-leading-more : (w : List ℕ) (x : ℕ) → Leading w → digit x ≡ true → Leading (w ++ (x ∷ []))
+pub leading-more : (w : List ℕ) (x : ℕ) → Leading w → digit x ≡ true → Leading (w ++ (x ∷ []))
 leading-more [] x l d = absurd l
 leading-more (y ∷ w) x l d = (l .0, l .1, all-append digit w (x ∷ []) (l .2) (and-i d refl))
 
 decF-leading : (k n : ℕ) → n < k → 0 < n → Leading (decF k n)
 decF-leading zero n h p = absurd (omega arith)
 decF-leading (suc k) n h p =
-    split n (Leading (decF (suc k) n))
+    short-or-long n (Leading (decF (suc k) n))
     (λ s. rw (decF-short k n s) (ne-eqb (48 + n) 48 (omega arith), range-digit (48 + n) (omega arith) (omega arith), refl))
     (λ l. rw (decF-long k n l) (leading-more (decF k (n / 10)) (48 + n % 10) (decF-leading k (n / 10) (omega arith) (omega arith)) (range-digit (48 + n % 10) (omega arith) (omega arith))))
 

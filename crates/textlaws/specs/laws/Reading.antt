@@ -3,20 +3,20 @@ use mathlib.Core.Bool.{Bool, true, false, _&&_}
 use mathlib.Core.List.{List, []}
 use mathlib.Core.Logic.{_↔_}
 use mathlib.Core.Path.{_≡_, refl, sym, ap, _∙_}
-use Prim.Native.Nat.{ℕ, suc, _+_, _≤_, max}
+use Prim.Native.Nat.{ℕ, suc, _+_, _≤_}
 use native.Mathlib.Omega.{arith}
 use borrow.Author.Tests.{ltb-true, lt-ltb, leb-true, le-leb}
 use lib.Dec.{leb, ltb}
 use lib.ListN.{length}
-use Rattle.texts.specs.definitions.Answer.{Reading, read}
+use Rattle.texts.specs.definitions.Answer.{read}
 use Rattle.texts.specs.definitions.Bytes.{capital, inRow}
 use Rattle.texts.specs.definitions.Meaning.{IsTerm}
 use Rattle.texts.specs.definitions.Reading.{operand, run, readTerm}
 use Rattle.texts.specs.definitions.Tokens.{tokens}
-use Rattle.texts.specs.definitions.Tree.{Tree, num, letter, neg, two, power, placed, letters, nesting}
-use Rattle.texts.specs.laws.Bytes.{and-l, and-r, and-i}
-use Rattle.texts.specs.laws.Sofar.{admits, run-sound, no-refusal}
-use Rattle.texts.specs.laws.Through.{through-all}
+use Rattle.texts.specs.definitions.Tree.{Tree, num, letter, neg, two, power, letters, nesting}
+use Rattle.textlaws.specs.laws.Bytes.{and-l, and-r, and-i}
+use Rattle.textlaws.specs.laws.Sofar.{admits, run-sound, no-refusal}
+use Rattle.textlaws.specs.laws.Through.{through-all}
 
 module _ (known : ℕ → Bool) (L : ℕ) where
   abbrev room : ℕ → Bool

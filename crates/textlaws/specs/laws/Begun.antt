@@ -1,19 +1,19 @@
 -- Every state of the reading can still become a term.
-use mathlib.Core.Bool.{Bool, true, false, _&&_, not, and-false}
+use mathlib.Core.Bool.{Bool, true}
 use mathlib.Core.List.{List, [], _∷_, _++_, append-assoc, append-nil}
-use mathlib.Core.Path.{_≡_, refl, sym, ap, ap₂, _∙_}
-use Prim.Native.Nat.{ℕ, zero, suc}
+use mathlib.Core.Path.{_≡_, refl, sym, ap, _∙_}
+use Prim.Native.Nat.{ℕ, suc}
 use lib.IntN.{pos}
 use lib.ListN.{length}
 use Rattle.texts.specs.definitions.Bytes.{bytes, capital}
 use Rattle.texts.specs.definitions.Meaning.{Begun}
-use Rattle.texts.specs.definitions.Numerals.{dec, writeInt}
-use Rattle.texts.specs.definitions.Reading.{Frame, first, second, base, Spot, operand, operator, exponent, ending, raised, Next, on, whole, off, check, letterCheck}
+use Rattle.texts.specs.definitions.Numerals.{dec}
+use Rattle.texts.specs.definitions.Reading.{Frame, first, second, base, Spot, operand, operator, exponent, ending, raised, Next, on, whole, off, check}
 use Rattle.texts.specs.definitions.Tokens.{Token, opening, closing, word}
-use Rattle.texts.specs.definitions.Tree.{Sign, add, sub, mul, signText, Tree, num, letter, neg, two, power, placed, letters}
-use Rattle.texts.specs.laws.Bytes.{and-l, and-r, and-i}
-use Rattle.texts.specs.laws.Sofar.{frameTokens, stackTokens, spotTokens, soFar, admits, FrameOk, StackOk, SpotOk, Held}
-use Rattle.texts.specs.laws.Words.{check-letter}
+use Rattle.texts.specs.definitions.Tree.{Tree, num, letter, neg, two, power, placed, letters}
+use Rattle.textlaws.specs.laws.Bytes.{and-l, and-r, and-i}
+use Rattle.textlaws.specs.laws.Sofar.{stackTokens, spotTokens, soFar, admits, StackOk, SpotOk, Held}
+use Rattle.textlaws.specs.laws.Words.{check-letter}
 
 -- the test that every letter and every depth passes
 abbrev pub yes′ : ℕ → Bool

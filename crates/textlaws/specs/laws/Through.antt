@@ -1,21 +1,21 @@
 -- The reading goes through the tokens of every term.
-use mathlib.Core.Bool.{Bool, true, false, _&&_, cond}
+use mathlib.Core.Bool.{Bool, true, _&&_}
 use mathlib.Core.List.{List, [], _∷_, _++_, append-assoc, append-nil}
-use mathlib.Core.Option.{Option, none, some}
-use mathlib.Core.Path.{_≡_, refl, sym, ap, ap₂, _∙_}
-use Prim.Native.Nat.{ℕ, zero, suc}
+use mathlib.Core.Option.{some}
+use mathlib.Core.Path.{_≡_, refl, sym, ap, _∙_}
+use Prim.Native.Nat.{ℕ, suc}
 use lib.IntN.{pos}
 use lib.ListN.{length}
 use Rattle.texts.specs.definitions.Answer.{Reading, read, refused, fine}
 use Rattle.texts.specs.definitions.Bytes.{bytes, capital}
-use Rattle.texts.specs.definitions.Numerals.{dec, readNat, writeInt}
-use Rattle.texts.specs.definitions.Reading.{Frame, first, second, base, Spot, operand, operator, exponent, ending, raised, Next, on, whole, off, deliver, leaf, deliverSome, raise, step, caseNext, letterCheck, check, onlyEnd, run}
-use Rattle.texts.specs.definitions.Tokens.{Token, opening, closing, word, placeOf}
+use Rattle.texts.specs.definitions.Numerals.{dec, writeInt}
+use Rattle.texts.specs.definitions.Reading.{Frame, first, second, base, operand, exponent, Next, deliver, leaf, caseNext, letterCheck, onlyEnd, run}
+use Rattle.texts.specs.definitions.Tokens.{Token, opening, closing, word}
 use Rattle.texts.specs.definitions.Tree.{Sign, add, sub, mul, signText, Tree, num, letter, neg, two, power, placed}
-use Rattle.texts.specs.laws.Bytes.{and-l, and-r}
-use Rattle.texts.specs.laws.Numerals.{read-dec}
-use Rattle.texts.specs.laws.Sofar.{admits}
-use Rattle.texts.specs.laws.Words.{num-leaf, letter-leaf, check-num, check-letter}
+use Rattle.textlaws.specs.laws.Bytes.{and-l, and-r}
+use Rattle.textlaws.specs.laws.Numerals.{read-dec}
+use Rattle.textlaws.specs.laws.Sofar.{admits}
+use Rattle.textlaws.specs.laws.Words.{num-leaf, letter-leaf, check-num, check-letter}
 
 module _ (known room : ℕ → Bool) (n : ℕ) where
   abbrev pub goOn : Next → List Token → Reading Tree

@@ -1,25 +1,25 @@
 -- What may stand at the front of an integer's text, and what may not follow it.
 use mathlib.Core.Bool.{Bool, true, false, true≢false, _&&_, _||_, or-true}
 use mathlib.Core.List.{List, [], _∷_, _++_, append-assoc}
-use mathlib.Core.Option.{Option, none, some}
+use mathlib.Core.Option.{none, some}
 use mathlib.Core.Path.{_≡_, refl, sym, ap, _∙_}
 use Prim.Native.Nat.{ℕ, zero, suc}
 use native.Mathlib.Omega.{arith}
 use borrow.Author.Tests.{eqb-true}
 use lib.Dec.{eqb}
 use lib.IntN.{ℤ, pos, negsuc}
 use Rattle.texts.specs.definitions.Bytes.{bytes, same, digit, all}
-use Rattle.texts.specs.definitions.FormReading.{intBegun, isSome}
-use Rattle.texts.specs.definitions.Numerals.{canonical, isEmpty, valueFrom, dec, readNat, readInt, writeInt, below0, from0}
-use Rattle.texts.specs.laws.Bytes.{and-l, and-r, and-i, same-eq, same-refl}
-use Rattle.texts.specs.laws.Numerals.{no-none, Leading, leading-canonical, leading-dec, canonical-dec, dec-canonical, read-unsigned, read-int, dec-short}
+use Rattle.texts.specs.definitions.FormReading.{intBegun}
+use Rattle.texts.specs.definitions.Numerals.{canonical, isEmpty, valueFrom, dec, readNat, readInt, writeInt, below0, from0, isSome}
+use Rattle.textlaws.specs.laws.Bytes.{and-l, and-r, and-i}
+use Rattle.textlaws.specs.laws.Numerals.{no-none, Leading, leading-canonical, leading-dec, canonical-dec, dec-canonical, read-unsigned, dec-short}
 
 -- ---- digits at the front of digits
 all-front : (p : ℕ → Bool) (v w : List ℕ) → all p (v ++ w) ≡ true → all p v ≡ true
 all-front p [] w e = refl
 all-front p (x ∷ v) w e = and-i (and-l (p x) (all p (v ++ w)) e) (all-front p v w (and-r (p x) (all p (v ++ w)) e))
 
-all-back : (p : ℕ → Bool) (v w : List ℕ) → all p (v ++ w) ≡ true → all p w ≡ true
+pub all-back : (p : ℕ → Bool) (v w : List ℕ) → all p (v ++ w) ≡ true → all p w ≡ true
 all-back p [] w e = e
 all-back p (x ∷ v) w e = all-back p v w (and-r (p x) (all p (v ++ w)) e)
 

@@ -1,8 +1,8 @@
 -- A state of the reading of a form stands for the bytes read so far.
-use mathlib.Core.Bool.{Bool, true, false, true≢false, _&&_, _||_, cond}
+use mathlib.Core.Bool.{Bool, true, false, _&&_, cond}
 use mathlib.Core.List.{List, [], _∷_, _++_, append-assoc, append-nil}
 use mathlib.Core.Option.{Option, none, some}
-use mathlib.Core.Path.{_≡_, refl, sym, ap, ap₂, _∙_}
+use mathlib.Core.Path.{_≡_, refl, sym, ap, _∙_}
 use Prim.Native.Nat.{ℕ, zero, suc}
 use native.Mathlib.Omega.{arith}
 use borrow.Author.Tests.{eqb-true}
@@ -10,14 +10,14 @@ use lib.Dec.{eqb}
 use lib.IntN.{ℤ}
 use lib.ListN.{length}
 use Rattle.horner.specs.definitions.Form.{Form, int, pop, pow}
 use Rattle.texts.specs.definitions.Answer.{Reading, read, refused, fine}
 use Rattle.texts.specs.definitions.Bytes.{bytes, same}
 use Rattle.texts.specs.definitions.FormReading.{Frame, inPop, inPow, inRest, Kind, popKind, powKind, Spot, before, number, head, index, behind, Next, on, off, intBegun, headBegun, headWord, follow, followInt, indexed, step, caseNext, intForm, wholeForm, wholeOr, check, run}
 use Rattle.texts.specs.definitions.FormText.{text, popHead, powHead}
-use Rattle.texts.specs.definitions.Numerals.{canonical, readNat, readInt, dec, writeInt}
-use Rattle.texts.specs.laws.Bytes.{and-i, same-eq}
-use Rattle.texts.specs.laws.Numerals.{no-none, int-read, dec-read}
-use Rattle.texts.specs.laws.Sofar.{no-refusal}
+use Rattle.texts.specs.definitions.Numerals.{canonical, readNat, readInt}
+use Rattle.textlaws.specs.laws.Bytes.{and-i, same-eq}
+use Rattle.textlaws.specs.laws.Numerals.{no-none, int-read, dec-read}
+use Rattle.textlaws.specs.laws.Sofar.{no-refusal}
 
 -- ---- the bytes that a state stands for
 abbrev pub frameBytes : Frame → List ℕ
@@ -116,7 +116,7 @@ module _ (room : ℕ → Bool) where
   held-indexed popKind w fs (some i) e r h = (rw (← dec-read w i e) (simp (append-assoc, append-nil)), (tt, (r, h)))
   held-indexed powKind w fs (some i) e r h = (rw (← dec-read w i e) (simp (append-assoc, append-nil)), (tt, (r, h)))
 
-  room-check : (d : ℕ) → _≡_ {A = ℕ} (cond (room d) 0 6) 0 → room d ≡ true
+  pub room-check : (d : ℕ) → _≡_ {A = ℕ} (cond (room d) 0 6) 0 → room d ≡ true
   room-check d e = go (room d) refl
     where
       go : (b : Bool) → room d ≡ b → room d ≡ true
@@ -148,3 +148,44 @@ module _ (room : ℕ → Bool) where
   held-step (head w) fs b a h c = held-head (w ++ (b ∷ [])) fs _ (a .0) h (sym (append-assoc (stackBytes fs) (40 ∷ w) (b ∷ [])))
   held-step (index k w) fs b a h c = held-index k w fs b (a .0) h
   held-step (behind f) fs b a h c = held-follow f fs b a h
+
+  -- ---- a whole reading
+  int-whole : (w : List ℕ) (r : Option ℤ) (f : Form ℤ) → readInt w ≡ r → intForm r ≡ some f → (text f ≡ w) × (roomy 0 f ≡ true)
+  int-whole w none f e h = no-none h
+  int-whole w (some z) f e h = let i : int z ≡ f = cc in (ap text (sym i) ∙ int-read w z e, ap (roomy 0) (sym i))
+
+  whole-sound : (s : Spot) (fs : List Frame) (f : Form ℤ) → SpotOk (length fs) s → wholeForm s fs ≡ some f → (text f ≡ soFar s fs) × (roomy 0 f ≡ true)
+  whole-sound before fs f a e = no-none e
+  whole-sound (number w) [] f a e = int-whole w (readInt w) f refl e
+  whole-sound (number w) (g ∷ fs) f a e = no-none e
+  whole-sound (head w) fs f a e = no-none e
+  whole-sound (index k w) fs f a e = no-none e
+  whole-sound (behind g) [] f a e = let i : g ≡ f = cc in (ap text (sym i), ap (roomy 0) (sym i) ∙ a)
+  whole-sound (behind g) (k ∷ fs) f a e = no-none e
+
+  whole-or : (p : ℕ) (r : Option (Form ℤ)) (f : Form ℤ) → wholeOr p r ≡ read f → r ≡ some f
+  whole-or p none f e = no-refusal e
+  whole-or p (some g) f e = let i : some g ≡ some f = cc in i
+
+  fine-zero : (c p : ℕ) (r : Unit {0} → Reading (Form ℤ)) (f : Form ℤ) → fine c p r ≡ read f → (c ≡ 0) × (r tt ≡ read f)
+  fine-zero zero p r f e = (refl, e)
+  fine-zero (suc c) p r f e = no-refusal e
+
+  sound-next : (p b : ℕ) (bs cs : List ℕ) (f : Form ℤ) (c : ℕ) (x : Next) → (c ≡ 0 → Held x (cs ++ (b ∷ [])))
+      → ((s : Spot) (fs : List Frame) → SpotOk (length fs) s → StackOk fs → run room (suc p) s fs bs ≡ read f → (text f ≡ soFar s fs ++ bs) × (roomy 0 f ≡ true))
+      → caseNext x (refused 4 p) (λ s′ fs′. fine c p (λ u. run room (suc p) s′ fs′ bs)) ≡ read f → (text f ≡ cs ++ (b ∷ bs)) × (roomy 0 f ≡ true)
+  sound-next p b bs cs f c off h ih e = no-refusal e
+  sound-next p b bs cs f c (on s fs) h ih e =
+      let k = fine-zero c p (λ u. run room (suc p) s fs bs) f e in
+      let g = h (k .0) in
+      let r = ih s fs (g .1 .0) (g .1 .1) (k .1) in
+      (r .0 ∙ ap (λ (z : List ℕ). z ++ bs) (g .0) ∙ append-assoc cs (b ∷ []) bs, r .1)
+
+  -- what is read as a form is the form's text, and within the test
+  pub run-sound : (bs : List ℕ) (f : Form ℤ) (p : ℕ) (s : Spot) (fs : List Frame) → SpotOk (length fs) s → StackOk fs → run room p s fs bs ≡ read f
+      → (text f ≡ soFar s fs ++ bs) × (roomy 0 f ≡ true)
+  run-sound [] f p s fs a h e =
+      let w = whole-sound s fs f a (whole-or p (wholeForm s fs) f e) in
+      (w .0 ∙ sym (append-nil (soFar s fs)), w .1)
+  run-sound (b ∷ bs) f p s fs a h e =
+      sound-next p b bs (soFar s fs) f (check room s (length fs) b) (step s fs b) (held-step s fs b a h) (λ s′ fs′. run-sound bs f (suc p) s′ fs′) e

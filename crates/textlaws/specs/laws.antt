@@ -1,0 +1,44 @@
+-- bytes, integers, tokens
+pub mod Lists
+pub mod Bytes
+pub mod Numerals
+pub mod Prefixes
+pub mod Tokens
+pub mod Cut
+pub mod Words
+-- a text reads as a term exactly when its tokens are the term's (Reading); where and why it is refused (Refused)
+pub mod Sofar
+pub mod Through
+pub mod Reading
+pub mod Begun
+pub mod Open
+pub mod Places
+pub mod Refused
+pub mod Alike
+pub mod Exactly
+-- the measures of every subterm (Measured); a text is accepted exactly when .. (Accepted); the spans of subterms (Spans)
+pub mod Measured
+pub mod Accepted
+pub mod Spans
+pub mod Rows
+-- the same for form texts (FormReading, FormRefused, FormAccepted), and the places of nodes (FormNodes)
+pub mod FormSofar
+pub mod FormThrough
+pub mod FormReading
+pub mod FormNormal
+pub mod FormAccepted
+pub mod FormBegun
+pub mod FormOpen
+pub mod FormPlaces
+pub mod FormRefused
+pub mod FormExactly
+pub mod FormNodes
+-- the form of an accepted term has a text that is accepted
+pub mod Length
+pub mod Result
+-- for programs
+pub mod Kinds
+pub mod FormKinds
+pub mod FormWalk
+pub mod Capped
+pub mod Descent
