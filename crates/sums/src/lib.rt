@@ -100,7 +100,7 @@ fn add_pops_gt(width: u32, i: u32, p: &[u32], j: u32, q: &[u32], out: &mut [u32]
     coded::make_pop(width, out, j, n)
 }
 
-// (POP i p) and (POW j q r)
+// (POP i p) and (POW j q r): (POP i-1 p), or p itself, is added to r
 fn add_pop_pow(
     width: u32,
     i: u32,
@@ -120,29 +120,8 @@ fn add_pop_pow(
         let n = sum(width, r, p, &mut out[f..]);
         return f + n;
     }
-    let n = add_any_pop(width, r, i - 1, p, &mut out[f..]);
+    let n = add_pop(width, i - 1, p, r, &mut out[f..]);
     f + n
-}
-
-// x and (POP i p)
-fn add_any_pop(width: u32, x: &[u32], i: u32, p: &[u32], out: &mut [u32]) -> usize
-    requires { ⌜ Coded width (now x) × Coded width (now p) ⌝ }
-    requires { ⌜ Good width (pop i (dec width (now p))) ⌝ }
-    requires { ⌜ Room (1 + length (now p) + length (now x)) (now out) ⌝ }
-    ensures { λ r. ⌜ Made width (sumOf width (dec width (now (x .entry))) (pop i (dec width (now (p .entry))))) r (now (out .exit)) ⌝ }
-{
-    let w = x[0];
-    if w < 2147483648 {
-        out[0] = 2147483648 + i;
-        let n = add_int(width, w, p, &mut out[1..]);
-        return 1 + n;
-    }
-    let s = ((w - 2147483648) / 64) as usize;
-    if s == 0 {
-        return add_pops(width, w % 64, &x[1..], i, p, out);
-    }
-    let e = 1 + s;
-    add_pop_pow(width, i, p, w % 64, &x[1..e], &x[e..], out)
 }
 
 // (POW i p q) and y
