@@ -32,10 +32,15 @@ is-zero c =
 one : (c : tie.Then1) → (c .before .before .before .args .a) ≡ 1
 one c = a-size (c .before .before .before) ∙ leaf-length (is-zero c)
 
-same : (c : tie.Then1) → take ((c .before .before .before) .args .b) (drop 1 (take (length ((c .before .before .before) .args .out .now) - 1) (drop 1 ((c .before .before .before) .args .out .now)))) ≡ (take ((c .before .before .before) .args .b) (drop (1 + ((c .before .before .before) .args .a)) ((c .before .before .before) .args .out .now)))
+same : (c : tie.Then1) →
+    let s = c .before .before .before in
+    take (s .args .b) (drop 1 (take (length (s .args .out .now) - 1) (drop 1 (s .args .out .now)))) ≡
+    (take (s .args .b) (drop (1 + (s .args .a)) (s .args .out .now)))
 same c =
-    let e : 2 ≡ 1 + ((c .before .before .before) .args .a) = omega (arith, one c) in
-    region-sub 1 (length ((c .before .before .before) .args .out .now) - 1) 1 ((c .before .before .before) .args .b) ((c .before .before .before) .args .out .now) (omega (arith, one c)) ∙ ap (λ k. take ((c .before .before .before) .args .b) (drop k ((c .before .before .before) .args .out .now))) e
+    let s = c .before .before .before in
+    let e : 2 ≡ 1 + (s .args .a) = omega (arith, one c) in
+    region-sub 1 (length (s .args .out .now) - 1) 1 (s .args .b) (s .args .out .now) (omega (arith, one c))
+    ∙ ap (λ k. take (s .args .b) (drop k (s .args .out .now))) e
 
 is-pow : (c : tie.Then3) →
     let s = c .before .before .before .before .before in
@@ -61,12 +66,16 @@ total : (c : tie.Then3) →
     (s .args .a) ≡ suc (length (enc (s .args .width) (is-pow c .p)) + length (enc (s .args .width) (is-pow c .q)))
 total c = let s = c .before .before .before .before .before in a-size s ∙ sym (codes-length (s .pre .1 .0 .0)) ∙ is-pow c .len
 
-last : (c : tie.Then3) → getD ((c .before .before .before .before .before) .args .out .now) (2 + ((getD ((c .before .before .before .before .before) .args .out .now) 1 0 - 2147483648) / 64)) 0 ≡ getD (enc ((c .before .before .before .before .before) .args .width) (is-pow c .q)) 0 0
+last : (c : tie.Then3) →
+    let s = c .before .before .before .before .before in
+    getD (s .args .out .now) (2 + ((getD (s .args .out .now) 1 0 - 2147483648) / 64)) 0 ≡ getD (enc (s .args .width) (is-pow c .q)) 0 0
 last c =
-    let e : 1 + (1 + ((getD ((c .before .before .before .before .before) .args .out .now) 1 0 - 2147483648) / 64)) ≡ 2 + ((getD ((c .before .before .before .before .before) .args .out .now) 1 0 - 2147483648) / 64) = omega arith in
-    ap (λ k. getD ((c .before .before .before .before .before) .args .out .now) k 0) (sym e)
-    ∙ sym (region-at 1 ((c .before .before .before .before .before) .args .a) (1 + ((getD ((c .before .before .before .before .before) .args .out .now) 1 0 - 2147483648) / 64)) ((c .before .before .before .before .before) .args .out .now) (omega (arith, size c, total c, is-pow c .pos-q)))
-    ∙ right-head (is-pow c) (1 + ((getD ((c .before .before .before .before .before) .args .out .now) 1 0 - 2147483648) / 64)) (omega (arith, size c))
+    let s = c .before .before .before .before .before in
+    let e : 1 + (1 + ((getD (s .args .out .now) 1 0 - 2147483648) / 64)) ≡ 2 + ((getD (s .args .out .now) 1 0 - 2147483648) / 64) = omega arith in
+    ap (λ k. getD (s .args .out .now) k 0) (sym e)
+    ∙ sym
+    (region-at 1 (s .args .a) (1 + ((getD (s .args .out .now) 1 0 - 2147483648) / 64)) (s .args .out .now) (omega (arith, size c, total c, is-pow c .pos-q)))
+    ∙ right-head (is-pow c) (1 + ((getD (s .args .out .now) 1 0 - 2147483648) / 64)) (omega (arith, size c))
 
 is-merged : (c : tie.Then4) →
     let s = c .before .before .before .before .before .before .before in
@@ -92,35 +101,45 @@ two c =
     let s = c .before .before in
     zero-length (c .before .before .before .before .before .before .before .args .width) (is-pow s .q) (sym (last s) ∙ (c .if4) .taken)
 
-plain : (c : tie.Joined2) → powOf ((c .before .before .before .before) .args .width) ((c .before .before .before .before) .args .i) (dec ((c .before .before .before .before) .args .width) (take ((c .before .before .before .before) .args .a) (drop 1 ((c .before .before .before .before) .args .out .now)))) (dec ((c .before .before .before .before) .args .width) (take ((c .before .before .before .before) .args .b) (drop (1 + ((c .before .before .before .before) .args .a)) ((c .before .before .before .before) .args .out .now)))) ≡ pow ((c .before .before .before .before) .args .i) (dec ((c .before .before .before .before) .args .width) (take ((c .before .before .before .before) .args .a) (drop 1 ((c .before .before .before .before) .args .out .now)))) (dec ((c .before .before .before .before) .args .width) (take ((c .before .before .before .before) .args .b) (drop (1 + ((c .before .before .before .before) .args .a)) ((c .before .before .before .before) .args .out .now))))
+plain : (c : tie.Joined2) →
+    let s = c .before .before .before .before in
+    powOf (s .args .width) (s .args .i) (dec (s .args .width) (take (s .args .a) (drop 1 (s .args .out .now))))
+    (dec (s .args .width) (take (s .args .b) (drop (1 + (s .args .a)) (s .args .out .now)))) ≡ pow (s .args .i)
+    (dec (s .args .width) (take (s .args .a) (drop 1 (s .args .out .now))))
+    (dec (s .args .width) (take (s .args .b) (drop (1 + (s .args .a)) (s .args .out .now))))
 plain c =
+    let s = c .before .before .before .before in
     ⊎-elim
-    (λ w. let p : tie.Then3 = record { before = record { before = (c .before); if2 = w .0 }; if3 = w .1 } in mkpow-pow ((c .before .before .before .before) .args .i) (dec ((c .before .before .before .before) .args .width) (take ((c .before .before .before .before) .args .b) (drop (1 + ((c .before .before .before .before) .args .a)) ((c .before .before .before .before) .args .out .now)))) (is-pow p) (λ e. w .3 .left (last p ∙ e)))
+    (λ w. let p : tie.Then3 = record { before = record { before = (c .before); if2 = w .0 }; if3 = w .1 } in mkpow-pow (s .args .i) (dec (s .args .width) (take (s .args .b) (drop (1 + (s .args .a)) (s .args .out .now)))) (is-pow p) (λ e. w .3 .left (last p ∙ e)))
     (⊎-elim
-    (λ w. mkpow-pop ((c .before .before .before .before) .args .i) (dec ((c .before .before .before .before) .args .width) (take ((c .before .before .before .before) .args .b) (drop (1 + ((c .before .before .before .before) .args .a)) ((c .before .before .before .before) .args .out .now)))) (placed-pop 1 ((c .before .before .before .before) .args .a) ((c .before .before .before .before) .args .out .now) (omega arith) ((c .before .before .before .before) .pre .1 .0 .0) (w .0 .taken) (omega (arith, w .1 .left))))
-    (λ w. mkpow-int ((c .before .before .before .before) .args .i) (dec ((c .before .before .before .before) .args .width) (take ((c .before .before .before .before) .args .b) (drop (1 + ((c .before .before .before .before) .args .a)) ((c .before .before .before .before) .args .out .now)))) (placed-int 1 ((c .before .before .before .before) .args .a) ((c .before .before .before .before) .args .out .now) (omega arith) ((c .before .before .before .before) .pre .1 .0 .0) (w .left)) ((c .before .if1) .left)))
-    ((c .if2) .came)
+    (λ w. mkpow-pop (s .args .i) (dec (s .args .width) (take (s .args .b) (drop (1 + (s .args .a)) (s .args .out .now)))) (placed-pop 1 (s .args .a) (s .args .out .now) (omega arith) (s .pre .1 .0 .0) (w .0 .taken) (omega (arith, w .1 .left))))
+    (λ w. mkpow-int (s .args .i) (dec (s .args .width) (take (s .args .b) (drop (1 + (s .args .a)) (s .args .out .now)))) (placed-int 1 (s .args .a) (s .args .out .now) (omega arith) (s .pre .1 .0 .0) (w .left)) (c .before .if1 .left)))
+    (c .if2 .came)
 
 pub make-pow-spec : {M : Type 1} → statement M
 make-pow-spec =
     tie.close
     (tie.spec
+    -- slice-read-w
     (λ c.
     let s = c .before .before in
     omega (arith, a-size s, enc-pos (s .args .width) (dec (s .args .width) (take (s .args .a) (drop 1 (s .args .out .now))))))
     (λ c. search needs)
     (λ c. search needs)
     (λ c. search needs)
+    -- make-pop-requires
     (λ c κs.
     let s = c .before .before .before .before in
     let z = is-zero (c .before) in (
       omega (arith, one (c .before), length-tail-part 1 (s .args .out .now)),
       (subst (λ z. Codes (s .args .width) (dec (s .args .width) z) z) (sym (same (c .before))) (s .pre .1 .0 .1), (omega arith, subst (λ z. Good (s .args .width) (popOf (s .args .width) 1 (dec (s .args .width) z))) (sym (same (c .before))) (subst (Good (s .args .width)) (mkpow-zero (s .args .i) (dec (s .args .width) (take (s .args .b) (drop (1 + (s .args .a)) (s .args .out .now)))) z) (s .pre .1 .1 .1)))),
     ))
+    -- shift-requires
     (λ c κs.
     let s = c .before .before .before in
     omega (arith, begins-le (s .make-pop .ensures), s .make-pop .kept .1 .0, length-tail-part 1 (c .before .before .before .before .before .before .before .before .args .out .now), c .before .before .out .given .1))
     (λ c. search needs)
+    -- returns
     (λ c.
     let s = c .before .before .before .before .before .before .before .before .before .before .before in
     let b = c .before .before .before .before .before .before .before .before in
@@ -136,16 +155,20 @@ make-pow-spec =
     (λ c. omega (arith, size (c .before), total (c .before), is-pow (c .before) .pos-q))
     (λ c. let s = c .before .before in omega (arith, word s, small c, total s))
     (λ c. search needs)
+    -- join-requires
     (λ c κs.
     let s = c .before .before .before in
     simp length-set (omega (arith, size s, total s, two (c .before), c .before .before .before .before .before .before .before .before .pre .0 .0)))
+    -- add-result
     (λ c.
     let s = c .before .before .before .before .before .before in
     omega (arith, size s, total s, c .before .before .before .before .before .before .before .before .before .before .before .pre .0 .0))
+    -- add-result-2
     (λ c.
     let s = c .before .before .before .before .before .before in
     omega (arith, size s, total s, two (c .before .before .before .before), c .before .before .before .before .before .before .before .before .before .before .before .pre .0 .0))
     (λ c. c .before .before .join .kept .0 ∙ simp length-set)
+    -- returns-2
     (λ c.
     let s = c .before .before .before .before .before .before .before .before .before .before .before in
     let b = c .before .before .before .before .before .before in
@@ -157,6 +180,7 @@ make-pow-spec =
     (λ c. search needs)
     (λ c. search needs)
     (λ c. search needs)
+    -- add-out-3
     (λ c.
     let s = c .before .before .before .before in
     omega (arith, s .pre .0 .0, pow-small (s .args .width) (s .args .i) (dec (s .args .width) (take (s .args .a) (drop 1 (s .args .out .now)))) (dec (s .args .width) (take (s .args .b) (drop (1 + (s .args .a)) (s .args .out .now)))) (subst (Good (s .args .width)) (plain c) (s .pre .1 .1 .1))))
@@ -164,6 +188,7 @@ make-pow-spec =
     (λ c. search needs)
     (λ c. search needs)
     (λ c. search needs)
+    -- returns-3
     (λ c.
     let s = c .before .before .before .before in
     begins-as (stored (s .args .out .now) (s .args .a) (s .args .b) (s .args .i) (s .pre .0 .0) (s .pre .1 .0 .0) (s .pre .1 .0 .1))

@@ -18,6 +18,7 @@ put-lower-spec =
     (tie.spec
     (λ c κs. search needs)
     (λ c. search needs)
+    -- returns
     (λ c.
     let s = c .before .before .before .before .before .before .before in
     let b = c .before .before in
@@ -31,6 +32,7 @@ put-lower-spec =
     (λ c κs. let s = c .before .before .before .before in omega (arith, s .pre .1 .1, length-after-set (s .args .out .now) (2147483647 + (s .args .i))))
     (λ c. search needs)
     (λ c. c .before .out2 .given .1 ∙ simp length-set)
+    -- returns-2
     (λ c.
     let s = c .before .before .before .before .before .before .before in
     let b = c .before .before in
