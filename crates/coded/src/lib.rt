@@ -11,6 +11,9 @@ ghost use Rattle.coded.specs.Widths.{modulus};
 ghost use Rattle.coded.specs.Coding.{Coded, Good, Begins, Made, Room, dec};
 ghost use Rattle.coded.specs.Operations.{popOf, powOf};
 
+// A head word from here on is a node's; one below is a leaf.
+pub const NODE: u32 = 2147483648;
+
 // The low 8 bits of a counter.
 fn low8(a: u16) -> u16
     ensures { λ r. ⌜ r ≡ a % 256 ⌝ }
@@ -108,17 +111,17 @@ pub fn make_pop(width: u32, out: &mut [u32], i: u32, n: usize) -> usize
     ensures { λ r. ⌜ Made width (popOf width i (dec width (take n (drop 1 (now (out .entry)))))) r (now (out .exit)) ⌝ }
 {
     let w = out[1];
-    if w < 2147483648 {
+    if w < NODE {
         out[0] = w;
         return 1;
     }
-    if (w - 2147483648) / 64 == 0 {
+    if (w - NODE) / 64 == 0 {
         out[0] = w + i;
         let m = n - 1;
         shift(&mut out[1..], 1, m);
         return 1 + m;
     }
-    out[0] = 2147483648 + i;
+    out[0] = NODE + i;
     1 + n
 }
 
@@ -146,8 +149,8 @@ pub fn make_pow(width: u32, out: &mut [u32], i: u32, a: usize, b: usize) -> usiz
         shift(out, 1, n);
         return n;
     }
-    if w >= 2147483648 {
-        let s = ((w - 2147483648) / 64) as usize;
+    if w >= NODE {
+        let s = ((w - NODE) / 64) as usize;
         if s > 0 {
             let e = 2 + s;
             if out[e] == 0 {
@@ -157,7 +160,7 @@ pub fn make_pow(width: u32, out: &mut [u32], i: u32, a: usize, b: usize) -> usiz
             }
         }
     }
-    out[0] = 2147483648 + 64 * (a as u32) + i;
+    out[0] = NODE + 64 * (a as u32) + i;
     1 + a + b
 }
 
@@ -168,7 +171,7 @@ pub fn put_pow(i: u32, p: &[u32], out: &mut [u32]) -> usize
     ensures { λ r. ⌜ Begins r ((2147483648 + 64 * length (now (p .entry)) + i) ∷ now (p .entry)) (now (out .exit)) ⌝ }
 {
     let n = p.len();
-    out[0] = 2147483648 + 64 * (n as u32) + i;
+    out[0] = NODE + 64 * (n as u32) + i;
     copy(p, &mut out[1..]);
     1 + n
 }
