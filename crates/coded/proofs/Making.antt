@@ -147,8 +147,8 @@ pub pow-code :
 unfolding enc
 pow-code i a x y c e f = rw (c .is, e .is, f)
 
-pub pow-small : (w i : ℕ) (p q : Form (Leaf w)) → Good w (pow i p q) → i ≤ 63
-pow-small w i p q g = good-pow g .1 .0
+pub pow-small : {w i : ℕ} {p q h : Form (Leaf w)} → h ≡ pow i p q → Good w h → i ≤ 63
+pow-small {w} e g = good-pow (subst (Good w) e g) .1 .0
 
 -- A plain pow: a store before the two forms
 pub stored :

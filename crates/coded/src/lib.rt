@@ -7,6 +7,7 @@ ghost use Prim.Native.Nat.{_+_, _*_, _%_, _<_, _≤_};
 ghost use mathlib.Core.List.{_++_, _∷_};
 ghost use lib.ListN.{length, take, drop};
 ghost use Rattle.horner.specs.definitions.Residues.{addBy, negBy, mulBy, powBy};
+ghost use Rattle.horner.specs.definitions.Form.{pow};
 ghost use Rattle.coded.specs.Widths.{modulus};
 ghost use Rattle.coded.specs.Coding.{Coded, Good, Begins, Made, Room, dec};
 ghost use Rattle.coded.specs.Operations.{popOf, powOf};
@@ -135,7 +136,18 @@ fn join(out: &mut [u32], s: usize, b: usize)
     shift(&mut out[e..], 2, b);
 }
 
-// out holds a free word, then a form of a words, then one of b words. Makes it pow(i, the one, the other) (Definition 8), in place, and returns its length.
+// out holds a free word, then a form of a words, then one of b words. Makes it (POW i the one the other), and returns its length.
+fn plain_pow(width: u32, out: &mut [u32], i: u32, a: usize, b: usize) -> usize
+    requires { ⌜ (1 + a + b ≤ length (now out)) × (length (now out) ≤ 33554432) ⌝ }
+    requires { ⌜ Coded width (take a (drop 1 (now out))) × Coded width (take b (drop (1 + a) (now out))) ⌝ }
+    requires { ⌜ i ≤ 63 ⌝ }
+    ensures { λ r. ⌜ Made width (pow i (dec width (take a (drop 1 (now (out .entry))))) (dec width (take b (drop (1 + a) (now (out .entry)))))) r (now (out .exit)) ⌝ }
+{
+    out[0] = NODE + 64 * (a as u32) + i;
+    1 + a + b
+}
+
+// The same, with pow(i, the one, the other) (Definition 8).
 pub fn make_pow(width: u32, out: &mut [u32], i: u32, a: usize, b: usize) -> usize
     requires { ⌜ (1 + a + b ≤ length (now out)) × (length (now out) ≤ 33554432) ⌝ }
     requires { ⌜ Coded width (take a (drop 1 (now out))) × Coded width (take b (drop (1 + a) (now out))) ⌝ }
@@ -149,19 +161,20 @@ pub fn make_pow(width: u32, out: &mut [u32], i: u32, a: usize, b: usize) -> usiz
         shift(out, 1, n);
         return n;
     }
-    if w >= NODE {
-        let s = ((w - NODE) / 64) as usize;
-        if s > 0 {
-            let e = 2 + s;
-            if out[e] == 0 {
-                out[0] = w + i;
-                join(out, s, b);
-                return 1 + s + b;
-            }
-        }
+    if w < NODE {
+        return plain_pow(width, out, i, a, b);
     }
-    out[0] = NODE + 64 * (a as u32) + i;
-    1 + a + b
+    let s = ((w - NODE) / 64) as usize;
+    if s == 0 {
+        return plain_pow(width, out, i, a, b);
+    }
+    let e = 2 + s;
+    if out[e] == 0 {
+        out[0] = w + i;
+        join(out, s, b);
+        return 1 + s + b;
+    }
+    plain_pow(width, out, i, a, b)
 }
 
 // Writes the head word of a pow of exponent i and its p, and returns how many words those are.
