@@ -1,6 +1,6 @@
 -- The code of a sum, from the codes of its parts: what the functions that add forms return.
 -- Assumes nothing.
-use mathlib.Core.Path.{_≡_, refl, sym, ap, ap₂, _∙_}
+use mathlib.Core.Path.{_≡_, sym, ap, ap₂, _∙_}
 use mathlib.Core.List.{List, [], _∷_, _++_}
 use Prim.Native.Nat.{ℕ, _+_, _*_, _-_, _%_, _<_}
 use native.Mathlib.Omega.{arith}

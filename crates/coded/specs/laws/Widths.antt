@@ -1,12 +1,12 @@
 -- What the widths share: laws of the moduli, proved once over the width.
 use mathlib.Core.Bool.{Bool, true, false}
-use mathlib.Core.Path.{_≡_, refl, sym, ap, _∙_}
-use Prim.Native.Nat.{ℕ, zero, suc, _+_, _-_, _*_, _/_, _%_, _^_, _<_, _≤_, _∣_}
+use mathlib.Core.Path.{_≡_, refl, ap}
+use Prim.Native.Nat.{ℕ, zero, suc, _-_, _<_, _≤_}
 use native.Mathlib.Nat as NatL
 use native.Mathlib.Omega.{arith}
 use lib.Dec.{eqb}
 use borrow.Author.Tests.{eq-eqb, ne-eqb}
-use Rattle.horner.specs.definitions.Residues.{prime, P-ring, powBy, mulBy, below}
+use Rattle.horner.specs.definitions.Residues.{P-ring, powBy, mulBy, below}
 use Rattle.horner.specs.definitions.Ring.{power}
 use Rattle.horner.specs.laws.Residues.{red-of}
 use Rattle.coded.specs.Widths.{modulusBy, modulus, modulus-pos, Leaf, ringOf, leaf}

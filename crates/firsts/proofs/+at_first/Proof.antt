@@ -12,7 +12,7 @@ use Rattle.coded.specs.laws.Good.{good-pop, scale-good}
 use Rattle.coded.specs.laws.Parts.{first, rest, PopAt, PowAt, pop-at, pow-at}
 use Rattle.coded.specs.laws.Sizes.{scale-length}
 use Rattle.coded.proofs.Lists.{begins-le, begins-as, begins-set}
-use Rattle.coded.proofs.Making.{leaf-code}
+use Rattle.coded.proofs.Making.{leaf-code, front-codes}
 use Rattle.firsts.specs.First.{atFirstOf}
 use Rattle.firsts.specs.laws.First.{first-length, first-good, first-int, first-pop, first-pow}
 use borrow.Author.Needs.{needs}
@@ -70,8 +70,8 @@ made : (t : ℕ) (c : After-at-first·at-first t) →
     (take (c .at-first .result) (c .at-first .last .1 .1 .1 .0))
 made t c =
     let s = c .before .before .before .before .before .before .before .before .before .before in
-    record
-    { is = (c .at-first) .ensures .is; good = first-good (s .args .width) (dec (s .args .width) (first (s .args .x .now))) (s .args .a) (is-pow t (c .before .before .before .before) .left .good) }
+    front-codes (c .at-first .ensures)
+    (first-good (s .args .width) (dec (s .args .width) (first (s .args .x .now))) (s .args .a) (is-pow t (c .before .before .before .before) .left .good))
 
 abbrev After-scale·at-first : ℕ → Type 0
 After-scale·at-first t = at-first-lts.After-scale (put-lower-reads.Asked, put-lower-reads.Learnt, at-first-below t, at-first.Post, leaf-power-reads.Asked, leaf-power-reads.Learnt, scale-reads.Asked, scale-reads.Learnt, sum-reads.Asked, sum-reads.Learnt) (at-first-at t) at-first.Post
@@ -85,8 +85,8 @@ made2 t c =
     let s = c .before .before .before .before .before .before .before .before .before .before .before .before .before .before .before .before .before .before in
     let b = c .before .before .before in
     let m = made t (c .before .before .before .before .before .before .before .before) in
-    record
-    { is = (c .scale) .ensures .is ∙ ap (λ h. enc (s .args .width) (scaleOf (s .args .width) (b .leaf-power .result) h)) (dec-enc m); good = scale-good (b .leaf-power .result) (m .good) }
+    front-codes (begins-as (c .scale .ensures) (ap (λ h. enc (s .args .width) (scaleOf (s .args .width) (b .leaf-power .result) h)) (dec-enc m)))
+    (scale-good (b .leaf-power .result) (m .good))
 
 m-size : (t : ℕ) (c : After-scale·at-first t) →
     length (take (c .scale .result) (c .scale .last .1 .1 .1 .0)) ≤ length
