@@ -11,7 +11,7 @@ use borrow.Rule.Slice.PartMut.{putMid}
 use Rattle.horner.specs.definitions.Form.{Form, int, pop, pow}
 use Rattle.coded.specs.Coding.{enc, dec, Good, Codes, Begins}
 use Rattle.coded.specs.Operations.{popOf, powOf, zeroOf}
-use Rattle.coded.specs.Widths.{Leaf, leaf, modulus}
+use Rattle.coded.specs.Widths.{Leaf, leaf}
 use Rattle.coded.specs.laws.Codes.{IsInt, IsPop, IsPow, codes-length, int-view, pop-view, pow-view, dec-enc}
 use Rattle.coded.specs.laws.Good.{good-pop, good-pow, good-zero}
 use Rattle.coded.specs.laws.Sizes.{enc-pos}
@@ -147,8 +147,8 @@ pub pow-code :
 unfolding enc
 pow-code i a x y c e f = rw (c .is, e .is, f)
 
-pub pow-small : (w i : ℕ) (p q : Form (Leaf w)) → Good w (pow i p q) → i ≤ 63
-pow-small w i p q g = good-pow g .1 .0
+pub pow-small : {w i : ℕ} {p q h : Form (Leaf w)} → h ≡ pow i p q → Good w h → i ≤ 63
+pow-small {w} e g = good-pow (subst (Good w) e g) .1 .0
 
 -- A plain pow: a store before the two forms
 pub stored :
@@ -192,6 +192,10 @@ merged {w} {h} {q} d e a b i c room v s x es ex z cq m =
     let l₃ : take b (drop (3 + s) (set d 0 x)) ≡ enc w q =
     region-set (3 + s) b 0 d x (omega arith) ∙ ap (λ n. take b (drop n d)) k ∙ cq .is in
     begins-as m (rw (l₁, l₂, l₃) (ap (λ n. n ∷ (enc w (v .p) ++ enc w q)) (rw (ex, es)) ∙ pow-code (i + v .i) (length (enc w (v .p))) (enc w (v .p)) (enc w q) (record { is = refl; good = v .good-p }) (record { is = refl; good = cq .good }) refl))
+
+-- A form that was made at the front
+pub front-codes : {w : ℕ} {h : Form (Leaf w)} {n : ℕ} {d : List ℕ} → Begins n (enc w h) d → Good w h → Codes w h (take n d)
+front-codes m g = record { is = m .is; good = g }
 
 -- A form that was made in the part from f on
 pub made-codes :

@@ -1,6 +1,6 @@
 -- The code of a sum, from the codes of its parts: what the functions that add forms return.
 -- Assumes nothing.
-use mathlib.Core.Path.{_≡_, refl, sym, ap, ap₂, _∙_}
+use mathlib.Core.Path.{_≡_, sym, ap, ap₂, _∙_}
 use mathlib.Core.List.{List, [], _∷_, _++_}
 use Prim.Native.Nat.{ℕ, _+_, _*_, _-_, _%_, _<_}
 use native.Mathlib.Omega.{arith}
@@ -48,10 +48,6 @@ module _ {w i : ℕ} {p h : Form (Leaf w)} {x : ℕ} (g : Good w (pop i p)) (v :
   unfolding enc
   add-pop-int = rw (v .is, pop-int w (leaf w x) i p)
 
-  pub add-any-pop-int : ((2147483648 + i) ∷ []) ++ enc w (sumOf w (int (leaf w x)) p) ≡ enc w (sumOf w h (pop i p))
-  unfolding enc
-  add-any-pop-int = rw (v .is, int-pop w (leaf w x) i p)
-
 pub add-pow-int :
     {w i : ℕ} {q h : Form (Leaf w)} {x : ℕ} {l : List ℕ} → Coded w l → Good w (pow i (dec w l) q) → IsInt w h x →
     ((2147483648 + 64 * length l + i) ∷ l) ++ enc w (sumOf w (int (leaf w x)) q) ≡ enc w (sumOf w (pow i (dec w l) q) h)
@@ -63,8 +59,8 @@ module _ {w i j : ℕ} {p r : Form (Leaf w)} {l : List ℕ} (c : Coded w l) (g :
   add-pop-pow-1 e = pow-put j c (sumOf w r p) ∙ ap (enc w) (sym (pop-pow-1 g h e))
 
   pub add-pop-pow-more :
-      (i ≡ 1 → ⊥) → ((2147483648 + 64 * length l + j) ∷ l) ++ enc w (sumOf w r (pop (i - 1) p)) ≡ enc w (sumOf w (pop i p) (pow j (dec w l) r))
-  add-pop-pow-more n = pow-put j c (sumOf w r (pop (i - 1) p)) ∙ ap (enc w) (sym (pop-pow g h n))
+      (i ≡ 1 → ⊥) → ((2147483648 + 64 * length l + j) ∷ l) ++ enc w (sumOf w (pop (i - 1) p) r) ≡ enc w (sumOf w (pop i p) (pow j (dec w l) r))
+  add-pop-pow-more n = pow-put j c (sumOf w (pop (i - 1) p) r) ∙ ap (enc w) (sym (pop-pow g h n))
 
 -- (POW k p 0), which is handed over in parts, has two words more than p
 pub less-length : (w k : ℕ) (p : Form (Leaf w)) → length (enc w (pow k p (zeroOf w))) ≡ 2 + length (enc w p)

@@ -1,12 +1,12 @@
 -- The value of a form, from the values of its parts.
 -- Assumes nothing.
-use mathlib.Core.Path.{_≡_, refl, sym, ap, ap₂, _∙_}
+use mathlib.Core.Path.{_≡_, refl, sym, ap, _∙_}
 use mathlib.Core.List.{List, [], _∷_, map}
-use Prim.Native.Nat.{ℕ, zero, suc, _+_, _-_, _%_, _<_, min}
+use Prim.Native.Nat.{ℕ, zero, suc, _+_, _-_, _%_, min}
 use native.Mathlib.Omega.{arith}
 use lib.ListN.{length, getD, take, drop}
 use lib.Seq.{getD-drop}
-use Rattle.horner.specs.definitions.Form.{Form, int, pop, pow}
+use Rattle.horner.specs.definitions.Form.{Form}
 use Rattle.horner.specs.definitions.Residues.{addBy, mulBy, powBy}
 use Rattle.horner.specs.definitions.Value.{evalh}
 use Rattle.coded.specs.Coding.{dec}

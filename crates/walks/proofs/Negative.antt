@@ -1,14 +1,14 @@
 -- The code of the negative of a form, from the codes of its parts.
 -- Assumes nothing.
-use mathlib.Core.Path.{_≡_, refl, sym, ap, _∙_}
+use mathlib.Core.Path.{_≡_, sym, ap, _∙_}
 use mathlib.Core.List.{List, [], _∷_, _++_}
-use Prim.Native.Nat.{ℕ, _%_}
+use Prim.Native.Nat.{ℕ}
 use lib.ListN.{length, getD}
-use Rattle.horner.specs.definitions.Form.{Form, pop, pow}
+use Rattle.horner.specs.definitions.Form.{Form}
 use Rattle.horner.specs.definitions.Residues.{negBy}
 use Rattle.coded.specs.Coding.{enc, dec}
 use Rattle.coded.specs.Operations.{negateOf}
-use Rattle.coded.specs.Widths.{modulus, Leaf, leaf}
+use Rattle.coded.specs.Widths.{modulus, Leaf}
 use Rattle.coded.specs.laws.Codes.{IsInt, codes-length}
 use Rattle.coded.specs.laws.Parts.{inner, first, rest, PopAt, PowAt, pop-made, pow-made}
 use Rattle.coded.specs.laws.Sizes.{negate-length}

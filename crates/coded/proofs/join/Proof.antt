@@ -20,6 +20,7 @@ join-spec =
     (λ c. search needs)
     (λ c κs. search needs)
     (λ c. search needs)
+    -- returns
     (λ c.
     let s = c .before .before .before .before .before .before .before .before .before in
     let b = c .before .before .before .before .before .before in

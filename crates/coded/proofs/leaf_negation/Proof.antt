@@ -16,6 +16,7 @@ leaf-negation-spec =
     (λ c. omega (arith, modulus-16 (c .before .args .width) (c .if1 .taken)))
     (λ c κs. search needs)
     (λ c. search needs)
+    -- returns
     (λ c.
     let s = c .before .before in
     let l : (s .args .a) < 65536 = omega (arith, modulus-16 (s .args .width) (c .before .if1 .taken)) in
@@ -25,6 +26,7 @@ leaf-negation-spec =
     (λ c κs. search needs)
     (λ c κs. search needs)
     (λ c. search needs)
+    -- returns-2
     (λ c.
     let s = c .before .before .before .before in
     let b = c .before .before in
@@ -32,6 +34,7 @@ leaf-negation-spec =
     rest-at (λ m. m - (s .args .a)) (s .args .width) 256 _ (modulus-8 (s .args .width) (b .if2 .taken))
     (c .low8 .ensures ∙ low-negative 8 8 (c .before .wrapping-sub-u162 .result) (s .args .a) (c .before .wrapping-sub-u162 .ensures) l))
     (λ c. omega (arith, modulus-prime (c .before .before .args .width) (c .before .if1 .left) (c .if2 .left)))
+    -- returns-3
     (λ c.
     let s = c .before .before in
     rest-at (λ m. m - (s .args .a)) (s .args .width) 2147483647 _ (modulus-prime (s .args .width) (c .before .if1 .left) (c .if2 .left)) (search needs)))

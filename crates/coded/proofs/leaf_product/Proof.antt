@@ -14,14 +14,17 @@ leaf-product-spec =
     (tie.spec
     (λ c. omega (arith, product-below (c .args .width) (c .args .a) (c .args .b) (c .pre .0) (c .pre .1)))
     (λ c. search needs)
+    -- returns
     (λ c.
     rest-at (λ m. (c .before .args .a) * (c .before .args .b)) (c .before .args .width) 65536 _ (modulus-16 (c .before .args .width) (c .if1 .taken))
     (search needs))
     (λ c. search needs)
+    -- returns-2
     (λ c.
     let s = c .before .before in
     rest-at (λ m. (s .args .a) * (s .args .b)) (s .args .width) 256 _ (modulus-8 (s .args .width) (c .if2 .taken)) (search needs))
     (λ c. search needs)
+    -- returns-3
     (λ c.
     let s = c .before .before in
     rest-at (λ m. (s .args .a) * (s .args .b)) (s .args .width) 2147483647 _ (modulus-prime (s .args .width) (c .before .if1 .left) (c .if2 .left))

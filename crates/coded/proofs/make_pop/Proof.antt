@@ -43,23 +43,27 @@ make-pop-spec =
     (λ c. let s = c .before .before in omega (arith, size s, enc-pos (s .args .width) (dec (s .args .width) (take (s .args .n) (drop 1 (s .args .out .now))))))
     (λ c. search needs)
     (λ c. search needs)
+    -- returns
     (λ c.
     let s = c .before .before .before in
     begins-as (begins-set (s .args .out .now) _ (omega arith))
     (mkpop-int (s .args .i) (s .pre .1 .1 .0) (placed-int 1 (s .args .n) (s .args .out .now) (s .pre .0) (s .pre .1 .0) (c .if1 .taken))))
     (λ c. let s = c .before .before .before .before in omega (arith, word c, mkpop-pop-small (s .args .i) (s .pre .1 .1 .0) (is-pop c) (s .pre .1 .1 .1)))
     (λ c. search needs)
+    -- sub-m
     (λ c.
     let s = c .before .before .before .before in
     omega (arith, size s, enc-pos (s .args .width) (dec (s .args .width) (take (s .args .n) (drop 1 (s .args .out .now))))))
     (λ c. simp length-set (omega arith))
     (λ c. simp length-set (omega arith))
     (λ c. search needs)
+    -- shift-requires
     (λ c κs.
     let s = c .before .before .before .before .before in
     omega (arith, size s, enc-pos (s .args .width) (dec (s .args .width) (take (s .args .n) (drop 1 (s .args .out .now)))), length-after-set (s .args .out .now) (getD (s .args .out .now) 1 0 + (s .args .i))))
     (λ c. search needs)
     (λ c. c .before .out .given .1 ∙ simp length-set)
+    -- returns-2
     (λ c.
     let s = c .before .before .before .before .before .before .before .before in
     let b = c .before .before in
@@ -70,6 +74,7 @@ make-pop-spec =
     (λ c. search needs)
     (λ c. search needs)
     (λ c. search needs)
+    -- returns-3
     (λ c.
     let s = c .before .before .before .before in
     begins-as (begins-store (s .args .out .now) (s .args .n) _ (s .pre .0)) (mkpop-pow (s .args .i) (s .pre .1 .1 .0) (is-pow c))))

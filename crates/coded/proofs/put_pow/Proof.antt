@@ -22,11 +22,13 @@ put-pow-spec =
     (λ c. simp length-set (omega (arith, c .before .before .pre .1)))
     (λ c. simp length-set (omega (arith, c .before .before .pre .1)))
     (λ c. search needs)
+    -- copy-requires
     (λ c κs.
     let s = c .before .before .before in
     omega (arith, s .pre .1, length-after-set (s .args .out .now) (2147483648 + 64 * length (s .args .p .now) + s .args .i)))
     (λ c. search needs)
     (λ c. c .before .out .given .1 ∙ simp length-set)
+    -- returns
     (λ c.
     let s = c .before .before .before .before .before .before in
     let b = c .before .before in

@@ -1,13 +1,13 @@
 -- Good forms: normal in four variables, of degree at most 63 in each. The parts of a good form are good, and the operations keep good forms good.
-use mathlib.Core.List.{List, [], _∷_}
+use mathlib.Core.List.{[], _∷_}
 use mathlib.Core.Path.{_≡_, refl, sym, ap, subst, _∙_}
-use Prim.Native.Nat.{ℕ, zero, suc, _+_, _-_, _≤_, _<_}
+use Prim.Native.Nat.{ℕ, zero, suc, _-_, _≤_, _<_}
 use native.Mathlib.Omega.{arith}
 use Rattle.horner.specs.definitions.Form.{Form, int, pop, pow}
 use Rattle.horner.specs.definitions.Measures.{Bounded}
-use Rattle.horner.specs.definitions.Normal.{IsPow, Normal}
+use Rattle.horner.specs.definitions.Normal.{Normal}
 use Rattle.horner.specs.definitions.Ring.{Ring}
-use Rattle.horner.specs.definitions.Value.{tl, after}
+use Rattle.horner.specs.definitions.Value.{after}
 use Rattle.horner.specs.laws.Bounds.{bounded-sum, bounded-negate, bounded-scale}
 use Rattle.horner.specs.laws.Degree.{Below, below-refl, bounded-mono}
 use Rattle.horner.specs.laws.Normal.{pow-level, normal-sum, normal-negate, normal-scale}

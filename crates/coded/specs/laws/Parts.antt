@@ -1,12 +1,12 @@
 -- The parts of a coded node as the slices that a function reaches: what the head word says of them.
 use mathlib.Core.List.{List, [], _∷_, _++_}
-use mathlib.Core.Path.{_≡_, refl, sym, ap, ap₂, subst, _∙_}
+use mathlib.Core.Path.{_≡_, sym, ap, ap₂, subst, _∙_}
 use Prim.Native.Nat.{ℕ, suc, _+_, _*_, _-_, _/_, _%_, _≤_, _<_}
 use native.Mathlib.Omega.{arith}
 use lib.ListN.{length, take, drop, getD}
-use Rattle.horner.specs.definitions.Form.{Form, int, pop, pow}
+use Rattle.horner.specs.definitions.Form.{Form, pop, pow}
 use Rattle.coded.specs.Coding.{enc, dec, Good, Codes, Coded}
-use Rattle.coded.specs.Widths.{Leaf, leaf}
+use Rattle.coded.specs.Widths.{Leaf}
 use Rattle.coded.specs.laws.Codes.{IsPop, IsPow, codes-length, dec-enc, coded, pop-view, pow-view, pop-part, pow-left, pow-right}
 
 -- how many words the p of a pow takes; 0 for a pop

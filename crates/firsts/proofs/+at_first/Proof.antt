@@ -12,7 +12,7 @@ use Rattle.coded.specs.laws.Good.{good-pop, scale-good}
 use Rattle.coded.specs.laws.Parts.{first, rest, PopAt, PowAt, pop-at, pow-at}
 use Rattle.coded.specs.laws.Sizes.{scale-length}
 use Rattle.coded.proofs.Lists.{begins-le, begins-as, begins-set}
-use Rattle.coded.proofs.Making.{leaf-code}
+use Rattle.coded.proofs.Making.{leaf-code, front-codes}
 use Rattle.firsts.specs.First.{atFirstOf}
 use Rattle.firsts.specs.laws.First.{first-length, first-good, first-int, first-pop, first-pow}
 use borrow.Author.Needs.{needs}
@@ -57,10 +57,12 @@ lent : (t : ℕ) (c : After-at-first·at-first t) →
     (length (c .at-first .last .1 .1 .1 .0) ≡ length (s .args .out .now)) × (length (c .at-first .last .1 .1 .1 .1 .0) ≡ length (s .args .spare .now))
 lent t c = (c .at-first .kept .1 .1 .1 .0, c .at-first .kept .1 .1 .1 .1 .0)
 
-n-size : (t : ℕ) (c : at-first-lts.After-at-first (put-lower-reads.Asked, put-lower-reads.Learnt, at-first-below t, at-first.Post, leaf-power-reads.Asked, leaf-power-reads.Learnt, scale-reads.Asked, scale-reads.Learnt, sum-reads.Asked, sum-reads.Learnt) (at-first-at t) at-first.Post) → ((c .at-first) .result) ≤ length (first ((c .before .before .before .before .before .before .before .before .before .before) .args .x .now))
+n-size : (t : ℕ) (c : After-at-first·at-first t) →
+    (c .at-first .result) ≤ length (first (c .before .before .before .before .before .before .before .before .before .before .args .x .now))
 n-size t c =
+    let s = c .before .before .before .before .before .before .before .before .before .before in
     let v = is-pow t (c .before .before .before .before) in
-    omega (arith, (c .at-first) .ensures .size, first-length ((c .before .before .before .before .before .before .before .before .before .before) .args .width) (dec ((c .before .before .before .before .before .before .before .before .before .before) .args .width) (first ((c .before .before .before .before .before .before .before .before .before .before) .args .x .now))) ((c .before .before .before .before .before .before .before .before .before .before) .args .a), codes-length (v .left))
+    omega (arith, c .at-first .ensures .size, first-length (s .args .width) (dec (s .args .width) (first (s .args .x .now))) (s .args .a), codes-length (v .left))
 
 made : (t : ℕ) (c : After-at-first·at-first t) →
     let s = c .before .before .before .before .before .before .before .before .before .before in
@@ -68,18 +70,31 @@ made : (t : ℕ) (c : After-at-first·at-first t) →
     (take (c .at-first .result) (c .at-first .last .1 .1 .1 .0))
 made t c =
     let s = c .before .before .before .before .before .before .before .before .before .before in
-    record
-    { is = (c .at-first) .ensures .is; good = first-good (s .args .width) (dec (s .args .width) (first (s .args .x .now))) (s .args .a) (is-pow t (c .before .before .before .before) .left .good) }
+    front-codes (c .at-first .ensures)
+    (first-good (s .args .width) (dec (s .args .width) (first (s .args .x .now))) (s .args .a) (is-pow t (c .before .before .before .before) .left .good))
 
-made2 : (t : ℕ) (c : at-first-lts.After-scale (put-lower-reads.Asked, put-lower-reads.Learnt, at-first-below t, at-first.Post, leaf-power-reads.Asked, leaf-power-reads.Learnt, scale-reads.Asked, scale-reads.Learnt, sum-reads.Asked, sum-reads.Learnt) (at-first-at t) at-first.Post) → Codes ((c .before .before .before .before .before .before .before .before .before .before .before .before .before .before .before .before .before .before) .args .width) (scaleOf ((c .before .before .before .before .before .before .before .before .before .before .before .before .before .before .before .before .before .before) .args .width) ((c .before .before .before .leaf-power) .result) (atFirstOf ((c .before .before .before .before .before .before .before .before .before .before .before .before .before .before .before .before .before .before) .args .width) (dec ((c .before .before .before .before .before .before .before .before .before .before .before .before .before .before .before .before .before .before) .args .width) (first ((c .before .before .before .before .before .before .before .before .before .before .before .before .before .before .before .before .before .before) .args .x .now))) ((c .before .before .before .before .before .before .before .before .before .before .before .before .before .before .before .before .before .before) .args .a))) (take ((c .scale) .result) ((c .scale) .last .1 .1 .1 .0))
+abbrev After-scale·at-first : ℕ → Type 0
+After-scale·at-first t = at-first-lts.After-scale (put-lower-reads.Asked, put-lower-reads.Learnt, at-first-below t, at-first.Post, leaf-power-reads.Asked, leaf-power-reads.Learnt, scale-reads.Asked, scale-reads.Learnt, sum-reads.Asked, sum-reads.Learnt) (at-first-at t) at-first.Post
+
+made2 : (t : ℕ) (c : After-scale·at-first t) →
+    let s = c .before .before .before .before .before .before .before .before .before .before .before .before .before .before .before .before .before .before in
+    Codes (s .args .width)
+    (scaleOf (s .args .width) (c .before .before .before .leaf-power .result) (atFirstOf (s .args .width) (dec (s .args .width) (first (s .args .x .now))) (s .args .a)))
+    (take (c .scale .result) (c .scale .last .1 .1 .1 .0))
 made2 t c =
+    let s = c .before .before .before .before .before .before .before .before .before .before .before .before .before .before .before .before .before .before in
+    let b = c .before .before .before in
     let m = made t (c .before .before .before .before .before .before .before .before) in
-    record { is = (c .scale) .ensures .is ∙ ap (λ h. enc ((c .before .before .before .before .before .before .before .before .before .before .before .before .before .before .before .before .before .before) .args .width) (scaleOf ((c .before .before .before .before .before .before .before .before .before .before .before .before .before .before .before .before .before .before) .args .width) ((c .before .before .before .leaf-power) .result) h)) (dec-enc m); good = scale-good ((c .before .before .before .leaf-power) .result) (m .good) }
+    front-codes (begins-as (c .scale .ensures) (ap (λ h. enc (s .args .width) (scaleOf (s .args .width) (b .leaf-power .result) h)) (dec-enc m)))
+    (scale-good (b .leaf-power .result) (m .good))
 
-m-size : (t : ℕ) (c : at-first-lts.After-scale (put-lower-reads.Asked, put-lower-reads.Learnt, at-first-below t, at-first.Post, leaf-power-reads.Asked, leaf-power-reads.Learnt, scale-reads.Asked, scale-reads.Learnt, sum-reads.Asked, sum-reads.Learnt) (at-first-at t) at-first.Post) → length (take ((c .scale) .result) ((c .scale) .last .1 .1 .1 .0)) ≤ length (first ((c .before .before .before .before .before .before .before .before .before .before .before .before .before .before .before .before .before .before) .args .x .now))
+m-size : (t : ℕ) (c : After-scale·at-first t) →
+    length (take (c .scale .result) (c .scale .last .1 .1 .1 .0)) ≤ length
+    (first (c .before .before .before .before .before .before .before .before .before .before .before .before .before .before .before .before .before .before .args .x .now))
 m-size t c =
+    let s = c .before .before .before .before .before .before .before .before .before .before .before .before .before .before .before .before .before .before in
     let v = is-pow t (c .before .before .before .before .before .before .before .before .before .before .before .before) in
-    omega (arith, codes-length (made2 t c), scale-length ((c .before .before .before .before .before .before .before .before .before .before .before .before .before .before .before .before .before .before) .args .width) ((c .before .before .before .leaf-power) .result) (atFirstOf ((c .before .before .before .before .before .before .before .before .before .before .before .before .before .before .before .before .before .before) .args .width) (dec ((c .before .before .before .before .before .before .before .before .before .before .before .before .before .before .before .before .before .before) .args .width) (first ((c .before .before .before .before .before .before .before .before .before .before .before .before .before .before .before .before .before .before) .args .x .now))) ((c .before .before .before .before .before .before .before .before .before .before .before .before .before .before .before .before .before .before) .args .a)), first-length ((c .before .before .before .before .before .before .before .before .before .before .before .before .before .before .before .before .before .before) .args .width) (dec ((c .before .before .before .before .before .before .before .before .before .before .before .before .before .before .before .before .before .before) .args .width) (first ((c .before .before .before .before .before .before .before .before .before .before .before .before .before .before .before .before .before .before) .args .x .now))) ((c .before .before .before .before .before .before .before .before .before .before .before .before .before .before .before .before .before .before) .args .a), codes-length (v .left))
+    omega (arith, codes-length (made2 t c), scale-length (s .args .width) (c .before .before .before .leaf-power .result) (atFirstOf (s .args .width) (dec (s .args .width) (first (s .args .x .now))) (s .args .a)), first-length (s .args .width) (dec (s .args .width) (first (s .args .x .now))) (s .args .a), codes-length (v .left))
 
 pub +at-first-spec : {M : Type 1} → statement M
 +at-first-spec = close μ-at-first λ t.
@@ -87,6 +102,7 @@ pub +at-first-spec : {M : Type 1} → statement M
     (λ c. omega (arith, some (c .before .before .before .before .pre .1 .1 .0)))
     (λ c. omega (arith, some (c .before .before .before .before .before .pre .1 .1 .0)))
     (λ c. search needs)
+    -- returns
     (λ c.
     let s = c .before .before .before .before .before in
     begins-as (begins-set (s .args .out .now) _ (omega (arith, some (s .pre .1 .1 .0))))
@@ -95,10 +111,12 @@ pub +at-first-spec : {M : Type 1} → statement M
     (λ c. omega (arith, is-pop t c))
     (λ c. omega (arith, is-pop t c))
     (λ c. search needs)
+    -- put-lower-requires
     (λ c κs.
     let v = is-pop t (c .before .before) in
     ((good-pop (v .node) .0, good-pop (v .node) .1 .0), (v .part, omega (arith, v))))
     (λ c. search needs)
+    -- returns-2
     (λ c.
     let s = c .before .before .before .before .before .before .before .before .before .before .before in
     begins-as (c .before .before .put-lower .ensures)
@@ -107,31 +125,37 @@ pub +at-first-spec : {M : Type 1} → statement M
     (λ c. search needs)
     (λ c. search needs)
     (λ c. omega (arith, is-pow t c))
+    -- at-first-requires
     (λ c κs.
     let v = is-pow t (c .before .before .before) in
     (omega (arith, v), (c .before .before .before .before .before .before .before .before .before .pre .1 .0, (v .left, (omega (arith, v), omega (arith, v))))))
     (λ c κs. (c .before .before .before .before .before .before .before .before .before .before .before .before .before .before .pre .1 .0))
     (λ c. begins-le (c .before .before .before .before .before .at-first .ensures))
+    -- slice-aggregate-scale
     (λ c.
     let s = c .before .before .before .before .before .before in
     sym (length-take-le (s .at-first .result) (s .at-first .last .1 .1 .1 .0) (begins-le (s .at-first .ensures))))
+    -- scale-requires
     (λ c κs.
     let s = c .before .before .before .before .before .before .before in
     let k = length-take-le (s .at-first .result) (s .at-first .last .1 .1 .1 .0) (begins-le (s .at-first .ensures)) in
     (c .before .before .leaf-power .ensures .1, (coded (made t s), omega (arith, k, n-size t s, lent t s .1, is-pow t (c .before .before .before .before .before .before .before .before .before .before .before), c .before .before .before .before .before .before .before .before .before .before .before .before .before .before .before .before .before .pre .1 .1 .1 .1))))
     (λ c. begins-le (c .before .before .scale .ensures))
     (λ c. let s = c .before .before .before in sym (length-take-le (s .scale .result) (s .scale .last .1 .1 .1 .0) (begins-le (s .scale .ensures))))
+    -- mul-sum
     (λ c.
     omega (arith, is-pow t (c .before .before .before .before .before .before .before .before .before .before .before .before .before .before .before), c .before .before .before .before .before .before .before .before .before .before .before .before .before .before .before .before .before .before .before .before .before .good .1 .0))
     (λ c. omega (arith, is-pow t (c .before .before .before .before .before .before .before .before .before .before .before .before .before .before .before)))
     (λ c. omega (arith, is-pow t (c .before .before .before .before .before .before .before .before .before .before .before .before .before .before .before)))
     (λ c. search needs)
+    -- sum-requires
     (λ c κs.
     let s = c .before .before .before .before .before in
     let v = is-pow t (c .before .before .before .before .before .before .before .before .before .before .before .before .before .before .before .before .before) in
     ((coded (made2 t s), v .right), omega (arith, m-size t s, v, lent t (c .before .before .before .before .before .before .before .before .before .before .before .before .before) .0, c .before .before .before .before .before .before .before .before .before .before .before .before .before .before .before .before .before .before .before .before .before .before .before .pre .1 .1 .1 .0)))
     (λ c. search needs)
     (λ c. search needs)
+    -- returns-3
     (λ c.
     let s = c .before .before .before .before .before .before .before .before .before .before .before .before .before .before .before .before .before .before .before .before .before .before .before .before .before .before in
     begins-as (c .before .before .sum .ensures)

@@ -1,6 +1,6 @@
 -- A number put for the first variable: the cases of the definition over coded parts, and that the result is good and no longer.
-use mathlib.Core.List.{List, [], _∷_, _++_}
-use mathlib.Core.Path.{_≡_, refl, sym, ap, ap₂, _∙_}
+use mathlib.Core.List.{List, _∷_}
+use mathlib.Core.Path.{_≡_, sym, ap, _∙_}
 use Prim.Native.Nat.{ℕ, zero, suc, _+_, _-_, _%_, _≤_, _<_}
 use native.Mathlib.Omega.{arith}
 use lib.ListN.{length, getD}
@@ -72,14 +72,13 @@ module _ (w : ℕ) where
       ∙ ap (λ h. atFirstOf w h a) (sym (v .is))
 
   -- the code of a lowered form
-  pub lower-code : (i : ℕ) {p : Form (Leaf w)} {l : List ℕ} → Codes w p l → 1 < i → (2147483647 + i) ∷ l ≡ enc w (lowerOf w i p)
+  pub lower-code : (i : ℕ) {p : Form (Leaf w)} {l : List ℕ} → Codes w p l → 1 < i → (2147483648 + (i - 1)) ∷ l ≡ enc w (lowerOf w i p)
   unfolding enc lowerOf
   lower-code zero c h = absurd (omega arith)
   lower-code (suc zero) c h = absurd (omega arith)
   lower-code (suc (suc i)) {p} c h =
       let e : suc (suc i) - 1 ≡ suc i = omega arith in
-      let f : 2147483647 + suc (suc i) ≡ 2147483648 + suc i = omega arith in
-      ap₂ _∷_ f (c .is) ∙ ap (λ k. enc w (lower k p)) (sym e)
+      ap (λ k. (2147483648 + (suc (suc i) - 1)) ∷ k) (c .is) ∙ ap (λ n. (2147483648 + n) ∷ enc w p) e ∙ ap (λ k. enc w (lower k p)) (sym e)
 
   pub lower-same : (i : ℕ) (p : Form (Leaf w)) → i ≡ 1 → lowerOf w i p ≡ p
   unfolding lowerOf

@@ -47,6 +47,7 @@ pub +add-int-spec : {M : Type 1} → statement M
     (λ c κs. let s = c .before .before .before .before in (s .pre .1 .0, (int-view (s .pre .1 .1 .0) (c .if1 .taken)) .below))
     (λ c. omega (arith, some (c .before .before .before .before .before .pre .1 .1 .0)))
     (λ c. search needs)
+    -- returns
     (λ c.
     let s = c .before .before .before .before .before in
     begins-as (begins-set (s .args .out .now) _ (omega (arith, some (s .pre .1 .1 .0))))
@@ -59,15 +60,18 @@ pub +add-int-spec : {M : Type 1} → statement M
     (λ c. simp length-set (omega (arith, is-pop t (c .before))))
     (λ c. simp length-set (omega (arith, is-pop t (c .before))))
     (λ c. search needs)
+    -- add-int-requires
     (λ c κs.
     let s = c .before .before .before .before .before .before .before in
     let v = is-pop t (c .before .before) in
     (omega (arith, v), (s .pre .1 .0, (v .part, omega (arith, v, length-after-set (s .args .out .now) (getD (s .args .y .now) 0 0))))))
+    -- add-result
     (λ c.
     let s = c .before .before .before .before .before .before .before .before .before .before in
     let b = c .before .before in
     omega (arith, begins-le (b .add-int .ensures), b .add-int .kept .1 .1 .1 .0, length-after-set (s .args .out .now) (getD (s .args .y .now) 0 0), is-pop t (c .before .before .before .before .before)))
     (λ c. c .before .out .given .1 ∙ simp length-set)
+    -- returns-2
     (λ c.
     let s = c .before .before .before .before .before .before .before .before .before .before in
     let v = is-pop t (c .before .before .before .before .before) in
@@ -78,28 +82,34 @@ pub +add-int-spec : {M : Type 1} → statement M
     (λ c. search needs)
     (λ c. omega (arith, is-pow t c))
     (λ c κs. omega (arith, is-pow t (c .before .before)))
+    -- mul-add-int
     (λ c.
     omega (arith, is-pow t (c .before .before .before .before .before), c .before .before .before .before .before .before .before .before .before .before .good .1 .1 .0))
     (λ c. omega (arith, is-pow t (c .before .before .before .before .before)))
     (λ c. omega (arith, is-pow t (c .before .before .before .before .before)))
     (λ c. search needs)
     (λ c. omega (arith, is-pow t (c .before .before .before .before .before .before), c .before .before .before .put-pow .ensures .size))
+    -- sub-add-int-4
     (λ c.
     let s = c .before .before .before in
     omega (arith, is-pow t (c .before .before .before .before .before .before), s .put-pow .ensures .size, s .put-pow .kept .1 .1 .0))
+    -- part-add-int-start-4
     (λ c.
     let s = c .before .before .before in
     omega (arith, is-pow t (c .before .before .before .before .before .before), s .put-pow .ensures .size, s .put-pow .kept .1 .1 .0))
     (λ c. search needs)
+    -- add-int-requires-2
     (λ c κs.
     let s = c .before .before .before .before in
     let v = is-pow t (c .before .before .before .before .before .before .before) in
     (omega (arith, v), (c .before .before .before .before .before .before .before .before .before .before .before .before .pre .1 .0, (v .right, omega (arith, v, s .put-pow .ensures .size, s .put-pow .kept .1 .1 .0, length-tail-part (s .put-pow .result) (s .put-pow .last .1 .1 .0))))))
+    -- add-result-2
     (λ c.
     let s = c .before .before .before .before .before .before .before in
     let b = c .before .before in
     omega (arith, c .before .before .before .before .before .before .before .before .before .before .before .before .before .before .before .pre .1 .1 .1, begins-le (b .add-int2 .ensures), b .add-int2 .kept .1 .1 .1 .0, length-tail-part (s .put-pow .result) (s .put-pow .last .1 .1 .0), is-pow t (c .before .before .before .before .before .before .before .before .before .before), s .put-pow .ensures .size, s .put-pow .kept .1 .1 .0))
     (λ c. c .before .out3 .given .1 ∙ (c .before .before .before .before .before .before .before .put-pow .kept .1 .1 .0))
+    -- returns-3
     (λ c.
     begins-as (begins-tail (c .before .before .before .before .before .before .before .put-pow .ensures) (c .before .before .add-int2 .ensures))
     (add-int-pow (c .before .before .before .before .before .before .before .before .before .before .before .before .before .before .before .args .a) (is-pow t (c .before .before .before .before .before .before .before .before .before .before))))

@@ -46,15 +46,26 @@ Else2·carry t = carry-lts.Else2 (leaf-carried-reads.Asked, leaf-carried-reads.L
 is-pow : (t : ℕ) (c : Else2·carry t) → let s = c .before .before .before .before .before in PowAt (s .args .from) (s .args .y .now)
 is-pow t c = pow-at (c .before .before .before .before .before .pre .1 .1 .0) (c .before .if1 .left) (c .if2 .left)
 
-n-size : (t : ℕ) (c : carry-lts.After-carry2 (leaf-carried-reads.Asked, leaf-carried-reads.Learnt, leaf-product-reads.Asked, leaf-product-reads.Learnt, carry-below t, carry.Post, make-pop-reads.Asked, make-pop-reads.Learnt, make-pow-reads.Asked, make-pow-reads.Learnt) (carry-at t) carry.Post) → ((c .carry2) .result) ≤ length (first ((c .before .before .before .before .before .before .before .before) .args .y .now))
-n-size t c =
-    let v = is-pow t (c .before .before .before) in
-    omega (arith, (c .carry2) .ensures .size, carry-length ((c .before .before .before .before .before .before .before .before) .args .from) ((c .before .before .before .before .before .before .before .before) .args .width) ((c .before .before .before .before .before .before .before .before) .args .a) (dec ((c .before .before .before .before .before .before .before .before) .args .from) (first ((c .before .before .before .before .before .before .before .before) .args .y .now))), codes-length (v .left))
+abbrev After-carry2·carry : ℕ → Type 0
+After-carry2·carry t = carry-lts.After-carry2 (leaf-carried-reads.Asked, leaf-carried-reads.Learnt, leaf-product-reads.Asked, leaf-product-reads.Learnt, carry-below t, carry.Post, make-pop-reads.Asked, make-pop-reads.Learnt, make-pow-reads.Asked, make-pow-reads.Learnt) (carry-at t) carry.Post
 
-m-size : (t : ℕ) (c : carry-lts.After-out4 (leaf-carried-reads.Asked, leaf-carried-reads.Learnt, leaf-product-reads.Asked, leaf-product-reads.Learnt, carry-below t, carry.Post, make-pop-reads.Asked, make-pop-reads.Learnt, make-pow-reads.Asked, make-pow-reads.Learnt) (carry-at t) carry.Post) → ((c .before .carry3) .result) ≤ length (rest ((c .before .before .before .before .before .before .before .before .before .before .before .before .before .before) .args .y .now))
+n-size : (t : ℕ) (c : After-carry2·carry t) →
+    (c .carry2 .result) ≤ length (first (c .before .before .before .before .before .before .before .before .args .y .now))
+n-size t c =
+    let s = c .before .before .before .before .before .before .before .before in
+    let v = is-pow t (c .before .before .before) in
+    omega (arith, c .carry2 .ensures .size, carry-length (s .args .from) (s .args .width) (s .args .a) (dec (s .args .from) (first (s .args .y .now))), codes-length (v .left))
+
+abbrev After-out4·carry : ℕ → Type 0
+After-out4·carry t = carry-lts.After-out4 (leaf-carried-reads.Asked, leaf-carried-reads.Learnt, leaf-product-reads.Asked, leaf-product-reads.Learnt, carry-below t, carry.Post, make-pop-reads.Asked, make-pop-reads.Learnt, make-pow-reads.Asked, make-pow-reads.Learnt) (carry-at t) carry.Post
+
+m-size : (t : ℕ) (c : After-out4·carry t) →
+    (c .before .carry3 .result) ≤ length
+    (rest (c .before .before .before .before .before .before .before .before .before .before .before .before .before .before .args .y .now))
 m-size t c =
+    let s = c .before .before .before .before .before .before .before .before .before .before .before .before .before .before in
     let v = is-pow t (c .before .before .before .before .before .before .before .before .before) in
-    omega (arith, (c .before .carry3) .ensures .size, carry-length ((c .before .before .before .before .before .before .before .before .before .before .before .before .before .before) .args .from) ((c .before .before .before .before .before .before .before .before .before .before .before .before .before .before) .args .width) ((c .before .before .before .before .before .before .before .before .before .before .before .before .before .before) .args .a) (dec ((c .before .before .before .before .before .before .before .before .before .before .before .before .before .before) .args .from) (rest ((c .before .before .before .before .before .before .before .before .before .before .before .before .before .before) .args .y .now))), codes-length (v .right))
+    omega (arith, c .before .carry3 .ensures .size, carry-length (s .args .from) (s .args .width) (s .args .a) (dec (s .args .from) (rest (s .args .y .now))), codes-length (v .right))
 
 pub +carry-spec : {M : Type 1} → statement M
 +carry-spec = close μ-carry λ t.
@@ -64,6 +75,7 @@ pub +carry-spec : {M : Type 1} → statement M
     (λ c κs. (c .before .before .before .before .before .pre .1 .0, c .leaf-carried .ensures .1))
     (λ c. omega (arith, some (c .before .before .before .before .before .before .pre .1 .1 .0)))
     (λ c. search needs)
+    -- returns
     (λ c.
     let s = c .before .before .before .before .before .before in
     begins-as (begins-set (s .args .out .now) _ (omega (arith, some (s .pre .1 .1 .0))))
@@ -75,10 +87,12 @@ pub +carry-spec : {M : Type 1} → statement M
     (λ c. omega (arith, is-pop t (c .before)))
     (λ c. omega (arith, is-pop t (c .before)))
     (λ c. search needs)
+    -- carry-requires
     (λ c κs.
     let s = c .before .before .before .before .before .before .before in
     let v = is-pop t (c .before .before) in
     (omega (arith, v), (s .pre .1 .0, (v .part, omega (arith, v, length-tail-part 1 (s .args .out .now))))))
+    -- make-pop-requires
     (λ c κs.
     let s = c .before .before .before .before .before .before .before .before .before .before .before in
     let b = c .before .before .before in
@@ -88,6 +102,7 @@ pub +carry-spec : {M : Type 1} → statement M
       (coded m, (good-pop (v .node) .0, pop-asks (getD (s .args .y .now) 0 0 % 64) m (carried-pop (s .args .width) (s .args .a) v) (carry-good (s .args .from) (s .args .width) (s .args .a) (dec (s .args .from) (s .args .y .now)) (s .pre .1 .1 .0 .good)))),
     ))
     (λ c. search needs)
+    -- returns-2
     (λ c.
     let s = c .before .before .before .before .before .before .before .before .before .before .before .before .before .before in
     let v = is-pop t (c .before .before .before .before .before .before .before .before .before) in
@@ -101,28 +116,35 @@ pub +carry-spec : {M : Type 1} → statement M
     (λ c. omega (arith, is-pow t (c .before)))
     (λ c. omega (arith, is-pow t (c .before)))
     (λ c. search needs)
+    -- carry-requires-2
     (λ c κs.
     let s = c .before .before .before .before .before .before .before in
     let v = is-pow t (c .before .before) in
     (omega (arith, v), (s .pre .1 .0, (v .left, omega (arith, v, length-tail-part 1 (s .args .out .now))))))
     (λ c. omega (arith, n-size t (c .before .before), is-pow t (c .before .before .before .before .before)))
+    -- mul-carry
     (λ c.
     omega (arith, is-pow t (c .before .before .before .before .before), c .before .before .before .before .before .before .before .before .before .before .good .1 .1 .1 .0))
     (λ c. omega (arith, is-pow t (c .before .before .before .before .before)))
     (λ c. omega (arith, is-pow t (c .before .before .before .before .before)))
     (λ c. search needs)
+    -- mul-carry-2
     (λ c.
     omega (arith, n-size t (c .before .before .before), is-pow t (c .before .before .before .before .before .before), c .before .before .before .before .before .before .before .before .before .before .before .pre .1 .1 .1))
+    -- sub-carry-6
     (λ c.
     omega (arith, n-size t (c .before .before .before), is-pow t (c .before .before .before .before .before .before), c .before .before .before .before .before .before .before .before .before .before .before .pre .1 .1 .1, c .before .before .out3 .given .1))
+    -- part-carry-start-6
     (λ c.
     omega (arith, n-size t (c .before .before .before), is-pow t (c .before .before .before .before .before .before), c .before .before .before .before .before .before .before .before .before .before .before .pre .1 .1 .1, c .before .before .out3 .given .1))
     (λ c. search needs)
+    -- carry-requires-3
     (λ c κs.
     let s = c .before .before .before .before .before .before .before .before .before .before .before .before in
     let b = c .before .before .before .before in
     let v = is-pow t (c .before .before .before .before .before .before .before) in
     (omega (arith, v), (s .pre .1 .0, (v .right, omega (arith, v, n-size t b, s .pre .1 .1 .1, c .before .before .before .out3 .given .1, length-tail-part (1 + (b .carry2 .result)) (putMid 1 (length (s .args .out .now) - 1) (s .args .out .now) (b .carry2 .last .1 .1 .1 .1 .0)))))))
+    -- make-pow-requires
     (λ c κs.
     let s = c .before .before .before .before .before .before .before .before .before .before .before .before .before .before .before .before in
     let b = c .before .before .before .before .before .before .before .before in
@@ -137,6 +159,7 @@ pub +carry-spec : {M : Type 1} → statement M
       ),
     ))
     (λ c. search needs)
+    -- returns-3
     (λ c.
     let s = c .before .before .before .before .before .before .before .before .before .before .before .before .before .before .before .before .before .before .before in
     let b = c .before .before .before .before .before .before .before .before .before .before .before in

@@ -67,6 +67,7 @@ pub +negate-spec : {M : Type 1} → statement M
     (λ c κs. int-view (c .before .before .before .before .pre .1 .0) (c .if1 .taken) .below)
     (λ c. omega (arith, some (c .before .before .before .before .before .pre .1 .0)))
     (λ c. search needs)
+    -- returns
     (λ c.
     let s = c .before .before .before .before .before in
     begins-as (begins-set (s .args .out .now) _ (omega (arith, some (s .pre .1 .0))))
@@ -79,15 +80,18 @@ pub +negate-spec : {M : Type 1} → statement M
     (λ c. simp length-set (omega (arith, is-pop t (c .before))))
     (λ c. simp length-set (omega (arith, is-pop t (c .before))))
     (λ c. search needs)
+    -- negate-requires
     (λ c κs.
     let s = c .before .before .before .before .before .before .before in
     let v = is-pop t (c .before .before) in
     (omega (arith, v), (v .part, omega (arith, v, length-after-set (s .args .out .now) (getD (s .args .x .now) 0 0)))))
+    -- add-result
     (λ c.
     let s = c .before .before .before .before .before .before .before .before .before .before in
     let b = c .before .before in
     omega (arith, begins-le (b .negate .ensures), b .negate .kept .1 .1 .0, length-after-set (s .args .out .now) (getD (s .args .x .now) 0 0), is-pop t (c .before .before .before .before .before)))
     (λ c. c .before .out .given .1 ∙ simp length-set)
+    -- returns-2
     (λ c.
     let s = c .before .before .before .before .before .before .before .before .before .before in
     let v = is-pop t (c .before .before .before .before .before) in
@@ -99,35 +103,43 @@ pub +negate-spec : {M : Type 1} → statement M
     (λ c. simp length-set (omega (arith, is-pow t (c .before))))
     (λ c. simp length-set (omega (arith, is-pow t (c .before))))
     (λ c. search needs)
+    -- negate-requires-2
     (λ c κs.
     let s = c .before .before .before .before .before .before .before in
     let v = is-pow t (c .before .before) in
     (omega (arith, v), (v .left, omega (arith, v, length-after-set (s .args .out .now) (getD (s .args .x .now) 0 0)))))
     (λ c. omega (arith, is-pow t (c .before .before .before .before .before), n-size t (c .before .before)))
+    -- mul-negate
     (λ c.
     omega (arith, is-pow t (c .before .before .before .before .before), c .before .before .before .before .before .before .before .before .before .before .good .1 .0))
     (λ c. omega (arith, is-pow t (c .before .before .before .before .before)))
     (λ c. omega (arith, is-pow t (c .before .before .before .before .before)))
     (λ c. search needs)
+    -- mul-negate-2
     (λ c.
     let s = c .before .before .before .before .before .before .before .before .before .before .before in
     omega (arith, is-pow t (c .before .before .before .before .before .before), n-size t (c .before .before .before), s .pre .1 .1, s .good .1 .1 .0))
+    -- sub-negate-6
     (λ c.
     omega (arith, is-pow t (c .before .before .before .before .before .before), n-size t (c .before .before .before), out-length t (c .before .before), c .before .before .before .before .before .before .before .before .before .before .before .pre .1 .1))
+    -- part-negate-start-6
     (λ c.
     omega (arith, is-pow t (c .before .before .before .before .before .before), n-size t (c .before .before .before), out-length t (c .before .before), c .before .before .before .before .before .before .before .before .before .before .before .pre .1 .1))
     (λ c. search needs)
+    -- negate-requires-3
     (λ c κs.
     let s = c .before .before .before .before .before .before .before .before .before .before .before .before in
     let b = c .before .before .before .before in
     let v = is-pow t (c .before .before .before .before .before .before .before) in
     (omega (arith, v), (v .right, omega (arith, v, s .pre .1 .1, n-size t b, out-length t (c .before .before .before), length-tail-part (1 + (b .negate2 .result)) (putMid 1 (length (set (s .args .out .now) 0 (getD (s .args .x .now) 0 0)) - 1) (set (s .args .out .now) 0 (getD (s .args .x .now) 0 0)) (b .negate2 .last .1 .1 .0))))))
+    -- add-result-2
     (λ c.
     let s = c .before .before .before .before .before .before .before .before .before .before .before .before .before .before .before in
     let b = c .before .before .before .before .before .before .before in
     let d = c .before .before in
     omega (arith, is-pow t (c .before .before .before .before .before .before .before .before .before .before), n-size t b, begins-le (d .negate3 .ensures), d .negate3 .kept .1 .1 .0, out-length t (c .before .before .before .before .before .before), length-tail-part (1 + (b .negate2 .result)) (putMid 1 (length (set (s .args .out .now) 0 (getD (s .args .x .now) 0 0)) - 1) (set (s .args .out .now) 0 (getD (s .args .x .now) 0 0)) (b .negate2 .last .1 .1 .0)), s .pre .1 .1, s .good .1 .1 .0))
     (λ c. c .before .out3 .given .1 ∙ (c .before .before .before .before .before .before .out2) .given .1 ∙ simp length-set)
+    -- returns-3
     (λ c.
     let s = c .before .before .before .before .before .before .before .before .before .before .before .before .before .before .before in
     let v = is-pow t (c .before .before .before .before .before .before .before .before .before .before) in

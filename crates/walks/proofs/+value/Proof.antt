@@ -46,6 +46,7 @@ pub +value-spec : {M : Type 1} → statement M
 +value-spec = close μ-value λ t.
     value-lts.spec (least-reads.Asked, least-reads.Learnt, value-below t, value.Post, leaf-power-reads.Asked, leaf-power-reads.Learnt, leaf-product-reads.Asked, leaf-product-reads.Learnt, leaf-sum-reads.Asked, leaf-sum-reads.Learnt) (value-at t) value.Post
     (λ c. omega (arith, some (c .before .before .before .pre .1 .0)))
+    -- returns
     (λ c.
     let s = c .before .before .before .before in
     let v = int-view (s .pre .1 .0) (c .if1 .taken) in
@@ -60,11 +61,14 @@ pub +value-spec : {M : Type 1} → statement M
     (λ c. search needs)
     (λ c. search needs)
     (λ c. search needs)
+    -- value-requires
     (λ c κs.
     let v = is-pop t (c .before .before .before) in
     (omega (arith, v), (v .part, leaves-tail (c .before .before .least .result) (c .before .before .before .before .before .before .before .before .pre .1 .1))))
+    -- returns-2
     (λ c.
     (c .value .ensures .0 ∙ rw (c .before .before .before .least .ensures) (eval-pop (c .before .before .before .before .before .before .before .before .before .args .point .now) (is-pop t (c .before .before .before .before))), c .value .ensures .1))
+    -- returns-3
     (λ c.
     let s = c .before .before .before .before .before .before in
     (eval-none (s .args .point .now) (is-pow t (c .before)) (c .if3 .taken), modulus-pos (s .args .width)))
@@ -74,9 +78,11 @@ pub +value-spec : {M : Type 1} → statement M
     (λ c. search needs)
     (λ c. search needs)
     (λ c. omega (arith, is-pow t (c .before .before .before)))
+    -- value-requires-2
     (λ c κs.
     let v = is-pow t (c .before .before .before .before) in
     (omega (arith, v), (v .left, c .before .before .before .before .before .before .before .before .before .pre .1 .1)))
+    -- mul-value-2
     (λ c.
     omega (arith, is-pow t (c .before .before .before .before .before), c .before .before .before .before .before .before .before .before .before .before .good .1 .0))
     (λ c. omega (arith, is-pow t (c .before .before .before .before .before)))
@@ -85,11 +91,13 @@ pub +value-spec : {M : Type 1} → statement M
     (λ c. search needs)
     (λ c. search needs)
     (λ c. search needs)
+    -- value-requires-3
     (λ c κs.
     let v = is-pow t (c .before .before .before .before .before .before .before) in
     (omega (arith, v), (v .right, leaves-tail 1 (c .before .before .before .before .before .before .before .before .before .before .before .before .pre .1 .1))))
     (λ c κs. (c .before .before .before .before .before .leaf-power .ensures .1, c .before .before .before .value2 .ensures .1))
     (λ c κs. (c .leaf-product .ensures .1, c .before .value3 .ensures .1))
+    -- returns-4
     (λ c.
     let s = c .before .before .before .before .before .before .before .before .before .before .before .before .before .before .before in (
       (c .leaf-sum) .ensures .0

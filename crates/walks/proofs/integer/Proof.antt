@@ -16,6 +16,7 @@ integer-spec =
     (tie.spec
     (λ c. search needs)
     (λ c. search needs)
+    -- returns
     (λ c.
     let v : IsInt (c .args .width) (int (leaf (c .args .width) (c .args .a))) (c .args .a) = record { is = refl; below = c .pre .0 } in
     begins-as (begins-set (c .args .out .now) (c .args .a) (c .pre .1)) (leaf-code v)))

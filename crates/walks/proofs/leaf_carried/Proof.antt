@@ -23,22 +23,26 @@ pub leaf-carried-spec : {M : Type 1} → statement M
 leaf-carried-spec =
     tie.close
     (tie.spec
+    -- returns
     (λ c.
     (sym (leaf-number (c .before .args .from) (c .before .args .x) (c .before .pre)) ∙ sym (ap (λ z. z .0) (carried-back (c .before .args .from) (leaf (c .before .args .from) (c .before .args .x)))) ∙ ap (λ w. carried (c .before .args .from) w (leaf (c .before .args .from) (c .before .args .x)) .0) (c .if1 .taken), subst (λ w. (c .before .args .x) < modulus w) (c .if1 .taken) (c .before .pre)))
     (λ c κs. search needs)
     (λ c. omega (arith, c .modulus-of .ensures, c .before .before .pre))
     (λ c κs. search needs)
     (λ c. omega (arith, c .before .modulus-of2 .ensures, modulus-pos (c .before .before .before .before .args .width)))
+    -- returns-2
     (λ c.
     let s = c .before .before .before .before in
     let h : (s .args .x) < modulus (s .args .from) - (s .args .x) = omega (arith, gap (c .before), c .if2 .taken) in
     (by (c .before) (s .args .x) ∙ sym (carried-small (s .args .from) (s .args .width) (s .args .x) (s .pre) h), subst (λ z. z < modulus (s .args .width)) (sym (by (c .before) (s .args .x))) (mod-lt (s .args .x) (modulus-pos (s .args .width)))))
     (λ c. omega (arith, c .before .modulus-of2 .ensures, modulus-pos (c .before .before .before .before .args .width)))
+    -- leaf-negation-requires
     (λ c κs.
     let s = c .before .before .before .before in
     let b = c .before .before in
     subst (λ z. z < modulus (s .args .width)) (sym (by (c .before) (b .modulus-of .result - (s .args .x))))
     (mod-lt (b .modulus-of .result - (s .args .x)) (modulus-pos (s .args .width))))
+    -- returns-3
     (λ c.
     let s = c .before .before .before .before .before in
     let b = c .before .before in

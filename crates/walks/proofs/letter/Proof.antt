@@ -21,6 +21,7 @@ letter-spec =
     (λ c. simp length-set (omega arith))
     (λ c. simp length-set (omega arith))
     (λ c. search needs)
+    -- returns
     (λ c.
     begins-as (begins-three (c .before .args .out .now) 2147483713 1 0 (omega arith))
     (letter-first (c .before .args .width) ∙ ap (λ k. enc (c .before .args .width) (letterOf (c .before .args .width) k)) (sym (c .if1 .taken))))
@@ -30,6 +31,7 @@ letter-spec =
     (λ c. simp length-set (omega arith))
     (λ c. search needs)
     (λ c. search needs)
+    -- returns-2
     (λ c.
     begins-as (begins-four (c .before .args .out .now) (2147483648 + (c .before .args .i)) 2147483713 1 0 (c .before .pre .1))
     (letter-next (c .before .args .width) (c .before .args .i) (omega arith))))

@@ -31,6 +31,7 @@ same-spec =
     (λ c. search needs)
     (λ c. search needs)
     (λ c. (omega arith, below-more _ _ (c .before .before .before .before .loop .inv .1) (c .if2 .left)))
+    -- returns-3
     (λ c.
     let s = c .before .before .before in
     tells

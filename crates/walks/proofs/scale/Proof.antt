@@ -14,6 +14,7 @@ scale-spec =
     (tie.spec
     (λ c κs. search needs)
     (λ c. search needs)
+    -- returns
     (λ c.
     let s = c .before .before .before .before .before .before in
     begins-as (c .before .before .carry .ensures)

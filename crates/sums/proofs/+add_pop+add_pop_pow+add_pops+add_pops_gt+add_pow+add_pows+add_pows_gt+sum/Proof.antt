@@ -2,60 +2,54 @@
 -- what takes one form in its parts 2, what takes both so 1, and what has the exponents in order 0.
 -- Assumes nothing.
 use mathlib.Core.Path.{_∙_, sym, ap, subst}
-use Prim.Native.Nat.{ℕ, _+_, _*_, _-_, _<_, _≤_}
+use Prim.Native.Nat.{ℕ, _+_, _*_, _-_, _%_, _<_, _≤_}
 use native.Mathlib.Omega.{arith}
-use lib.ListN.{length, length-set}
+use lib.ListN.{length, getD, length-set}
 use borrow.Rule.Slice.PartMut.{putMid}
 use Rattle.horner.specs.definitions.Form.{pop, pow}
 use Rattle.coded.specs.Coding.{dec, enc, Good, Begins}
 use Rattle.coded.specs.Operations.{sumOf, zeroOf}
 use Rattle.coded.specs.laws.Codes.{some, int-view, dec-enc, coded, codes-length, sum-shorter}
 use Rattle.coded.specs.laws.Good.{good-pop, good-pow, good-less-pop, good-less-pow, sum-good}
-use Rattle.coded.specs.laws.Parts.{PopAt, PowAt, pop-at, pow-at}
+use Rattle.coded.specs.laws.Parts.{inner, PopAt, PowAt, pop-at, pow-at}
 use Rattle.coded.specs.laws.Sizes.{sum-length}
 use Rattle.coded.proofs.Lists.{begins-le, begins-as, begins-set, begins-tail, length-tail-part, length-after-set}
 use Rattle.coded.proofs.Making.{made-codes, two-made, zero-codes, pop-asks, pop-gives, pow-asks, pow-gives}
-use Rattle.sums.proofs.Equations.{pops-eq, pops-gt, pops-lt, pow-pop, pows-eq, pows-gt, pows-lt}
-use Rattle.sums.proofs.Sums.{add-pop-int, add-any-pop-int, add-pow-int, add-pop-pow-1, add-pop-pow-more, less-length}
+use Rattle.sums.proofs.Equations.{sum-comm, pops-eq, pops-gt, pows-eq, pows-gt}
+use Rattle.sums.proofs.Sums.{add-pop-int, add-pow-int, add-pop-pow-1, add-pop-pow-more, less-length}
 use borrow.Author.Needs.{needs}
 use borrow.Fn.Kinds.{In}
 use borrow.Fn.PlainCycle.{Measures, is, falls, and}
-use Rattle.sums.proofs.+add_any_pop+add_pop+add_pop_pow+add_pops+add_pops_gt+add_pow+add_pows+add_pows_gt+sum.{statement}
-use Rattle.sums.proofs.+add_any_pop+add_pop+add_pop_pow+add_pops+add_pops_gt+add_pow+add_pows+add_pows_gt+sum.Tie.{close}
-use Rattle.sums.proofs.add_any_pop.Reads as add-any-pop
-use Rattle.sums.proofs.add_any_pop.Kinds as add-any-pop-kinds
-use Rattle.sums.proofs.+add_any_pop+add_pop+add_pop_pow+add_pops+add_pops_gt+add_pow+add_pows+add_pows_gt+sum.Lts-add_any_pop as add-any-pop-lts
+use Rattle.sums.proofs.+add_pop+add_pop_pow+add_pops+add_pops_gt+add_pow+add_pows+add_pows_gt+sum.{statement}
+use Rattle.sums.proofs.+add_pop+add_pop_pow+add_pops+add_pops_gt+add_pow+add_pows+add_pows_gt+sum.Tie.{close}
 use Rattle.sums.proofs.add_pop.Reads as add-pop
 use Rattle.sums.proofs.add_pop.Kinds as add-pop-kinds
-use Rattle.sums.proofs.+add_any_pop+add_pop+add_pop_pow+add_pops+add_pops_gt+add_pow+add_pows+add_pows_gt+sum.Lts-add_pop as add-pop-lts
+use Rattle.sums.proofs.+add_pop+add_pop_pow+add_pops+add_pops_gt+add_pow+add_pows+add_pows_gt+sum.Lts-add_pop as add-pop-lts
 use Rattle.sums.proofs.add_pop_pow.Reads as add-pop-pow
 use Rattle.sums.proofs.add_pop_pow.Kinds as add-pop-pow-kinds
-use Rattle.sums.proofs.+add_any_pop+add_pop+add_pop_pow+add_pops+add_pops_gt+add_pow+add_pows+add_pows_gt+sum.Lts-add_pop_pow as add-pop-pow-lts
+use Rattle.sums.proofs.+add_pop+add_pop_pow+add_pops+add_pops_gt+add_pow+add_pows+add_pows_gt+sum.Lts-add_pop_pow as add-pop-pow-lts
 use Rattle.sums.proofs.add_pops.Reads as add-pops
 use Rattle.sums.proofs.add_pops.Kinds as add-pops-kinds
-use Rattle.sums.proofs.+add_any_pop+add_pop+add_pop_pow+add_pops+add_pops_gt+add_pow+add_pows+add_pows_gt+sum.Lts-add_pops as add-pops-lts
+use Rattle.sums.proofs.+add_pop+add_pop_pow+add_pops+add_pops_gt+add_pow+add_pows+add_pows_gt+sum.Lts-add_pops as add-pops-lts
 use Rattle.sums.proofs.add_pops_gt.Reads as add-pops-gt
 use Rattle.sums.proofs.add_pops_gt.Kinds as add-pops-gt-kinds
-use Rattle.sums.proofs.+add_any_pop+add_pop+add_pop_pow+add_pops+add_pops_gt+add_pow+add_pows+add_pows_gt+sum.Lts-add_pops_gt as add-pops-gt-lts
+use Rattle.sums.proofs.+add_pop+add_pop_pow+add_pops+add_pops_gt+add_pow+add_pows+add_pows_gt+sum.Lts-add_pops_gt as add-pops-gt-lts
 use Rattle.sums.proofs.add_pow.Reads as add-pow
 use Rattle.sums.proofs.add_pow.Kinds as add-pow-kinds
-use Rattle.sums.proofs.+add_any_pop+add_pop+add_pop_pow+add_pops+add_pops_gt+add_pow+add_pows+add_pows_gt+sum.Lts-add_pow as add-pow-lts
+use Rattle.sums.proofs.+add_pop+add_pop_pow+add_pops+add_pops_gt+add_pow+add_pows+add_pows_gt+sum.Lts-add_pow as add-pow-lts
 use Rattle.sums.proofs.add_pows.Reads as add-pows
 use Rattle.sums.proofs.add_pows.Kinds as add-pows-kinds
-use Rattle.sums.proofs.+add_any_pop+add_pop+add_pop_pow+add_pops+add_pops_gt+add_pow+add_pows+add_pows_gt+sum.Lts-add_pows as add-pows-lts
+use Rattle.sums.proofs.+add_pop+add_pop_pow+add_pops+add_pops_gt+add_pow+add_pows+add_pows_gt+sum.Lts-add_pows as add-pows-lts
 use Rattle.sums.proofs.add_pows_gt.Reads as add-pows-gt
 use Rattle.sums.proofs.add_pows_gt.Kinds as add-pows-gt-kinds
-use Rattle.sums.proofs.+add_any_pop+add_pop+add_pop_pow+add_pops+add_pops_gt+add_pow+add_pows+add_pows_gt+sum.Lts-add_pows_gt as add-pows-gt-lts
+use Rattle.sums.proofs.+add_pop+add_pop_pow+add_pops+add_pops_gt+add_pow+add_pows+add_pows_gt+sum.Lts-add_pows_gt as add-pows-gt-lts
 use Rattle.sums.proofs.sum.Reads as sum
 use Rattle.sums.proofs.sum.Kinds as sum-kinds
-use Rattle.sums.proofs.+add_any_pop+add_pop+add_pop_pow+add_pops+add_pops_gt+add_pow+add_pows+add_pows_gt+sum.Lts-sum as sum-lts
+use Rattle.sums.proofs.+add_pop+add_pop_pow+add_pops+add_pops_gt+add_pow+add_pows+add_pows_gt+sum.Lts-sum as sum-lts
 use Rattle.coded.proofs.make_pop.Reads as make-pop-reads
 use Rattle.coded.proofs.make_pow.Reads as make-pow-reads
 use Rattle.coded.proofs.put_pow.Reads as put-pow-reads
 use Rattle.sums.proofs.add_int.Reads as add-int-reads
-
-abbrev μ-add-any-pop : Measures 3 add-any-pop-kinds.ps ℕ
-μ-add-any-pop κs a = 4 * (1 + length (a .1 .1 .1 .0 .now) + length (a .1 .0 .now)) + 2
 
 abbrev μ-add-pop : Measures 3 add-pop-kinds.ps ℕ
 μ-add-pop κs a = 4 * (1 + length (a .1 .1 .0 .now) + length (a .1 .1 .1 .0 .now)) + 2
@@ -80,12 +74,6 @@ abbrev μ-add-pows-gt : Measures 5 add-pows-gt-kinds.ps ℕ
 
 abbrev μ-sum : Measures 3 sum-kinds.ps ℕ
 μ-sum κs a = 4 * (length (a .1 .0 .now) + length (a .1 .1 .0 .now)) + 3
-
-abbrev add-any-pop-at : ℕ → In 3 add-any-pop-kinds.ps
-add-any-pop-at t = and 3 add-any-pop-kinds.ps (is 3 add-any-pop-kinds.ps μ-add-any-pop t) add-any-pop.Pre
-
-abbrev add-any-pop-below : ℕ → In 3 add-any-pop-kinds.ps
-add-any-pop-below t = and 3 add-any-pop-kinds.ps (falls 3 add-any-pop-kinds.ps _<_ μ-add-any-pop t) add-any-pop.Pre
 
 abbrev add-pop-at : ℕ → In 3 add-pop-kinds.ps
 add-pop-at t = and 3 add-pop-kinds.ps (is 3 add-pop-kinds.ps μ-add-pop t) add-pop.Pre
@@ -159,18 +147,6 @@ Else2·add-pop t = add-pop-lts.Else2 (add-int-reads.Asked, add-int-reads.Learnt,
 is-pow·add-pop : (t : ℕ) (c : Else2·add-pop t) → let s = c .before .before .before .before .before .before in PowAt (s .args .width) (s .args .y .now)
 is-pow·add-pop t c = pow-at (c .before .before .before .before .before .before .pre .1 .0 .1) (c .before .if1 .left) (c .if2 .left)
 
-abbrev Then2·add-any-pop : ℕ → Type 0
-Then2·add-any-pop t = add-any-pop-lts.Then2 (add-int-reads.Asked, add-int-reads.Learnt, add-pops-below t, add-pops.Post, add-pop-pow-below t, add-pop-pow.Post) (add-any-pop-at t) add-any-pop.Post
-
-is-pop·add-any-pop : (t : ℕ) (c : Then2·add-any-pop t) → let s = c .before .before .before .before .before .before in PopAt (s .args .width) (s .args .x .now)
-is-pop·add-any-pop t c = pop-at (c .before .before .before .before .before .before .pre .1 .0 .0) (c .before .if1 .left) (c .if2 .taken)
-
-abbrev Else2·add-any-pop : ℕ → Type 0
-Else2·add-any-pop t = add-any-pop-lts.Else2 (add-int-reads.Asked, add-int-reads.Learnt, add-pops-below t, add-pops.Post, add-pop-pow-below t, add-pop-pow.Post) (add-any-pop-at t) add-any-pop.Post
-
-is-pow·add-any-pop : (t : ℕ) (c : Else2·add-any-pop t) → let s = c .before .before .before .before .before .before in PowAt (s .args .width) (s .args .x .now)
-is-pow·add-any-pop t c = pow-at (c .before .before .before .before .before .before .pre .1 .0 .0) (c .before .if1 .left) (c .if2 .left)
-
 abbrev Then2·add-pow : ℕ → Type 0
 Then2·add-pow t = add-pow-lts.Then2 (put-pow-reads.Asked, put-pow-reads.Learnt, add-int-reads.Asked, add-int-reads.Learnt, add-pop-pow-below t, add-pop-pow.Post, add-pows-below t, add-pows.Post) (add-pow-at t) add-pow.Post
 
@@ -233,62 +209,8 @@ b-size·add-pows-gt t c =
     let s = c .before .before .before .before .before .before .before .before .before .before .before .before .before in
     omega (arith, c .before .sum .ensures .size, sum-shorter (s .pre .1 .0 .0 .1) (s .pre .1 .0 .1 .1))
 
-pub +add-any-pop+add-pop+add-pop-pow+add-pops+add-pops-gt+add-pow+add-pows+add-pows-gt+sum-spec : {M : Type 1} → statement M
-+add-any-pop+add-pop+add-pop-pow+add-pops+add-pops-gt+add-pow+add-pows+add-pows-gt+sum-spec = close μ-add-any-pop μ-add-pop μ-add-pop-pow μ-add-pops μ-add-pops-gt μ-add-pow μ-add-pows μ-add-pows-gt μ-sum
-    -- add-any-pop
-    (λ t. add-any-pop-lts.spec (add-int-reads.Asked, add-int-reads.Learnt, add-pops-below t, add-pops.Post, add-pop-pow-below t, add-pop-pow.Post) (add-any-pop-at t) add-any-pop.Post
-    (λ c. omega (arith, some (c .before .before .before .before .pre .1 .0 .0)))
-    (λ c. omega (arith, good-pop (c .before .before .before .before .before .pre .1 .1 .0) .1 .0))
-    (λ c. omega (arith, some (c .before .before .before .before .before .pre .1 .0 .0)))
-    (λ c. simp length-set (omega (arith, some (c .before .before .before .before .before .pre .1 .0 .0))))
-    (λ c. simp length-set (omega (arith, some (c .before .before .before .before .before .pre .1 .0 .0))))
-    (λ c. search needs)
-    (λ c κs.
-    let s = c .before .before .before .before .before .before in
-    ((int-view (s .pre .1 .0 .0) (c .before .if1 .taken)) .below, (s .pre .1 .0 .1, omega (arith, some (s .pre .1 .0 .0), some (s .pre .1 .0 .1), length-after-set (s .args .out .now) (2147483648 + (s .args .i))))))
-    (λ c.
-    let s = c .before .before .before .before .before .before .before .before .before in
-    let b = c .before .before in
-    omega (arith, begins-le (b .add-int .ensures), b .add-int .kept .1 .1 .1 .0, length-after-set (s .args .out .now) (2147483648 + (s .args .i)), some (s .pre .1 .0 .0)))
-    (λ c. c .before .out .given .1 ∙ simp length-set)
-    (λ c.
-    let s = c .before .before .before .before .before .before .before .before .before in
-    begins-as
-    (begins-tail (begins-set (s .args .out .now) (2147483648 + (s .args .i)) (omega (arith, some (s .pre .1 .0 .0)))) (c .before .before .add-int .ensures))
-    (add-any-pop-int (s .pre .1 .1 .0) (int-view (s .pre .1 .0 .0) (c .before .before .before .before .if1 .taken))))
-    (λ c. omega (arith, c .before .shared-slice-known3 .given 0))
-    (λ c. omega (arith, is-pop·add-any-pop t c))
-    (λ c. omega (arith, is-pop·add-any-pop t c))
-    (λ c. search needs)
-    (λ c κs.
-    let s = c .before .before .before .before .before .before .before .before in
-    let v = is-pop·add-any-pop t (c .before .before) in
-    (omega (arith, v), ((v .part, s .pre .1 .0 .1), ((v .node, s .pre .1 .1 .0), omega (arith, v)))))
-    (λ c. search needs)
-    (λ c.
-    let s = c .before .before .before .before .before .before .before .before .before .before .before in
-    begins-as (c .before .before .add-pops .ensures)
-    (ap (λ h. enc (s .args .width) (sumOf (s .args .width) h (pop (s .args .i) (dec (s .args .width) (s .args .p .now))))) (sym (is-pop·add-any-pop t (c .before .before .before .before .before) .is))))
-    (λ c. omega (arith, is-pow·add-any-pop t c))
-    (λ c. search needs)
-    (λ c. search needs)
-    (λ c. omega (arith, is-pow·add-any-pop t c))
-    (λ c. omega (arith, is-pow·add-any-pop t (c .before), c .before .before .before .before .before .before .before .good .1 .0))
-    (λ c. omega (arith, is-pow·add-any-pop t (c .before)))
-    (λ c. omega (arith, is-pow·add-any-pop t (c .before)))
-    (λ c. search needs)
-    (λ c κs.
-    let s = c .before .before .before .before .before .before .before .before .before in
-    let v = is-pow·add-any-pop t (c .before .before .before) in (
-      omega (arith, v),
-      ((s .pre .1 .0 .1, (v .left, v .right)), ((s .pre .1 .1 .0, v .node), omega (arith, v))),
-    ))
-    (λ c. search needs)
-    (λ c.
-    let s = c .before .before .before .before .before .before .before .before .before .before .before .before in
-    let b = c .before .before .before .before .before .before in
-    begins-as (c .before .before .add-pop-pow .ensures)
-    (ap (enc (s .args .width)) (sym (pow-pop (s .pre .1 .1 .0) (is-pow·add-any-pop t b .node))) ∙ ap (λ h. enc (s .args .width) (sumOf (s .args .width) h (pop (s .args .i) (dec (s .args .width) (s .args .p .now))))) (sym (is-pow·add-any-pop t b .is)))))
+pub +add-pop+add-pop-pow+add-pops+add-pops-gt+add-pow+add-pows+add-pows-gt+sum-spec : {M : Type 1} → statement M
++add-pop+add-pop-pow+add-pops+add-pops-gt+add-pow+add-pows+add-pows-gt+sum-spec = close μ-add-pop μ-add-pop-pow μ-add-pops μ-add-pops-gt μ-add-pow μ-add-pows μ-add-pows-gt μ-sum
     -- add-pop
     (λ t. add-pop-lts.spec (add-int-reads.Asked, add-int-reads.Learnt, add-pops-below t, add-pops.Post, add-pop-pow-below t, add-pop-pow.Post) (add-pop-at t) add-pop.Post
     (λ c. omega (arith, some (c .before .before .before .before .pre .1 .0 .1)))
@@ -297,14 +219,17 @@ pub +add-any-pop+add-pop+add-pop-pow+add-pops+add-pops-gt+add-pow+add-pows+add-p
     (λ c. simp length-set (omega (arith, some (c .before .before .before .before .before .pre .1 .0 .1))))
     (λ c. simp length-set (omega (arith, some (c .before .before .before .before .before .pre .1 .0 .1))))
     (λ c. search needs)
+    -- add-int-requires
     (λ c κs.
     let s = c .before .before .before .before .before .before in
     ((int-view (s .pre .1 .0 .1) (c .before .if1 .taken)) .below, (s .pre .1 .0 .0, omega (arith, some (s .pre .1 .0 .1), some (s .pre .1 .0 .0), length-after-set (s .args .out .now) (2147483648 + (s .args .i))))))
+    -- add-result
     (λ c.
     let s = c .before .before .before .before .before .before .before .before .before in
     let b = c .before .before in
     omega (arith, begins-le (b .add-int .ensures), b .add-int .kept .1 .1 .1 .0, length-after-set (s .args .out .now) (2147483648 + (s .args .i)), some (s .pre .1 .0 .1)))
     (λ c. c .before .out .given .1 ∙ simp length-set)
+    -- returns
     (λ c.
     let s = c .before .before .before .before .before .before .before .before .before in
     begins-as
@@ -314,11 +239,13 @@ pub +add-any-pop+add-pop+add-pop-pow+add-pops+add-pops-gt+add-pow+add-pows+add-p
     (λ c. omega (arith, is-pop·add-pop t c))
     (λ c. omega (arith, is-pop·add-pop t c))
     (λ c. search needs)
+    -- add-pops-requires
     (λ c κs.
     let s = c .before .before .before .before .before .before .before .before in
     let v = is-pop·add-pop t (c .before .before) in
     (omega (arith, v), ((s .pre .1 .0 .0, v .part), ((s .pre .1 .1 .0, v .node), omega (arith, v)))))
     (λ c. search needs)
+    -- returns-2
     (λ c.
     let s = c .before .before .before .before .before .before .before .before .before .before .before in
     begins-as (c .before .before .add-pops .ensures)
@@ -331,6 +258,7 @@ pub +add-any-pop+add-pop+add-pop-pow+add-pops+add-pops-gt+add-pow+add-pows+add-p
     (λ c. omega (arith, is-pow·add-pop t (c .before)))
     (λ c. omega (arith, is-pow·add-pop t (c .before)))
     (λ c. search needs)
+    -- add-pop-pow-requires
     (λ c κs.
     let s = c .before .before .before .before .before .before .before .before .before in
     let v = is-pow·add-pop t (c .before .before .before) in (
@@ -338,12 +266,14 @@ pub +add-any-pop+add-pop+add-pop-pow+add-pops+add-pops-gt+add-pow+add-pows+add-p
       ((s .pre .1 .0 .0, (v .left, v .right)), ((s .pre .1 .1 .0, v .node), omega (arith, v))),
     ))
     (λ c. search needs)
+    -- returns-3
     (λ c.
     let s = c .before .before .before .before .before .before .before .before .before .before .before .before in
     begins-as (c .before .before .add-pop-pow .ensures)
     (ap (λ h. enc (s .args .width) (sumOf (s .args .width) (pop (s .args .i) (dec (s .args .width) (s .args .p .now))) h)) (sym (is-pow·add-pop t (c .before .before .before .before .before .before) .is)))))
     -- add-pop-pow
-    (λ t. add-pop-pow-lts.spec (put-pow-reads.Asked, put-pow-reads.Learnt, sum-below t, sum.Post, add-any-pop-below t, add-any-pop.Post) (add-pop-pow-at t) add-pop-pow.Post
+    (λ t. add-pop-pow-lts.spec (put-pow-reads.Asked, put-pow-reads.Learnt, sum-below t, sum.Post, add-pop-below t, add-pop.Post) (add-pop-pow-at t) add-pop-pow.Post
+    -- put-pow-requires
     (λ c κs.
     let s = c .before .before .before .before .before in
     (good-pow (s .pre .1 .1 .0 .1) .1 .0, omega (arith, some (s .pre .1 .0 .0), some (s .pre .1 .0 .1 .1))))
@@ -351,16 +281,19 @@ pub +add-any-pop+add-pop+add-pop-pow+add-pops+add-pops-gt+add-pow+add-pows+add-p
     (λ c. search needs)
     (λ c. search needs)
     (λ c. search needs)
+    -- sum-requires
     (λ c κs.
     let s = c .before .before .before .before .before .before .before .before .before .before in
     let b = c .before .before .before .before in
     (omega (arith, some (s .pre .1 .0 .1 .0)), ((s .pre .1 .0 .1 .1, s .pre .1 .0 .0), omega (arith, b .put-pow .ensures .size, b .put-pow .kept .1 .1 .0, length-tail-part (b .put-pow .result) (b .put-pow .last .1 .1 .0), some (s .pre .1 .0 .0)))))
+    -- add-result
     (λ c.
     let s = c .before .before .before .before .before .before .before .before .before .before .before .before .before in
     let b = c .before .before .before .before .before .before .before in
     let d = c .before .before in
     omega (arith, begins-le (d .sum .ensures), d .sum .kept .1 .1 .1 .0, length-tail-part (b .put-pow .result) (b .put-pow .last .1 .1 .0), b .put-pow .ensures .size, b .put-pow .kept .1 .1 .0, some (s .pre .1 .0 .0), some (s .pre .1 .0 .1 .1)))
     (λ c. search needs)
+    -- returns
     (λ c.
     let s = c .before .before .before .before .before .before .before .before .before .before .before .before .before in
     begins-as (begins-tail (c .before .before .before .before .before .before .before .put-pow .ensures) (c .before .before .sum .ensures))
@@ -370,30 +303,35 @@ pub +add-any-pop+add-pop+add-pop-pow+add-pops+add-pops-gt+add-pow+add-pows+add-p
     (λ c. search needs)
     (λ c. search needs)
     (λ c. search needs)
+    -- add-pop-requires
     (λ c κs.
     let s = c .before .before .before .before .before .before .before .before .before .before in
     let b = c .before .before .before .before in (
       omega (arith, some (s .pre .1 .0 .1 .0)),
-      ((s .pre .1 .0 .1 .1, s .pre .1 .0 .0), (good-less-pop 1 (omega (arith, good-pop (s .pre .1 .1 .0 .0) .0, c .before .if1 .left)) (s .pre .1 .1 .0 .0), omega (arith, b .put-pow .ensures .size, b .put-pow .kept .1 .1 .0, length-tail-part (b .put-pow .result) (b .put-pow .last .1 .1 .0), some (s .pre .1 .0 .0)))),
+      ((s .pre .1 .0 .0, s .pre .1 .0 .1 .1), (good-less-pop 1 (omega (arith, good-pop (s .pre .1 .1 .0 .0) .0, c .before .if1 .left)) (s .pre .1 .1 .0 .0), omega (arith, b .put-pow .ensures .size, b .put-pow .kept .1 .1 .0, length-tail-part (b .put-pow .result) (b .put-pow .last .1 .1 .0), some (s .pre .1 .0 .0)))),
     ))
+    -- add-result-2
     (λ c.
     let s = c .before .before .before .before .before .before .before .before .before .before .before .before .before in
     let b = c .before .before .before .before .before .before .before in
     let d = c .before .before in
-    omega (arith, begins-le (d .add-any-pop .ensures), d .add-any-pop .kept .1 .1 .1 .1 .0, length-tail-part (b .put-pow .result) (b .put-pow .last .1 .1 .0), b .put-pow .ensures .size, b .put-pow .kept .1 .1 .0, some (s .pre .1 .0 .0), some (s .pre .1 .0 .1 .1)))
+    omega (arith, begins-le (d .add-pop .ensures), d .add-pop .kept .1 .1 .1 .1 .0, length-tail-part (b .put-pow .result) (b .put-pow .last .1 .1 .0), b .put-pow .ensures .size, b .put-pow .kept .1 .1 .0, some (s .pre .1 .0 .0), some (s .pre .1 .0 .1 .1)))
     (λ c. search needs)
+    -- returns-2
     (λ c.
     let s = c .before .before .before .before .before .before .before .before .before .before .before .before .before in
-    begins-as (begins-tail (c .before .before .before .before .before .before .before .put-pow .ensures) (c .before .before .add-any-pop .ensures))
+    begins-as (begins-tail (c .before .before .before .before .before .before .before .put-pow .ensures) (c .before .before .add-pop .ensures))
     (add-pop-pow-more (s .pre .1 .0 .1 .0) (s .pre .1 .1 .0 .0) (s .pre .1 .1 .0 .1) (c .before .before .before .before .if1 .left))))
     -- add-pops
     (λ t. add-pops-lts.spec (sum-below t, sum.Post, make-pop-reads.Asked, make-pop-reads.Learnt, add-pops-gt-below t, add-pops-gt.Post) (add-pops-at t) add-pops.Post
     (λ c. search needs)
     (λ c. search needs)
     (λ c. search needs)
+    -- sum-requires
     (λ c κs.
     let s = c .before .before .before .before .before in
     (omega arith, ((s .pre .1 .0 .0, s .pre .1 .0 .1), omega (arith, length-tail-part 1 (s .args .out .now), some (s .pre .1 .0 .0), some (s .pre .1 .0 .1)))))
+    -- make-pop-requires
     (λ c κs.
     let s = c .before .before .before .before .before .before .before .before .before in
     let b = c .before .before .before in
@@ -402,35 +340,40 @@ pub +add-any-pop+add-pop+add-pop-pow+add-pops+add-pops-gt+add-pow+add-pows+add-p
       (coded m, (good-pop (s .pre .1 .1 .0 .0) .0, pop-asks (s .args .i) m (pops-eq (s .pre .1 .1 .0 .0) (s .pre .1 .1 .0 .1) (c .before .before .before .before .before .if1 .taken)) (sum-good (s .pre .1 .1 .0 .0) (s .pre .1 .1 .0 .1)))),
     ))
     (λ c. search needs)
+    -- returns
     (λ c.
     let s = c .before .before .before .before .before .before .before .before .before .before .before .before in
     pop-gives (s .args .i)
     (made-codes 1 (s .args .out .now) _ _ (omega (arith, some (s .pre .1 .0 .0))) (c .before .before .before .before .before .before .sum .ensures) (sum-good (s .pre .1 .0 .0 .good) (s .pre .1 .0 .1 .good)))
     (pops-eq (s .pre .1 .1 .0 .0) (s .pre .1 .1 .0 .1) (c .before .before .before .before .before .before .before .before .if1 .taken))
     (c .before .before .make-pop .ensures))
+    -- add-pops-gt-requires
     (λ c κs.
     let s = c .before .before .before .before .before .before in
     (omega arith, ((s .pre .1 .0 .0, s .pre .1 .0 .1), ((s .pre .1 .1 .0 .0, s .pre .1 .1 .0 .1), (s .pre .1 .1 .1, c .before .if2 .taken)))))
     (λ c. search needs)
     (λ c. c .before .before .add-pops-gt .ensures)
+    -- add-pops-gt-requires-2
     (λ c κs.
     let s = c .before .before .before .before .before .before in
     (omega arith, ((s .pre .1 .0 .1, s .pre .1 .0 .0), ((s .pre .1 .1 .0 .1, s .pre .1 .1 .0 .0), (omega arith, omega (arith, c .before .before .if1 .left, c .before .if2 .left))))))
     (λ c. search needs)
+    -- returns-3
     (λ c.
     let s = c .before .before .before .before .before .before .before .before .before in
-    let l : (s .args .i) < (s .args .j) = omega (arith, c .before .before .before .before .before .if1 .left, c .before .before .before .before .if2 .left) in
     begins-as (c .before .before .add-pops-gt2 .ensures)
-    (ap (enc (s .args .width)) (pops-gt (s .pre .1 .1 .0 .1) (s .pre .1 .1 .0 .0) l ∙ sym (pops-lt (s .pre .1 .1 .0 .0) (s .pre .1 .1 .0 .1) l)))))
+    (ap (enc (s .args .width)) (sum-comm (s .args .width) (pop (s .args .j) (dec (s .args .width) (s .args .q .now))) (pop (s .args .i) (dec (s .args .width) (s .args .p .now)))))))
     -- add-pops-gt
     (λ t. add-pops-gt-lts.spec (add-pop-below t, add-pop.Post, make-pop-reads.Asked, make-pop-reads.Learnt) (add-pops-gt-at t) add-pops-gt.Post
     (λ c. search needs)
     (λ c. search needs)
     (λ c. search needs)
     (λ c. search needs)
+    -- add-pop-requires
     (λ c κs.
     let s = c .before .before .before .before in
     (omega arith, ((s .pre .1 .0 .0, s .pre .1 .0 .1), ((good-less-pop (s .args .j) (s .pre .1 .1 .1 .1) (s .pre .1 .1 .0 .0)), omega (arith, length-tail-part 1 (s .args .out .now), some (s .pre .1 .0 .0), some (s .pre .1 .0 .1))))))
+    -- make-pop-requires
     (λ c κs.
     let s = c .before .before .before .before .before .before .before .before in
     let b = c .before .before .before in
@@ -439,6 +382,7 @@ pub +add-any-pop+add-pop+add-pop-pow+add-pops+add-pops-gt+add-pow+add-pows+add-p
       (coded m, (good-pop (s .pre .1 .1 .0 .1) .0, pop-asks (s .args .j) m (pops-gt (s .pre .1 .1 .0 .0) (s .pre .1 .1 .0 .1) (s .pre .1 .1 .1 .1)) (sum-good (s .pre .1 .1 .0 .0) (s .pre .1 .1 .0 .1)))),
     ))
     (λ c. search needs)
+    -- returns
     (λ c.
     let s = c .before .before .before .before .before .before .before .before .before .before .before in
     pop-gives (s .args .j)
@@ -447,29 +391,35 @@ pub +add-any-pop+add-pop+add-pop-pow+add-pops+add-pops-gt+add-pow+add-pows+add-p
     -- add-pow
     (λ t. add-pow-lts.spec (put-pow-reads.Asked, put-pow-reads.Learnt, add-int-reads.Asked, add-int-reads.Learnt, add-pop-pow-below t, add-pop-pow.Post, add-pows-below t, add-pows.Post) (add-pow-at t) add-pow.Post
     (λ c. omega (arith, some (c .before .before .before .before .before .pre .1 .0 .1 .1)))
+    -- put-pow-requires
     (λ c κs.
     let s = c .before .before .before .before .before .before .before in
     (good-pow (s .pre .1 .1 .0) .1 .0, omega (arith, some (s .pre .1 .0 .1 .1), some (s .pre .1 .0 .1 .0))))
     (λ c. search needs)
+    -- sub-add-int
     (λ c.
     let s = c .before .before .before .before .before .before .before .before .before .before in
     let b = c .before .before in
     omega (arith, b .put-pow .ensures .size, b .put-pow .kept .1 .1 .0, some (s .pre .1 .0 .1 .1), some (s .pre .1 .0 .1 .0)))
+    -- part-add-int-start
     (λ c.
     let s = c .before .before .before .before .before .before .before .before .before .before in
     let b = c .before .before in
     omega (arith, b .put-pow .ensures .size, b .put-pow .kept .1 .1 .0, some (s .pre .1 .0 .1 .1), some (s .pre .1 .0 .1 .0)))
     (λ c. search needs)
+    -- add-int-requires
     (λ c κs.
     let s = c .before .before .before .before .before .before .before .before .before .before .before in
     let b = c .before .before .before in
     ((int-view (s .pre .1 .0 .1 .1) (c .before .before .before .before .before .if1 .taken)) .below, (s .pre .1 .0 .1 .0, omega (arith, some (s .pre .1 .0 .1 .1), b .put-pow .ensures .size, b .put-pow .kept .1 .1 .0, length-tail-part (b .put-pow .result) (b .put-pow .last .1 .1 .0)))))
+    -- add-result
     (λ c.
     let s = c .before .before .before .before .before .before .before .before .before .before .before .before .before .before in
     let b = c .before .before .before .before .before .before in
     let d = c .before .before in
     omega (arith, begins-le (d .add-int .ensures), d .add-int .kept .1 .1 .1 .0, length-tail-part (b .put-pow .result) (b .put-pow .last .1 .1 .0), b .put-pow .ensures .size, b .put-pow .kept .1 .1 .0, some (s .pre .1 .0 .1 .1), some (s .pre .1 .0 .1 .0)))
     (λ c. search needs)
+    -- returns
     (λ c.
     let s = c .before .before .before .before .before .before .before .before .before .before .before .before .before .before in
     begins-as (begins-tail (c .before .before .before .before .before .before .put-pow .ensures) (c .before .before .add-int .ensures))
@@ -478,16 +428,17 @@ pub +add-any-pop+add-pop+add-pop-pow+add-pops+add-pops-gt+add-pow+add-pows+add-p
     (λ c. omega (arith, is-pop·add-pow t c))
     (λ c. omega (arith, is-pop·add-pow t c))
     (λ c. search needs)
+    -- add-pop-pow-requires
     (λ c κs.
     let s = c .before .before .before .before .before .before .before .before .before in
     let v = is-pop·add-pow t (c .before .before) in
     (omega (arith, v), ((v .part, (s .pre .1 .0 .0, s .pre .1 .0 .1 .0)), ((v .node, s .pre .1 .1 .0), omega (arith, v)))))
     (λ c. search needs)
+    -- returns-2
     (λ c.
     let s = c .before .before .before .before .before .before .before .before .before .before .before .before in
-    let b = c .before .before .before .before .before in
     begins-as (c .before .before .add-pop-pow .ensures)
-    (ap (enc (s .args .width)) (sym (pow-pop (is-pop·add-pow t b .node) (s .pre .1 .1 .0))) ∙ ap (λ h. enc (s .args .width) (sumOf (s .args .width) (pow (s .args .i) (dec (s .args .width) (s .args .p .now)) (dec (s .args .width) (s .args .q .now))) h)) (sym (is-pop·add-pow t b .is))))
+    (ap (enc (s .args .width)) (sum-comm (s .args .width) (pop (getD (s .args .y .now) 0 0 % 64) (dec (s .args .width) (inner (s .args .y .now)))) (pow (s .args .i) (dec (s .args .width) (s .args .p .now)) (dec (s .args .width) (s .args .q .now))) ∙ ap (sumOf (s .args .width) (pow (s .args .i) (dec (s .args .width) (s .args .p .now)) (dec (s .args .width) (s .args .q .now)))) (sym (is-pop·add-pow t (c .before .before .before .before .before) .is)))))
     (λ c. omega (arith, is-pow·add-pow t c))
     (λ c. search needs)
     (λ c. search needs)
@@ -496,6 +447,7 @@ pub +add-any-pop+add-pop+add-pop-pow+add-pops+add-pops-gt+add-pow+add-pows+add-p
     (λ c. omega (arith, is-pow·add-pow t (c .before)))
     (λ c. omega (arith, is-pow·add-pow t (c .before)))
     (λ c. search needs)
+    -- add-pows-requires
     (λ c κs.
     let s = c .before .before .before .before .before .before .before .before .before .before in
     let v = is-pow·add-pow t (c .before .before .before) in (
@@ -503,6 +455,7 @@ pub +add-any-pop+add-pop+add-pop-pow+add-pops+add-pops-gt+add-pow+add-pows+add-p
       (((s .pre .1 .0 .0, s .pre .1 .0 .1 .0), (v .left, v .right)), ((s .pre .1 .1 .0, v .node), omega (arith, v))),
     ))
     (λ c. search needs)
+    -- returns-3
     (λ c.
     let s = c .before .before .before .before .before .before .before .before .before .before .before .before .before in
     begins-as (c .before .before .add-pows .ensures)
@@ -512,6 +465,7 @@ pub +add-any-pop+add-pop+add-pop-pow+add-pops+add-pops-gt+add-pow+add-pows+add-p
     (λ c. search needs)
     (λ c. search needs)
     (λ c. search needs)
+    -- sum-requires
     (λ c κs.
     let s = c .before .before .before .before .before .before .before in
     (omega arith, ((s .pre .1 .0 .0 .0, s .pre .1 .0 .1 .0), omega (arith, length-tail-part 1 (s .args .out .now), some (s .pre .1 .0 .0 .1), some (s .pre .1 .0 .1 .1)))))
@@ -520,10 +474,12 @@ pub +add-any-pop+add-pop+add-pop-pow+add-pops+add-pops-gt+add-pow+add-pows+add-p
     (λ c. omega (arith, a-size·add-pows t (c .before .before), c .before .out .given .1))
     (λ c. omega (arith, a-size·add-pows t (c .before .before), c .before .out .given .1))
     (λ c. search needs)
+    -- sum-requires-2
     (λ c κs.
     let s = c .before .before .before .before .before .before .before .before .before .before .before in
     let b = c .before .before .before in
     (omega (arith, some (s .pre .1 .0 .0 .0), some (s .pre .1 .0 .1 .0)), ((s .pre .1 .0 .0 .1, s .pre .1 .0 .1 .1), omega (arith, a-size·add-pows t b, c .before .before .out .given .1, length-tail-part (1 + (b .sum .result)) (putMid 1 (length (s .args .out .now) - 1) (s .args .out .now) (b .sum .last .1 .1 .1 .0))))))
+    -- make-pow-requires
     (λ c κs.
     let s = c .before .before .before .before .before .before .before .before .before .before .before .before .before .before .before in
     let b = c .before .before .before .before .before .before .before in
@@ -537,6 +493,7 @@ pub +add-any-pop+add-pop+add-pop-pow+add-pops+add-pops-gt+add-pow+add-pows+add-p
       ),
     ))
     (λ c. search needs)
+    -- returns
     (λ c.
     let s = c .before .before .before .before .before .before .before .before .before .before .before .before .before .before .before .before .before .before in
     let b = c .before .before .before .before .before .before .before .before .before .before in
@@ -545,20 +502,22 @@ pub +add-any-pop+add-pop+add-pop-pow+add-pops+add-pops-gt+add-pow+add-pows+add-p
     (two-made (s .args .out .now) _ _ (b .sum .result) (d .sum2 .result) (omega (arith, some (s .pre .1 .0 .0 .0), s .pre .1 .1 .1)) (omega (arith, a-size·add-pows t b, c .before .before .before .before .before .before .before .before .before .out .given .1, s .pre .1 .1 .1)) (b .sum .ensures) (sum-good (s .pre .1 .0 .0 .0 .good) (s .pre .1 .0 .1 .0 .good)) (d .sum2 .ensures) (sum-good (s .pre .1 .0 .0 .1 .good) (s .pre .1 .0 .1 .1 .good)))
     (pows-eq (s .pre .1 .1 .0 .0) (s .pre .1 .1 .0 .1) (c .before .before .before .before .before .before .before .before .before .before .before .before .if1 .taken))
     (c .before .before .make-pow .ensures))
+    -- add-pows-gt-requires
     (λ c κs.
     let s = c .before .before .before .before .before .before .before .before in
     (omega arith, (((s .pre .1 .0 .0 .0, s .pre .1 .0 .0 .1), (s .pre .1 .0 .1 .0, s .pre .1 .0 .1 .1)), ((s .pre .1 .1 .0 .0, s .pre .1 .1 .0 .1), (s .pre .1 .1 .1, c .before .if2 .taken)))))
     (λ c. search needs)
     (λ c. c .before .before .add-pows-gt .ensures)
+    -- add-pows-gt-requires-2
     (λ c κs.
     let s = c .before .before .before .before .before .before .before .before in
     (omega arith, (((s .pre .1 .0 .1 .0, s .pre .1 .0 .1 .1), (s .pre .1 .0 .0 .0, s .pre .1 .0 .0 .1)), ((s .pre .1 .1 .0 .1, s .pre .1 .1 .0 .0), (omega arith, omega (arith, c .before .before .if1 .left, c .before .if2 .left))))))
     (λ c. search needs)
+    -- returns-3
     (λ c.
     let s = c .before .before .before .before .before .before .before .before .before .before .before in
-    let l : (s .args .i) < (s .args .j) = omega (arith, c .before .before .before .before .before .if1 .left, c .before .before .before .before .if2 .left) in
     begins-as (c .before .before .add-pows-gt2 .ensures)
-    (ap (enc (s .args .width)) (pows-gt (s .pre .1 .1 .0 .1) (s .pre .1 .1 .0 .0) l ∙ sym (pows-lt (s .pre .1 .1 .0 .0) (s .pre .1 .1 .0 .1) l)))))
+    (ap (enc (s .args .width)) (sum-comm (s .args .width) (pow (s .args .j) (dec (s .args .width) (s .args .r .now)) (dec (s .args .width) (s .args .s .now))) (pow (s .args .i) (dec (s .args .width) (s .args .p .now)) (dec (s .args .width) (s .args .q .now)))))))
     -- add-pows-gt
     (λ t. add-pows-gt-lts.spec (add-pow-below t, add-pow.Post, sum-below t, sum.Post, make-pow-reads.Asked, make-pow-reads.Learnt) (add-pows-gt-at t) add-pows-gt.Post
     (λ c. search needs)
@@ -566,6 +525,7 @@ pub +add-any-pop+add-pop+add-pop-pow+add-pops+add-pops-gt+add-pow+add-pows+add-p
     (λ c. search needs)
     (λ c. search needs)
     (λ c. search needs)
+    -- add-pow-requires
     (λ c κs.
     let s = c .before .before .before .before .before .before .before in (
       omega (arith, some (s .pre .1 .0 .0 .1), some (s .pre .1 .0 .1 .1)),
@@ -576,17 +536,21 @@ pub +add-any-pop+add-pop+add-pop-pow+add-pops+add-pops-gt+add-pow+add-pows+add-p
     ))
     (λ c. omega (arith, a-size·add-pows-gt t (c .before .before)))
     (λ c. omega (arith, a-size·add-pows-gt t (c .before .before)))
+    -- sub-sum
     (λ c.
     let s = c .before .before .before .before .before .before .before .before .before .before in
     omega (arith, a-size·add-pows-gt t (c .before .before), c .before .out .given .1, some (s .pre .1 .0 .0 .1), some (s .pre .1 .0 .1 .1)))
+    -- part-sum-start
     (λ c.
     let s = c .before .before .before .before .before .before .before .before .before .before in
     omega (arith, a-size·add-pows-gt t (c .before .before), c .before .out .given .1, some (s .pre .1 .0 .0 .1), some (s .pre .1 .0 .1 .1)))
     (λ c. search needs)
+    -- sum-requires
     (λ c κs.
     let s = c .before .before .before .before .before .before .before .before .before .before .before in
     let b = c .before .before .before in
     (omega (arith, some (s .pre .1 .0 .0 .0), some (s .pre .1 .0 .1 .0)), ((s .pre .1 .0 .0 .1, s .pre .1 .0 .1 .1), omega (arith, a-size·add-pows-gt t b, c .before .before .out .given .1, length-tail-part (1 + (b .add-pow .result)) (putMid 1 (length (s .args .out .now) - 1) (s .args .out .now) (b .add-pow .last .1 .1 .1 .1 .1 .0)), some (s .pre .1 .0 .0 .1), some (s .pre .1 .0 .1 .1)))))
+    -- make-pow-requires
     (λ c κs.
     let s = c .before .before .before .before .before .before .before .before .before .before .before .before .before .before .before in
     let b = c .before .before .before .before .before .before .before in
@@ -600,6 +564,7 @@ pub +add-any-pop+add-pop+add-pop-pow+add-pops+add-pops-gt+add-pow+add-pows+add-p
       ),
     ))
     (λ c. search needs)
+    -- returns
     (λ c.
     let s = c .before .before .before .before .before .before .before .before .before .before .before .before .before .before .before .before .before .before in
     let b = c .before .before .before .before .before .before .before .before .before .before in
@@ -609,10 +574,12 @@ pub +add-any-pop+add-pop+add-pop-pow+add-pops+add-pops-gt+add-pow+add-pows+add-p
     (pows-gt (s .pre .1 .1 .0 .0) (s .pre .1 .1 .0 .1) (s .pre .1 .1 .1 .1)) (c .before .before .make-pow .ensures))) λ t.
     sum-lts.spec (add-int-reads.Asked, add-int-reads.Learnt, add-pop-below t, add-pop.Post, add-pow-below t, add-pow.Post) (sum-at t) sum.Post
     (λ c. omega (arith, some (c .before .before .before .before .pre .1 .0 .0)))
+    -- add-int-requires
     (λ c κs.
     let s = c .before .before .before .before .before .before in
     ((int-view (s .pre .1 .0 .0) (c .before .if1 .taken)) .below, (s .pre .1 .0 .1, omega (arith, some (s .pre .1 .0 .0)))))
     (λ c. search needs)
+    -- returns
     (λ c.
     let s = c .before .before .before .before .before .before .before .before .before in
     begins-as (c .before .before .add-int .ensures)
@@ -621,10 +588,12 @@ pub +add-any-pop+add-pop+add-pop-pow+add-pops+add-pops-gt+add-pow+add-pows+add-p
     (λ c. omega (arith, is-pop·sum t c))
     (λ c. omega (arith, is-pop·sum t c))
     (λ c. search needs)
+    -- add-pop-requires
     (λ c κs.
     let v = is-pop·sum t (c .before .before) in
     (omega (arith, v), ((v .part, c .before .before .before .before .before .before .before .before .pre .1 .0 .1), (v .node, omega (arith, v)))))
     (λ c. search needs)
+    -- returns-2
     (λ c.
     let s = c .before .before .before .before .before .before .before .before .before .before .before in
     begins-as (c .before .before .add-pop .ensures)
@@ -637,12 +606,14 @@ pub +add-any-pop+add-pop+add-pop-pow+add-pops+add-pops-gt+add-pow+add-pows+add-p
     (λ c. omega (arith, is-pow·sum t (c .before)))
     (λ c. omega (arith, is-pow·sum t (c .before)))
     (λ c. search needs)
+    -- add-pow-requires
     (λ c κs.
     let v = is-pow·sum t (c .before .before .before) in (
       omega (arith, v),
       ((v .left, (v .right, c .before .before .before .before .before .before .before .before .before .pre .1 .0 .1)), (v .node, omega (arith, v))),
     ))
     (λ c. search needs)
+    -- returns-3
     (λ c.
     let s = c .before .before .before .before .before .before .before .before .before .before .before .before in
     begins-as (c .before .before .add-pow .ensures)
