@@ -10,13 +10,15 @@ use Rattle.texts.specs.definitions.Answer.{Reading, read, refused}
 use Rattle.texts.specs.definitions.Bytes.{capital, inRow, indexIn}
 use Rattle.texts.specs.definitions.Limits.{measured}
 use Rattle.texts.specs.definitions.Numerals.{valueFrom, dec}
-use Rattle.texts.specs.definitions.Tokens.{Token, closing}
+use Rattle.texts.specs.definitions.Tokens.{Token, closing, word}
 use Rattle.texts.specs.definitions.Tree.{Tree, placed, letters, termOf}
 use Rattle.tokens.specs.declared.Reader.{Reader}
 use Rattle.tokens.specs.Views.{from}
-use Rattle.words.specs.Words.{isInteger}
+use Rattle.words.specs.Words.{isInteger, operatorOf}
 use Rattle.syntax.specs.Machine.{pick}
+use Rattle.measures.specs.declared.Closing.{Closing}
 use Rattle.measures.specs.declared.Measures.{Measures}
+use Rattle.measures.specs.declared.Operator.{Operator}
 use Rattle.measures.specs.declared.Sub.{Sub}
 use Rattle.measures.specs.declared.Sub.the-variants.{Refused, Done, Broken}
 use Rattle.measures.specs.Measuring.{measuresOf, Small, powM, limitM, judged}
@@ -70,3 +72,22 @@ abbrev pub Finds : List ℕ → List ℕ → Tree → List Token → Sub → Typ
 Finds row s x rest (Refused e p) = measured row x ≡ refused e p
 Finds row s x rest (Done m nx) = (measured row x ≡ read x) × ((m ≡ measuresOf (length row) (termOf row x)) × (from s (nx .at) ≡ rest))
 Finds row s x rest Broken = ⊥
+
+-- ---- the tokens on the way
+pub record OperatorAt (s : List ℕ) (at : ℕ) (r : Operator) : Type 0 where
+  pub safe : (r .code ≡ 0 → ⊥) → (at < r .next .at) × (r .next .at ≤ length s)
+  pub found : (o : ℕ) (w : List ℕ) (rest : List Token) → from s at ≡ word o w ∷ rest → (r .code ≡ operatorOf w) × (from s (r .next .at) ≡ rest)
+
+pub record ClosingAt (s : List ℕ) (at : ℕ) (r : Closing) : Type 0 where
+  pub safe : r .yes ≡ true → (at < r .next .at) × (r .next .at ≤ length s)
+  pub found : (c : ℕ) (rest : List Token) → from s at ≡ closing c ∷ rest → (r .yes ≡ true) × (from s (r .next .at) ≡ rest)
+  pub other : (t : Tree) (rest : List Token) → from s at ≡ placed t ++ rest → r .yes ≡ false
+
+pub record ExponentAt (s : List ℕ) (at : ℕ) (a : Measures) (p : ℕ) (r : Sub) : Type 0 where
+  pub safe : Safe s at r
+  pub found : (q k c : ℕ) (rest : List Token) → from s at ≡ word q (dec k) ∷ (closing c ∷ rest) → Raises s a p k rest r
+
+-- whatever stands at the place
+pub record MeasuredAt (row s : List ℕ) (at : ℕ) (r : Sub) : Type 0 where
+  pub safe : Safe s at r
+  pub found : (x : Tree) (rest : List Token) → Stands row s at x rest → Finds row s x rest r

@@ -6,3 +6,4 @@ pub mod Nodes
 pub mod Found
 pub mod Integers
 pub mod Judging
+pub mod Steps

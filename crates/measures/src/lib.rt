@@ -9,7 +9,7 @@ ghost use lib.Dec.{eqb};
 ghost use Rattle.words.specs.Words.{isInteger};
 ghost use Rattle.syntax.specs.Machine.{pick};
 ghost use Rattle.measures.specs.Measuring.{boxM, addM, mulM, powM, limitM, Small, judged};
-ghost use Rattle.measures.specs.Found.{magnitudeOf, wordM, Closes, Powers};
+ghost use Rattle.measures.specs.Found.{magnitudeOf, wordM, Closes, Powers, OperatorAt, ClosingAt, ExponentAt};
 
 // Of a subterm: its weight, its terms and its degree in each of four variables.
 pub struct Measures {
@@ -241,4 +241,92 @@ fn powered(s: &[u8], w: &[u8], a: Measures, p: usize, reader: Reader) -> Sub
         return Sub::Refused(8, p);
     }
     closed(s, raise(a, k), p, reader)
+}
+
+// The operator's code where the reader is (as words::operator_of; 0 where no word stands), and the reader past it.
+struct Operator {
+    code: u32,
+    next: Reader,
+}
+
+fn operator_at(s: &[u8], reader: Reader) -> Operator
+    requires { ⌜ reader .at ≤ length (now s) ⌝ }
+    ensures { λ r. ⌜ OperatorAt (now (s .entry)) (reader .at) r ⌝ }
+{
+    let step = reader.next(s);
+    match step {
+        Step::Word { from, next } => {
+            let e = next.at;
+            Operator {
+                code: words::operator_of(&s[from..e]),
+                next,
+            }
+        }
+        Step::Open(_, next) => Operator { code: 0, next },
+        Step::Close(_, next) => Operator { code: 0, next },
+        Step::End => Operator {
+            code: 0,
+            next: reader,
+        },
+    }
+}
+
+// Whether a `)` stands where the reader is, and the reader past it.
+struct Closing {
+    yes: bool,
+    next: Reader,
+}
+
+fn closing_at(s: &[u8], reader: Reader) -> Closing
+    requires { ⌜ reader .at ≤ length (now s) ⌝ }
+    ensures { λ r. ⌜ ClosingAt (now (s .entry)) (reader .at) r ⌝ }
+{
+    let step = reader.next(s);
+    match step {
+        Step::Close(_, next) => Closing { yes: true, next },
+        Step::Open(_, next) => Closing { yes: false, next },
+        Step::Word { from: _, next } => Closing { yes: false, next },
+        Step::End => Closing {
+            yes: false,
+            next: reader,
+        },
+    }
+}
+
+// The subterm at p: a power of what has the measures a, with its exponent where the reader is.
+fn exponent(s: &[u8], a: Measures, p: usize, reader: Reader) -> Sub
+    requires { ⌜ Small a × (reader .at ≤ length (now s)) ⌝ }
+    ensures { λ r. ⌜ ExponentAt (now (s .entry)) (reader .at) a p r ⌝ }
+{
+    let step = reader.next(s);
+    match step {
+        Step::Word { from, next } => {
+            let e = next.at;
+            powered(s, &s[from..e], a, p, next)
+        }
+        Step::Open(_, _) => Sub::Broken,
+        Step::Close(_, _) => Sub::Broken,
+        Step::End => Sub::Broken,
+    }
+}
+
+// Of two subterms under an operator: 3 is `*`, 1 and 2 are `+` and `-`.
+fn joined(g: u32, a: Measures, b: Measures) -> Measures
+    requires { ⌜ Small a × Small b ⌝ }
+    ensures { λ r. ⌜ r ≡ pick (eqb g 3) (mulM a b) (addM a b) ⌝ }
+{
+    if g == 3 {
+        return multiply(a, b);
+    }
+    add(a, b)
+}
+
+// The end of `(- x)`, if the operator is `-`.
+fn minus(g: u32, a: Measures, next: Reader) -> Sub
+    ensures { λ r. ⌜ r ≡ pick (eqb g 2) (Sub.Done a next) Sub.Broken ⌝ }
+{
+    if g == 2 {
+        return Sub::Done(a, next);
+    }
+    Sub::Broken
 }
