@@ -1,0 +1,4 @@
+pub mod Reading
+pub mod Combining
+pub mod Leaves
+pub mod Exponents
