@@ -2,3 +2,4 @@ pub mod Reading
 pub mod Combining
 pub mod Leaves
 pub mod Exponents
+pub mod Same
