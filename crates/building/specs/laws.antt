@@ -3,3 +3,4 @@ pub mod Combining
 pub mod Leaves
 pub mod Exponents
 pub mod Same
+pub mod Building

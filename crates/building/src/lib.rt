@@ -302,3 +302,56 @@ fn combine(
     }
     add(stack, a, b, out)
 }
+
+// The form of the term at a place, at the front of stack.
+fn build(
+    row: &[u8],
+    s: &[u8],
+    at: usize,
+    stack: &mut [u32],
+    out: &mut [u32],
+    t: &mut [u32],
+    u: &mut [u32],
+) -> Built
+    requires { ⌜ ReadyAt (now row) (now s) at (length (now stack)) (length (now out)) (length (now t)) (length (now u)) ⌝ }
+    ensures { λ r. ⌜ Finished (now (row .entry)) (now (s .entry)) at (r .words) (r .next) (now (stack .exit)) ⌝ }
+{
+    let head = head_of(s, at);
+    let g = head.kind;
+    let from = head.from;
+    let first = head.next;
+    if g == 0 {
+        let words = leaf_form(row, &s[from..first], stack);
+        return Built { words, next: first };
+    }
+    // the base of a power by 0 is not built
+    let zero = zero_power(s, g, first);
+    if zero != 0 {
+        stack[0] = 1;
+        return Built {
+            words: 1,
+            next: zero,
+        };
+    }
+    let x = build(row, s, first, stack, out, t, u);
+    let a = x.words;
+    let mid = x.next;
+    if g == 4 {
+        let e = exponent_at(s, mid);
+        let n = powers::raise(0, stack, a, e.value, out, t, u);
+        let end = past(s, e.next);
+        return Built { words: n, next: end };
+    }
+    let close = past(s, mid);
+    if close != 0 {
+        let n = negate_front(stack, a, out);
+        return Built {
+            words: n,
+            next: close,
+        };
+    }
+    let y = build(row, s, mid, &mut stack[a..], out, t, u);
+    let n = combine(g, stack, a, y.words, out, t, u);
+    let end = past(s, y.next);
+    Built { words: n, next: end }
+}

@@ -23,12 +23,12 @@ off-word e = let z : _≡_ {A = ℕ} 0 1 = cc in absurd (omega arith)
 off-open : {p q : ℕ} {w : List ℕ} {ks ls : List Token} {P : Type 0} → opening p ∷ ks ≡ word q w ∷ ls → P
 off-open e = let z : _≡_ {A = ℕ} 0 1 = cc in absurd (omega arith)
 
-no-close : (y : Tree) {c : ℕ} {ks ls : List Token} {P : Type 0} → closing c ∷ ks ≡ placed y ++ ls → P
-no-close (num p z) e = let z : _≡_ {A = ℕ} 0 1 = cc in absurd (omega arith)
-no-close (letter p b) e = let z : _≡_ {A = ℕ} 0 1 = cc in absurd (omega arith)
-no-close (neg p o c x) e = let z : _≡_ {A = ℕ} 0 1 = cc in absurd (omega arith)
-no-close (two p o c g x y) e = let z : _≡_ {A = ℕ} 0 1 = cc in absurd (omega arith)
-no-close (power p o c x q n) e = let z : _≡_ {A = ℕ} 0 1 = cc in absurd (omega arith)
+no-close : (y : Tree) (ls : List Token) {c : ℕ} {ks : List Token} {P : Type 0} → closing c ∷ ks ≡ placed y ++ ls → P
+no-close (num p z) ls e = let z : _≡_ {A = ℕ} 0 1 = cc in absurd (omega arith)
+no-close (letter p b) ls e = let z : _≡_ {A = ℕ} 0 1 = cc in absurd (omega arith)
+no-close (neg p o c x) ls e = let z : _≡_ {A = ℕ} 0 1 = cc in absurd (omega arith)
+no-close (two p o c g x y) ls e = let z : _≡_ {A = ℕ} 0 1 = cc in absurd (omega arith)
+no-close (power p o c x q n) ls e = let z : _≡_ {A = ℕ} 0 1 = cc in absurd (omega arith)
 
 some-inj : {A : Type 0} {a b : A} → some a ≡ some b → a ≡ b
 some-inj {A} {a} {b} e = let i : a ≡ b = cc in i
@@ -123,14 +123,14 @@ module _ (row : List ℕ) where
   same-term (neg p a b x) (two q o c g y v) r r′ i j e =
       let h = heads e in
       let k = same-term x y (closing b ∷ r) (placed v ++ (closing c ∷ r′)) i (and-l (letters (fit row) y) (letters (fit row) v) j) (sym (after-one x (closing b ∷ []) r) ∙ h .behind ∙ after-two y v c r′) in
-      no-close v (k .1)
+      no-close v (closing c ∷ r′) (k .1)
   same-term (neg p a b x) (power q o c y v n) r r′ i j e = sign-expt sub (heads e .words)
   same-term (two p a b g x v) (num q w) r r′ i j e = off-open e
   same-term (two p a b g x v) (letter q w) r r′ i j e = off-open e
   same-term (two p a b g x v) (neg q o c y) r r′ i j e =
       let h = heads e in
       let k = same-term x y (placed v ++ (closing b ∷ r)) (closing c ∷ r′) (and-l (letters (fit row) x) (letters (fit row) v) i) j (sym (after-two x v b r) ∙ h .behind ∙ after-one y (closing c ∷ []) r′) in
-      no-close v (sym (k .1))
+      no-close v (closing b ∷ r) (sym (k .1))
   same-term (two p a b g x v) (two q o c f y w) r r′ i j e =
       let h = heads e in
       let k = same-term x y (placed v ++ (closing b ∷ r)) (placed w ++ (closing c ∷ r′)) (and-l (letters (fit row) x) (letters (fit row) v) i)
