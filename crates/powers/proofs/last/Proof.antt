@@ -9,7 +9,6 @@ use Rattle.coded.specs.Coding.{Coded, Begins, dec, enc}
 use Rattle.coded.proofs.Lists.{begins-le, begins-as}
 use Rattle.fits.specs.Fit.{prodOf}
 use Rattle.fits.specs.Tables.{Space}
-use Rattle.fits.specs.laws.Fit.{fit-prod}
 use Rattle.products.proofs.Products.{copied-front}
 use Rattle.powers.proofs.Stack.{front-of, behind}
 use borrow.Author.Needs.{needs}
@@ -22,9 +21,6 @@ use Rattle.powers.proofs.multiply.Reads as multiply-reads
 
 made : (c : tie.After-multiply) → Begins ((c .multiply) .result) (enc ((c .before .before .before .before .before .before .before .before .before) .args .width) (prodOf ((c .before .before .before .before .before .before .before .before .before) .args .width) (dec ((c .before .before .before .before .before .before .before .before .before) .args .width) (take ((c .before .before .before .before .before .before .before .before .before) .args .n) ((c .before .before .before .before .before .before .before .before .before) .args .s .now))) (dec ((c .before .before .before .before .before .before .before .before .before) .args .width) (take ((c .before .before .before .before .before .before .before .before .before) .args .m) (drop ((c .before .before .before .before .before .before .before .before .before) .args .n) ((c .before .before .before .before .before .before .before .before .before) .args .s .now)))))) ((c .multiply) .last .1 .1 .1 .0)
 made c = begins-as ((c .multiply) .ensures) (ap (λ l. enc ((c .before .before .before .before .before .before .before .before .before) .args .width) (prodOf ((c .before .before .before .before .before .before .before .before .before) .args .width) (dec ((c .before .before .before .before .before .before .before .before .before) .args .width) l) (dec ((c .before .before .before .before .before .before .before .before .before) .args .width) (drop ((c .before .before .before .before .before .before .before .before .before) .args .n) (take (((c .before .before .before .before .before .before .before .before .before) .args .n) + ((c .before .before .before .before .before .before .before .before .before) .args .m)) ((c .before .before .before .before .before .before .before .before .before) .args .s .now)))))) (front-of ((c .before .before .before .before .before .before .before .before .before) .args .n) ((c .before .before .before .before .before .before .before .before .before) .args .m) ((c .before .before .before .before .before .before .before .before .before) .args .s .now)) ∙ ap (λ l. enc ((c .before .before .before .before .before .before .before .before .before) .args .width) (prodOf ((c .before .before .before .before .before .before .before .before .before) .args .width) (dec ((c .before .before .before .before .before .before .before .before .before) .args .width) (take ((c .before .before .before .before .before .before .before .before .before) .args .n) ((c .before .before .before .before .before .before .before .before .before) .args .s .now))) (dec ((c .before .before .before .before .before .before .before .before .before) .args .width) l))) (behind ((c .before .before .before .before .before .before .before .before .before) .args .n) ((c .before .before .before .before .before .before .before .before .before) .args .m) ((c .before .before .before .before .before .before .before .before .before) .args .s .now)))
-
-few : (c : tie.After-multiply) → ((c .multiply) .result) ≤ 3073
-few c = omega (arith, made c .size, fit-prod (((c .before .before .before .before .before .before .before .before .before) .pre .1 .1) .fit) .words)
 
 -- src/lib.rt:56:13
 add-e : tie.Need-add-e
@@ -59,7 +55,7 @@ slice-aggregate-copy c = sym (length-take-le ((c .before .before .before .before
 -- src/lib.rt:58:5
 copy-requires : tie.Need-copy-requires
 copy-requires c κs =
-    omega (arith, length-take-le ((c .before .before .before .before .before .before .before .before .multiply) .result) ((c .before .before .before .before .before .before .before .before .multiply) .last .1 .1 .1 .0) (begins-le (made (c .before .before .before .before .before .before .before .before))), few (c .before .before .before .before .before .before .before .before), ((c .before .before .before .before .before .before .before .before .before .before .before .before .before .before .before .before .before) .pre .0) .1)
+    omega (arith, length-take-le ((c .before .before .before .before .before .before .before .before .multiply) .result) ((c .before .before .before .before .before .before .before .before .multiply) .last .1 .1 .1 .0) (begins-le (made (c .before .before .before .before .before .before .before .before))), made (c .before .before .before .before .before .before .before .before) .size, ((c .before .before .before .before .before .before .before .before .before .before .before .before .before .before .before .before .before) .pre .0) .1)
 
 -- src/lib.rt:42:1
 same-length : tie.Need-same-length

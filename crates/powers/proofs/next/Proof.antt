@@ -24,9 +24,6 @@ use Rattle.powers.proofs.multiply.Reads as multiply-reads
 made : (c : tie.After-multiply) → Begins ((c .multiply) .result) (enc ((c .before .before .before .before .before .before .before .before .before) .args .width) (prodOf ((c .before .before .before .before .before .before .before .before .before) .args .width) (dec ((c .before .before .before .before .before .before .before .before .before) .args .width) (take ((c .before .before .before .before .before .before .before .before .before) .args .n) ((c .before .before .before .before .before .before .before .before .before) .args .s .now))) (dec ((c .before .before .before .before .before .before .before .before .before) .args .width) (take ((c .before .before .before .before .before .before .before .before .before) .args .m) (drop ((c .before .before .before .before .before .before .before .before .before) .args .n) ((c .before .before .before .before .before .before .before .before .before) .args .s .now)))))) ((c .multiply) .last .1 .1 .1 .0)
 made c = begins-as ((c .multiply) .ensures) (ap (λ l. enc ((c .before .before .before .before .before .before .before .before .before) .args .width) (prodOf ((c .before .before .before .before .before .before .before .before .before) .args .width) (dec ((c .before .before .before .before .before .before .before .before .before) .args .width) l) (dec ((c .before .before .before .before .before .before .before .before .before) .args .width) (drop ((c .before .before .before .before .before .before .before .before .before) .args .n) (take (((c .before .before .before .before .before .before .before .before .before) .args .n) + ((c .before .before .before .before .before .before .before .before .before) .args .m)) ((c .before .before .before .before .before .before .before .before .before) .args .s .now)))))) (front-of ((c .before .before .before .before .before .before .before .before .before) .args .n) ((c .before .before .before .before .before .before .before .before .before) .args .m) ((c .before .before .before .before .before .before .before .before .before) .args .s .now)) ∙ ap (λ l. enc ((c .before .before .before .before .before .before .before .before .before) .args .width) (prodOf ((c .before .before .before .before .before .before .before .before .before) .args .width) (dec ((c .before .before .before .before .before .before .before .before .before) .args .width) (take ((c .before .before .before .before .before .before .before .before .before) .args .n) ((c .before .before .before .before .before .before .before .before .before) .args .s .now))) (dec ((c .before .before .before .before .before .before .before .before .before) .args .width) l))) (behind ((c .before .before .before .before .before .before .before .before .before) .args .n) ((c .before .before .before .before .before .before .before .before .before) .args .m) ((c .before .before .before .before .before .before .before .before .before) .args .s .now)))
 
-few : (c : tie.After-multiply) → ((c .multiply) .result) ≤ 3073
-few c = omega (arith, made c .size, fit-prod (((c .before .before .before .before .before .before .before .before .before) .pre .1 .1) .fit) .words)
-
 -- src/lib.rt:35:13
 add-e : tie.Need-add-e
 add-e c = search needs
@@ -76,7 +73,7 @@ part-copy-end c = search needs
 -- src/lib.rt:37:5
 copy-requires : tie.Need-copy-requires
 copy-requires c κs =
-    omega (arith, length-take-le ((c .before .before .before .before .before .before .before .before .multiply) .result) ((c .before .before .before .before .before .before .before .before .multiply) .last .1 .1 .1 .0) (begins-le (made (c .before .before .before .before .before .before .before .before))), few (c .before .before .before .before .before .before .before .before), length-tail-part ((c .before .before .before .before .before .before .before .before .before .before .before .before .before .before .before .before .before) .args .n) ((c .before .before .before .before .before .before .before .before .before .before .before .before .before .before .before .before .before) .args .s .now), ((c .before .before .before .before .before .before .before .before .before .before .before .before .before .before .before .before .before) .pre .0) .1)
+    omega (arith, length-take-le ((c .before .before .before .before .before .before .before .before .multiply) .result) ((c .before .before .before .before .before .before .before .before .multiply) .last .1 .1 .1 .0) (begins-le (made (c .before .before .before .before .before .before .before .before))), made (c .before .before .before .before .before .before .before .before) .size, length-tail-part ((c .before .before .before .before .before .before .before .before .before .before .before .before .before .before .before .before .before) .args .n) ((c .before .before .before .before .before .before .before .before .before .before .before .before .before .before .before .before .before) .args .s .now), ((c .before .before .before .before .before .before .before .before .before .before .before .before .before .before .before .before .before) .pre .0) .1)
 
 -- src/lib.rt:21:1
 same-length : tie.Need-same-length

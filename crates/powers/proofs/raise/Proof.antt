@@ -13,7 +13,7 @@ use Rattle.fits.specs.Tables.{Space}
 use Rattle.fits.specs.laws.Fit.{fit-y}
 use Rattle.fits.specs.laws.Tables.{space-at}
 use Rattle.powers.specs.Raise.{raiseOf, Raising, Stacked}
-use Rattle.powers.specs.laws.Raise.{raise-more, raise-fit, raise-space}
+use Rattle.powers.specs.laws.Raise.{raise-more, raise-fit, raise-space, raise-room, raise-behind}
 use Rattle.powers.proofs.Stack.{made-one, stacked-one, stack-fits, stack-below, stack-above, stack-space, stack-product}
 use borrow.Author.Needs.{needs}
 use Rattle.powers.proofs.raise.Statement.{statement}
@@ -42,7 +42,7 @@ raising : (c : tie.Else1 Inv-loop μ-loop) → Raising ((c .before .before .befo
 raising c = subst (λ l. Raising ((c .before .before .before .before .before) .args .width) (dec ((c .before .before .before .before .before) .args .width) l) ((c .before .before .before .before .before) .args .k) ((c .before .before .before .before .before) .args .n) (length ((c .before .before .before .before .before) .args .s .now)) (length ((c .before .before .before .before .before) .args .out .now)) (length ((c .before .before .before .before .before) .args .t .now)) (length ((c .before .before .before .before .before) .args .u .now))) (sym (same-x c)) ((c .before .before .before .before .before) .pre .1)
 
 begin : (c : tie.Else1 Inv-loop μ-loop) → Stacked ((c .before .before .before .before .before) .args .width) (dec ((c .before .before .before .before .before) .args .width) (take ((c .before .before .before .before .before) .args .n) (set ((c .before .before .before .before .before) .args .s .now) ((c .before .before .before .before .before) .args .n) 1))) (raiseOf ((c .before .before .before .before .before) .args .width) (dec ((c .before .before .before .before .before) .args .width) (take ((c .before .before .before .before .before) .args .n) (set ((c .before .before .before .before .before) .args .s .now) ((c .before .before .before .before .before) .args .n) 1))) 0) ((c .before .before .before .before .before) .args .n) 1 (set ((c .before .before .before .before .before) .args .s .now) ((c .before .before .before .before .before) .args .n) 1)
-begin c = stacked-one ((c .before .before .before .before .before) .args .n) ((c .before .before .before .before .before) .args .s .now) (subst (Codes ((c .before .before .before .before .before) .args .width) (dec ((c .before .before .before .before .before) .args .width) (take ((c .before .before .before .before .before) .args .n) (set ((c .before .before .before .before .before) .args .s .now) ((c .before .before .before .before .before) .args .n) 1)))) (same-x c) (codes-x c)) (omega (arith, ((c .before .before .before .before .before) .pre .1)))
+begin c = stacked-one ((c .before .before .before .before .before) .args .n) ((c .before .before .before .before .before) .args .s .now) (subst (Codes ((c .before .before .before .before .before) .args .width) (dec ((c .before .before .before .before .before) .args .width) (take ((c .before .before .before .before .before) .args .n) (set ((c .before .before .before .before .before) .args .s .now) ((c .before .before .before .before .before) .args .n) 1)))) (same-x c) (codes-x c)) (omega (arith, raise-behind ((c .before .before .before .before .before) .pre .1) (omega (arith, (c .if1) .left))))
 
 space : (c : tie.At-loop Inv-loop μ-loop) → (((c .loop) .i) < ((c .before .before .before .before .before .before) .args .k)) → Space ((c .before .before .before .before .before .before) .args .width) (dec ((c .before .before .before .before .before .before) .args .width) (take ((c .before .before .before .before .before .before) .args .n) (set ((c .before .before .before .before .before .before) .args .s .now) ((c .before .before .before .before .before .before) .args .n) 1))) (raiseOf ((c .before .before .before .before .before .before) .args .width) (dec ((c .before .before .before .before .before .before) .args .width) (take ((c .before .before .before .before .before .before) .args .n) (set ((c .before .before .before .before .before .before) .args .s .now) ((c .before .before .before .before .before .before) .args .n) 1))) ((c .loop) .i)) (length ((c .loop) .out)) (length ((c .loop) .t)) (length ((c .loop) .u))
 space c = λ l. space-at (sym (((c .loop) .inv) .1 .0 .1)) (sym (((c .loop) .inv) .1 .0 .2)) (sym (((c .loop) .inv) .1 .0 .3)) (raise-space (raising (c .before)) ((c .loop) .i) l)
@@ -50,8 +50,15 @@ space c = λ l. space-at (sym (((c .loop) .inv) .1 .0 .1)) (sym (((c .loop) .inv
 good-y : (c : tie.At-loop Inv-loop μ-loop) → (((c .loop) .i) < ((c .before .before .before .before .before .before) .args .k)) → Good ((c .before .before .before .before .before .before) .args .width) (raiseOf ((c .before .before .before .before .before .before) .args .width) (dec ((c .before .before .before .before .before .before) .args .width) (take ((c .before .before .before .before .before .before) .args .n) (set ((c .before .before .before .before .before .before) .args .s .now) ((c .before .before .before .before .before .before) .args .n) 1))) ((c .loop) .i))
 good-y c = λ l. fit-y (raise-fit (raising (c .before)) ((c .loop) .i) l) .good
 
-long : (c : tie.At-loop Inv-loop μ-loop) → ((c .before .before .before .before .before .before) .args .n) + 3073 ≤ length ((c .loop) .s)
-long c = omega (arith, ((c .loop) .inv) .1 .0 .0, length-set ((c .before .before .before .before .before .before) .args .s .now) ((c .before .before .before .before .before .before) .args .n) 1, ((c .before .before .before .before .before .before) .pre .1))
+long : (c : tie.At-loop Inv-loop μ-loop) → ((c .before .before .before .before .before .before) .args .n) + raising (c .before) .held ≤ length ((c .loop) .s)
+long c = omega (arith, ((c .loop) .inv) .1 .0 .0, length-set ((c .before .before .before .before .before .before) .args .s .now) ((c .before .before .before .before .before .before) .args .n) 1, raising (c .before) .fits)
+
+-- the product of x and the power so far is the next power
+product-is : (c : tie.At-loop Inv-loop μ-loop) → (((c .loop) .i) < ((c .before .before .before .before .before .before) .args .k)) → prodOf ((c .before .before .before .before .before .before) .args .width) (dec ((c .before .before .before .before .before .before) .args .width) (take ((c .before .before .before .before .before .before) .args .n) ((c .loop) .s))) (dec ((c .before .before .before .before .before .before) .args .width) (take ((c .loop) .m) (drop ((c .before .before .before .before .before .before) .args .n) ((c .loop) .s)))) ≡ raiseOf ((c .before .before .before .before .before .before) .args .width) (dec ((c .before .before .before .before .before .before) .args .width) (take ((c .before .before .before .before .before .before) .args .n) (set ((c .before .before .before .before .before .before) .args .s .now) ((c .before .before .before .before .before .before) .args .n) 1))) (((c .loop) .i) + 1)
+product-is c l = stack-product (((c .loop) .inv) .1 .1) (codes-x (c .before) .good) (good-y c l) ∙ raise-more ((c .before .before .before .before .before .before) .args .width) (dec ((c .before .before .before .before .before .before) .args .width) (take ((c .before .before .before .before .before .before) .args .n) (set ((c .before .before .before .before .before .before) .args .s .now) ((c .before .before .before .before .before .before) .args .n) 1))) ((c .loop) .i)
+
+below-next : (c : tie.In-loop Inv-loop μ-loop) → ((c .before .loop) .i) + 1 < ((c .before .before .before .before .before .before .before) .args .k)
+below-next c = omega (arith, (c .loop-test) .taken, (c .before .before .if1) .left)
 
 below : (c : tie.In-loop Inv-loop μ-loop) → ((c .before .loop) .i) < ((c .before .before .before .before .before .before .before) .args .k)
 below c = omega (arith, (c .loop-test) .taken, (c .before .before .if1) .left)
@@ -64,7 +71,7 @@ below-end c = omega (arith, at-end c)
 
 -- src/lib.rt:77:9
 slice-write-s : tie.Need-slice-write-s Inv-loop μ-loop
-slice-write-s c = omega (arith, ((c .before .before .before .before .before) .pre .1))
+slice-write-s c = omega (arith, raise-room ((c .before .before .before .before .before) .pre .1))
 
 -- src/lib.rt:78:9
 same-length : tie.Need-same-length Inv-loop μ-loop
@@ -72,15 +79,15 @@ same-length c = length-set ((c .before .before .before .before .before) .args .s
 
 -- src/lib.rt:78:9
 returns : tie.Need-returns Inv-loop μ-loop
-returns c = subst (λ z. Begins 1 (enc ((c .before .before .before .before .before) .args .width) (raiseOf ((c .before .before .before .before .before) .args .width) (dec ((c .before .before .before .before .before) .args .width) (take ((c .before .before .before .before .before) .args .n) ((c .before .before .before .before .before) .args .s .now))) z)) (set ((c .before .before .before .before .before) .args .s .now) 0 1)) (sym ((c .if1) .taken)) (made-one ((c .before .before .before .before .before) .args .width) (dec ((c .before .before .before .before .before) .args .width) (take ((c .before .before .before .before .before) .args .n) ((c .before .before .before .before .before) .args .s .now))) ((c .before .before .before .before .before) .args .s .now) (omega (arith, ((c .before .before .before .before .before) .pre .1))))
+returns c = subst (λ z. Begins 1 (enc ((c .before .before .before .before .before) .args .width) (raiseOf ((c .before .before .before .before .before) .args .width) (dec ((c .before .before .before .before .before) .args .width) (take ((c .before .before .before .before .before) .args .n) ((c .before .before .before .before .before) .args .s .now))) z)) (set ((c .before .before .before .before .before) .args .s .now) 0 1)) (sym ((c .if1) .taken)) (made-one ((c .before .before .before .before .before) .args .width) (dec ((c .before .before .before .before .before) .args .width) (take ((c .before .before .before .before .before) .args .n) ((c .before .before .before .before .before) .args .s .now))) ((c .before .before .before .before .before) .args .s .now) (omega (arith, raise-room ((c .before .before .before .before .before) .pre .1))))
 
 -- src/lib.rt:80:5
 mul-s : tie.Need-mul-s Inv-loop μ-loop
-mul-s c = omega (arith, ((c .before .before .before .before .before) .pre .1))
+mul-s c = omega (arith, raise-behind ((c .before .before .before .before .before) .pre .1) (omega (arith, (c .if1) .left)))
 
 -- src/lib.rt:80:5
 slice-write-s-2 : tie.Need-slice-write-s-2 Inv-loop μ-loop
-slice-write-s-2 c = omega (arith, ((c .before .before .before .before .before) .pre .1))
+slice-write-s-2 c = omega (arith, raise-behind ((c .before .before .before .before .before) .pre .1) (omega (arith, (c .if1) .left)))
 
 -- src/lib.rt:83:13
 sub-d : tie.Need-sub-d Inv-loop μ-loop
@@ -94,7 +101,7 @@ loop-holds c = (omega arith, ((refl, refl, refl, refl), begin c))
 next-requires : tie.Need-next-requires Inv-loop μ-loop
 next-requires c κs =
     let l = below (c .before .before .before .before) in (
-      (stack-fits (((c .before .before .before .before .before .loop) .inv) .1 .1), long (c .before .before .before .before .before)),
+      (stack-fits (((c .before .before .before .before .before .loop) .inv) .1 .1), omega (arith, long (c .before .before .before .before .before), raising (c .before .before .before .before .before .before) .lower (((c .before .before .before .before .before .loop) .i) + 1) (below-next (c .before .before .before .before)), ap (λ h. length (enc ((c .before .before .before .before .before .before .before .before .before .before .before) .args .width) h)) (product-is (c .before .before .before .before .before) l))),
       ((coded (stack-below (((c .before .before .before .before .before .loop) .inv) .1 .1) (codes-x (c .before .before .before .before .before .before) .good) (good-y (c .before .before .before .before .before) l)), coded (stack-above (((c .before .before .before .before .before .loop) .inv) .1 .1) (codes-x (c .before .before .before .before .before .before) .good) (good-y (c .before .before .before .before .before) l))), stack-space (((c .before .before .before .before .before .loop) .inv) .1 .1) (codes-x (c .before .before .before .before .before .before) .good) (good-y (c .before .before .before .before .before) l) (space (c .before .before .before .before .before) l)),
     )
 
@@ -122,7 +129,7 @@ loop-again c =
 last-requires : tie.Need-last-requires Inv-loop μ-loop
 last-requires c κs =
     let l = below-end (c .before .before .before .before) in (
-      (stack-fits (((c .before .before .before .before .before .loop) .inv) .1 .1), omega (arith, long (c .before .before .before .before .before))),
+      (stack-fits (((c .before .before .before .before .before .loop) .inv) .1 .1), omega (arith, ap (λ h. length (enc ((c .before .before .before .before .before .before .before .before .before .before .before) .args .width) h)) (product-is (c .before .before .before .before .before) l ∙ ap (raiseOf ((c .before .before .before .before .before .before .before .before .before .before .before) .args .width) (dec ((c .before .before .before .before .before .before .before .before .before .before .before) .args .width) (take ((c .before .before .before .before .before .before .before .before .before .before .before) .args .n) (set ((c .before .before .before .before .before .before .before .before .before .before .before) .args .s .now) ((c .before .before .before .before .before .before .before .before .before .before .before) .args .n) 1)))) (at-end (c .before .before .before .before))), raising (c .before .before .before .before .before .before) .whole, ((c .before .before .before .before .before .loop) .inv) .1 .0 .0, length-set ((c .before .before .before .before .before .before .before .before .before .before .before) .args .s .now) ((c .before .before .before .before .before .before .before .before .before .before .before) .args .n) 1)),
       ((coded (stack-below (((c .before .before .before .before .before .loop) .inv) .1 .1) (codes-x (c .before .before .before .before .before .before) .good) (good-y (c .before .before .before .before .before) l)), coded (stack-above (((c .before .before .before .before .before .loop) .inv) .1 .1) (codes-x (c .before .before .before .before .before .before) .good) (good-y (c .before .before .before .before .before) l))), stack-space (((c .before .before .before .before .before .loop) .inv) .1 .1) (codes-x (c .before .before .before .before .before .before) .good) (good-y (c .before .before .before .before .before) l) (space (c .before .before .before .before .before) l)),
     )
 

@@ -13,6 +13,7 @@ use Rattle.horner.specs.laws.Degree.{Below, all-le-below}
 use Rattle.horner.specs.laws.Measure.{meas-raise}
 use Rattle.horner.specs.laws.Normal.{normal-raise}
 use Rattle.coded.specs.Widths.{Leaf, ringOf}
+use Rattle.coded.specs.laws.Sizes.{enc-pos}
 use Rattle.fits.specs.Fit.{prodOf, Within, Fit, Held}
 use Rattle.fits.specs.Tables.{wordsFor, Tables, Space}
 use Rattle.fits.specs.laws.Fit.{fit-prod}
@@ -96,3 +97,10 @@ module _ {w k n s o t u : ℕ} {x : Form (Leaf w)} (r : Raising w x k n s o t u)
 
   pub raise-space : (j : ℕ) → j < k → Space w x (raiseOf w x j) o t u
   raise-space j l = record { n = r .vars; k = 63; fit = raise-fit j l; tables = r .tables }
+
+  -- there is a word for 1, in the place of x and behind it
+  pub raise-room : 0 < s
+  raise-room = omega (arith, enc-pos w (raiseOf w x k), r .whole)
+
+  pub raise-behind : 0 < k → n < s
+  raise-behind l = omega (arith, enc-pos w (raiseOf w x 0), r .lower 0 l, r .fits)
