@@ -2,11 +2,12 @@
 use mathlib.Core.Bool.{Bool, true, false, _&&_}
 use mathlib.Core.List.{List, [], _∷_, _++_}
 use mathlib.Core.Path.{_≡_}
-use Prim.Native.Nat.{ℕ, zero, suc, _+_, _≤_, _<_, max}
+use Prim.Native.Nat.{ℕ, zero, suc, _+_, _*_, _≤_, _<_, max}
 use lib.Dec.{eqb}
 use lib.ListN.{length, take, drop}
 use Rattle.horner.specs.definitions.Form.{Form, size}
-use Rattle.horner.specs.definitions.Term.{normP}
+use Rattle.horner.specs.definitions.Measures.{termsOf}
+use Rattle.horner.specs.definitions.Term.{normP, expt}
 use Rattle.coded.specs.Coding.{Coded, Made, dec, enc}
 use Rattle.coded.specs.Operations.{sumOf, negateOf}
 use Rattle.coded.specs.Widths.{Leaf}
@@ -48,17 +49,21 @@ pub record Combining (g : ℕ) (x y : Form (Leaf 0)) (n l o t u : ℕ) : Type 0 
 abbrev pub wordsOf : List ℕ → Tree → ℕ
 wordsOf row x = length (enc 0 (normP (termOf row x)))
 
--- the second operand is built behind the first; the result takes their place; a power is worked out behind its base
-abbrev pub needPower : List ℕ → Tree → ℕ → ℕ → ℕ
-needPower row x m zero = 1
-needPower row x m (suc n) = max m (wordsOf row x + 3073)
+-- as many words as the lower powers of x take at most, where n + 1 is the exponent
+abbrev pub lowerWords : List ℕ → Tree → ℕ → ℕ
+lowerWords row x n = 12 * termsOf (length row) (expt (termOf row x) n) + 1
+
+-- the second operand is built behind the first, and the lower powers behind their base; the result takes their place
+abbrev pub needPower : List ℕ → Tree → ℕ → ℕ → ℕ → ℕ
+needPower row x m w zero = 1
+needPower row x m w (suc n) = max (max m w) (wordsOf row x + lowerWords row x n)
 
 abbrev pub need : List ℕ → Tree → ℕ
 need row (num p z) = 4
 need row (letter p b) = 4
 need row (neg p o c x) = need row x
 need row (two p o c g x y) = max (max (need row x) (wordsOf row (two p o c g x y))) (wordsOf row x + need row y)
-need row (power p o c x q n) = needPower row x (need row x) n
+need row (power p o c x q n) = needPower row x (need row x) (wordsOf row (power p o c x q n)) n
 
 -- ---- what stands at a place, and what is built of it
 -- the term x, within the limits, and rest behind it
@@ -92,3 +97,8 @@ pub record Given (row s : List ℕ) : Type 0 where
   pub proper : isRow row ≡ true
   pub t : Tree
   pub accepted : acceptTerm row s ≡ read t
+
+-- how long the four tables are
+pub record Lent (l o t u : ℕ) : Type 0 where
+  pub stack : 15332 ≤ l
+  pub tables : Tables 15684 15684 o t u

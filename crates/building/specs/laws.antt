@@ -3,4 +3,5 @@ pub mod Combining
 pub mod Leaves
 pub mod Exponents
 pub mod Same
+pub mod Words
 pub mod Building

@@ -37,8 +37,9 @@ use Rattle.textlaws.specs.laws.Bytes.{and-l, and-r}
 use Rattle.textlaws.specs.laws.Rows.{row-length, letters-over}
 use Rattle.tokens.specs.Views.{from}
 use Rattle.building.specs.Standing.{signKind, kindOf, leafWord, firstOf, secondOf, inner, tailOf, isZero, zeroPower, Onto, HeadIs, Headed, Passed, ZeroIs, Zeroed, Raised, ExponentRead, fit, OneLeaf, LeafMade}
-use Rattle.building.specs.Stack.{left, right, Pair, combined, Combining, wordsOf, need, Stands, ReadyAt, Done, Finished}
+use Rattle.building.specs.Stack.{left, right, Pair, combined, Combining, wordsOf, lowerWords, need, Stands, ReadyAt, Done, Finished}
 use Rattle.building.specs.laws.Same.{same-term}
+use Rattle.building.specs.laws.Words.{lower-words}
 
 -- ---- one term at a place
 module _ {row s d : List ℕ} {at n next : ℕ} {x : Tree} {rest : List Token} (S : Stands row s at x rest) where
@@ -236,6 +237,7 @@ module _ {row s : List ℕ} (proper : isRow row ≡ true) where
       {at next a mid v e l o t u : ℕ} {d : List ℕ} (x : Tree) (rest : List Token) → kindOf x ≡ 4 → zeroPower x ≡ false → Stands row s at x rest → Stands row s next (firstOf x) (tailOf x ++ rest)
       → Done row s next a mid d (firstOf x) (tailOf x ++ rest) → ExponentRead s mid v e → need row x ≤ l → Tables 15684 15684 o t u
       → Coded 0 (take a d) × Raising 0 (dec 0 (take a d)) v a l o t u
+  unfolding raiseOf
   raise-asks (num p z) rest k f S T D E r h = absurd (omega arith)
   raise-asks (letter p b) rest k f S T D E r h = absurd (omega arith)
   raise-asks (neg p b c x) rest k f S T D E r h = absurd (omega arith)
@@ -245,8 +247,9 @@ module _ {row s : List ℕ} (proper : isRow row ≡ true) where
       let w = first-codes proper T D in
       let F = S .fits (power p b c x q (suc n)) (itself refl) in
       let i : v ≡ suc n = E q (suc n) (closing c ∷ rest) (D .behind) .0 ∙ exponent-small (suc n) (leb-true (suc n) 63 (F .exponent)) in
-      let m : a + 3073 ≤ l = omega (arith, D .made .size) in
-      let R : Raising 0 (normP (termOf row x)) (suc n) a l o t u = term-raising 0 (length row) (redℤ prime prime-pos) (termOf row x) (row-length row proper .1) (over proper T) (F .degrees) (F .terms) m (tables-for (row-length row proper .1) (omega arith) h) in
+      let m : a + lowerWords row x n ≤ l = omega (arith, D .made .size) in
+      let R : Raising 0 (normP (termOf row x)) (suc n) a l o t u = term-raising 0 (length row) (redℤ prime prime-pos) (termOf row x) (row-length row proper .1) (over proper T) (F .degrees) (F .terms) (lowerWords row x n)
+          (λ j i. lower-words (length row) (row-length row proper .1) (termOf row x) (over proper T) j n (omega arith)) m (omega arith) (tables-for (row-length row proper .1) (omega arith) h) in
       (coded w, subst (λ z. Raising 0 z v a l o t u) (sym (dec-enc w)) (subst (λ z. Raising 0 (normP (termOf row x)) z a l o t u) (sym i) R))
 
   pub raise-gives :

@@ -29,12 +29,12 @@ sums-multiples : (k : ℕ) (ds : List ℕ) → sums ds (multiples k ds) ≡ mult
 sums-multiples k [] = refl
 sums-multiples k (d ∷ ds) = ap₂ _∷_ (omega (arith, NatL.suc-mul k d)) (sums-multiples k ds)
 
-below-multiples : (j k : ℕ) (ds : List ℕ) → j ≤ k → Below (multiples j ds) (multiples k ds)
+pub below-multiples : (j k : ℕ) (ds : List ℕ) → j ≤ k → Below (multiples j ds) (multiples k ds)
 below-multiples j k [] l = tt
 below-multiples j k (d ∷ ds) l = (NatL.mul-le-mul-right d l, below-multiples j k ds l)
 
 -- ---- powers of a number that is not 0
-power-pos : (c k : ℕ) → 1 ≤ c → 1 ≤ c ^ k
+pub power-pos : (c k : ℕ) → 1 ≤ c → 1 ≤ c ^ k
 power-pos c zero l = omega (arith, NatL.pow-zero c)
 power-pos c (suc k) l = omega (arith, NatL.pow-succ' c k, NatL.mul-le-mul l (power-pos c k l))
 
@@ -46,7 +46,7 @@ power-more c j (suc d) l =
     let e : suc d + j ≡ suc (d + j) = omega arith in
     omega (arith, ap (λ z. c ^ z) e, NatL.pow-succ' c (d + j), power-more c j d l, NatL.mul-le-mul-right (c ^ (d + j)) l)
 
-power-mono : (c j k : ℕ) → 1 ≤ c → j ≤ k → c ^ j ≤ c ^ k
+pub power-mono : (c j k : ℕ) → 1 ≤ c → j ≤ k → c ^ j ≤ c ^ k
 power-mono c j k l h =
     let e : k - j + j ≡ k = omega arith in
     omega (arith, ap (λ z. c ^ z) e, power-more c j (k - j) l)
