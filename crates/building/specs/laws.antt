@@ -5,3 +5,4 @@ pub mod Exponents
 pub mod Same
 pub mod Words
 pub mod Building
+pub mod Room
