@@ -6,3 +6,4 @@ pub mod Same
 pub mod Words
 pub mod Building
 pub mod Room
+pub mod Accepted

@@ -17,7 +17,7 @@ ghost use Rattle.texts.specs.definitions.Answer.{read};
 ghost use Rattle.texts.specs.definitions.Limits.{acceptTerm};
 ghost use Rattle.texts.specs.definitions.Tree.{Tree, termOf};
 ghost use Rattle.building.specs.Standing.{Headed, Passed, Skipped, Zeroed, Raised, IsInteger, OneLeaf, integerOf, LeafMade, Operated, Turned};
-ghost use Rattle.building.specs.Stack.{Pair, left, right, combined, Combining, ReadyAt, Finished, Given};
+ghost use Rattle.building.specs.Stack.{Pair, left, right, combined, Combining, ReadyAt, Finished, Given, Lent};
 
 // What a term begins with: 0 and the word of a leaf, or the operator's number; and the place behind it.
 pub struct Head {
@@ -354,4 +354,21 @@ fn build(
     let n = combine(g, stack, a, y.words, out, t, u);
     let end = past(s, y.next);
     Built { words: n, next: end }
+}
+
+// The form of the accepted term s over the row, at the front of stack, and how many words it takes.
+pub fn build_term(
+    row: &[u8],
+    s: &[u8],
+    stack: &mut [u32],
+    out: &mut [u32],
+    t: &mut [u32],
+    u: &mut [u32],
+) -> usize
+    requires { ⌜ Given (now row) (now s) ⌝ }
+    requires { ⌜ Lent (length (now stack)) (length (now out)) (length (now t)) (length (now u)) ⌝ }
+    ensures { λ r. ⌜ ((x : Tree) → acceptTerm (now (row .entry)) (now (s .entry)) ≡ read x → Made 0 (normP (termOf (now (row .entry)) x)) r (now (stack .exit))) ⌝ }
+{
+    let built = build(row, s, 0, stack, out, t, u);
+    built.words
 }
