@@ -121,10 +121,7 @@ fn turn(s: &[u8], at: usize, depth: usize) -> Spot
         },
         Step::Close(_, next) => {
             if depth == 0 {
-                return Spot {
-                    next: at,
-                    depth: 0,
-                };
+                return Spot { next: at, depth: 0 };
             }
             Spot {
                 next: next.at,
@@ -340,7 +337,10 @@ fn build(
         let e = exponent_at(s, mid);
         let n = powers::raise(0, stack, a, e.value, out, t, u);
         let end = past(s, e.next);
-        return Built { words: n, next: end };
+        return Built {
+            words: n,
+            next: end,
+        };
     }
     let close = past(s, mid);
     if close != 0 {
@@ -353,7 +353,10 @@ fn build(
     let y = build(row, s, mid, &mut stack[a..], out, t, u);
     let n = combine(g, stack, a, y.words, out, t, u);
     let end = past(s, y.next);
-    Built { words: n, next: end }
+    Built {
+        words: n,
+        next: end,
+    }
 }
 
 // The form of the accepted term s over the row, at the front of stack, and how many words it takes.

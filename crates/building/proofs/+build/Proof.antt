@@ -32,7 +32,6 @@ use Rattle.powers.proofs.raise.Reads as raise-reads
 use Rattle.building.proofs.+build.{statement}
 use Rattle.building.proofs.+build.Tie.{close}
 
-
 abbrev μ-build : Measures 6 build-kinds.ps ℕ
 μ-build κs a = length (a .1 .0 .now) - a .1 .1 .0
 

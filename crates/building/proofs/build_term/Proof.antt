@@ -8,7 +8,6 @@ use Rattle.building.proofs.build_term.Reads as reads
 use Rattle.building.proofs.build_term.Lts as lts
 use Rattle.building.proofs.build.Reads as build-reads
 
-
 -- src/lib.rt:372:9
 build-requires : tie.Need-build-requires
 build-requires c κs = given-ready (c .before .before .before .before .before .before .before .before .before .before .pre .0) (c .before .before .before .before .before .before .before .before .before .before .pre .1)

@@ -16,7 +16,6 @@ use Rattle.building.proofs.add.Reads as add-reads
 use Rattle.building.proofs.multiply.Reads as multiply-reads
 use Rattle.building.proofs.subtract.Reads as subtract-reads
 
-
 -- src/lib.rt:298:9
 multiply-requires : tie.Need-multiply-requires
 multiply-requires c κs = (c .before .before .before .before .before .before .before .before .before .pre .0, (c .before .before .before .before .before .before .before .before .before .pre .1 .space (c .before .before .before .before .if1 .taken), c .before .before .before .before .before .before .before .before .before .pre .1 .words (c .before .before .before .before .if1 .taken)))

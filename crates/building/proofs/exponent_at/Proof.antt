@@ -14,7 +14,6 @@ use Rattle.building.proofs.exponent_at.Lts as lts
 use Rattle.tokens.proofs.Reader.next.Reads as next-reads
 use Rattle.words.proofs.cut_value.Reads as cut-value-reads
 
-
 -- src/lib.rt:178:9
 next-requires : tie.Need-next-requires
 next-requires c κs = search needs

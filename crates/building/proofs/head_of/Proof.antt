@@ -12,7 +12,6 @@ use Rattle.building.proofs.head_of.Lts as lts
 use Rattle.building.proofs.operator.Reads as operator-reads
 use Rattle.tokens.proofs.Reader.next.Reads as next-reads
 
-
 -- src/lib.rt:74:9
 next-requires : tie.Need-next-requires
 next-requires c κs = search needs

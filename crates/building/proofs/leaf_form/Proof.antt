@@ -13,7 +13,6 @@ use Rattle.walks.proofs.letter.Reads as letter-reads
 use Rattle.words.proofs.index_in.Reads as index-in-reads
 use Rattle.words.proofs.is_capital.Reads as is-capital-reads
 
-
 -- src/lib.rt:203:26
 shared-slice-read-is-capital : tie.Need-shared-slice-read-is-capital
 shared-slice-read-is-capital c = leaf-some (c .before .before .before .before .pre)

@@ -16,7 +16,6 @@ use Rattle.building.proofs.negate_front.Lts as lts
 use Rattle.coded.proofs.copy.Reads as copy-reads
 use Rattle.walks.proofs.negate.Reads as negate-reads
 
-
 -- src/lib.rt:216:30
 slice-reshare-prefix-negate : tie.Need-slice-reshare-prefix-negate
 slice-reshare-prefix-negate c = search needs

@@ -13,7 +13,6 @@ use Rattle.building.proofs.operator.Lts as lts
 use Rattle.tokens.proofs.Reader.next.Reads as next-reads
 use Rattle.words.proofs.operator_of.Reads as operator-of-reads
 
-
 -- src/lib.rt:52:9
 next-requires : tie.Need-next-requires
 next-requires c κs = search needs

@@ -10,7 +10,6 @@ use Rattle.building.proofs.past.Reads as reads
 use Rattle.building.proofs.past.Lts as lts
 use Rattle.tokens.proofs.Reader.next.Reads as next-reads
 
-
 -- src/lib.rt:100:9
 next-requires : tie.Need-next-requires
 next-requires c κs = search needs

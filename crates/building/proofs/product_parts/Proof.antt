@@ -15,7 +15,6 @@ use Rattle.building.proofs.product_parts.Reads as reads
 use Rattle.building.proofs.product_parts.Lts as lts
 use Rattle.products.proofs.product.Reads as product-reads
 
-
 -- src/lib.rt:260:26
 slice-aggregate-product : tie.Need-slice-aggregate-product
 slice-aggregate-product c = sym (length-take-le (c .before .before .before .before .before .args .n) (c .before .before .before .before .before .args .s .now) (c .before .before .before .before .before .pre .0))

@@ -13,7 +13,6 @@ use Rattle.building.proofs.residue.Reads as reads
 use Rattle.building.proofs.residue.Lts as lts
 use Rattle.words.proofs.cut_value.Reads as cut-value-reads
 
-
 -- src/lib.rt:192:8
 shared-slice-read-if1 : tie.Need-shared-slice-read-if1
 shared-slice-read-if1 c = integer-some (c .before .before .pre)

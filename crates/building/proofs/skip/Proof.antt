@@ -15,7 +15,6 @@ use Rattle.building.proofs.skip.Reads as reads
 use Rattle.building.proofs.skip.Lts as lts
 use Rattle.building.proofs.turn.Reads as turn-reads
 
-
 abbrev Inv-loop : tie.InvT-loop
 Inv-loop s at i₀ depth₀ i depth = (at ≤ i) × (i ≤ length s) × (depth ≤ i) × (skips (from s i) depth ≡ skipOne (from s at) 0)
 

@@ -14,7 +14,6 @@ use Rattle.building.proofs.subtract.Lts as lts
 use Rattle.building.proofs.add.Reads as add-reads
 use Rattle.building.proofs.negate_front.Reads as negate-front-reads
 
-
 -- src/lib.rt:249:26
 mul-negate-front : tie.Need-mul-negate-front
 mul-negate-front c = search needs

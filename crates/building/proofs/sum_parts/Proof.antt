@@ -14,7 +14,6 @@ use Rattle.building.proofs.sum_parts.Reads as reads
 use Rattle.building.proofs.sum_parts.Lts as lts
 use Rattle.sums.proofs.sum.Reads as sum-reads
 
-
 -- src/lib.rt:228:18
 slice-aggregate-sum : tie.Need-slice-aggregate-sum
 slice-aggregate-sum c = sym (length-take-le (c .before .before .before .args .n) (c .before .before .before .args .s .now) (c .before .before .before .pre .0))

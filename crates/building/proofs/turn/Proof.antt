@@ -10,7 +10,6 @@ use Rattle.building.proofs.turn.Reads as reads
 use Rattle.building.proofs.turn.Lts as lts
 use Rattle.tokens.proofs.Reader.next.Reads as next-reads
 
-
 -- src/lib.rt:112:9
 next-requires : tie.Need-next-requires
 next-requires c κs = search needs

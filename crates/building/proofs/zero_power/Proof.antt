@@ -14,7 +14,6 @@ use Rattle.building.proofs.past.Reads as past-reads
 use Rattle.building.proofs.skip.Reads as skip-reads
 use Rattle.tokens.proofs.Reader.next.Reads as next-reads
 
-
 -- src/lib.rt:160:9
 returns : tie.Need-returns
 returns c = zero-other (now (c .before .before .args .s)) _ _ (c .if1 .taken)

@@ -249,7 +249,7 @@ module _ {row s : List ℕ} (proper : isRow row ≡ true) where
       let i : v ≡ suc n = E q (suc n) (closing c ∷ rest) (D .behind) .0 ∙ exponent-small (suc n) (leb-true (suc n) 63 (F .exponent)) in
       let m : a + lowerWords row x n ≤ l = omega (arith, D .made .size) in
       let R : Raising 0 (normP (termOf row x)) (suc n) a l o t u = term-raising 0 (length row) (redℤ prime prime-pos) (termOf row x) (row-length row proper .1) (over proper T) (F .degrees) (F .terms) (lowerWords row x n)
-          (λ j i. lower-words (length row) (row-length row proper .1) (termOf row x) (over proper T) j n (omega arith)) m (omega arith) (tables-for (row-length row proper .1) (omega arith) h) in
+      (λ j i. lower-words (length row) (row-length row proper .1) (termOf row x) (over proper T) j n (omega arith)) m (omega arith) (tables-for (row-length row proper .1) (omega arith) h) in
       (coded w, subst (λ z. Raising 0 z v a l o t u) (sym (dec-enc w)) (subst (λ z. Raising 0 (normP (termOf row x)) z a l o t u) (sym i) R))
 
   pub raise-gives :
