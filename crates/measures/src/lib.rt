@@ -9,7 +9,7 @@ ghost use lib.Dec.{eqb};
 ghost use Rattle.words.specs.Words.{isInteger};
 ghost use Rattle.syntax.specs.Machine.{pick};
 ghost use Rattle.measures.specs.Measuring.{boxM, addM, mulM, powM, limitM, Small, judged};
-ghost use Rattle.measures.specs.Found.{magnitudeOf, wordM, Closes, Powers, OperatorAt, ClosingAt, ExponentAt};
+ghost use Rattle.measures.specs.Found.{magnitudeOf, wordM, Closes, Powers, OperatorAt, ClosingAt, ExponentAt, MeasuredAt};
 
 // Of a subterm: its weight, its terms and its degree in each of four variables.
 pub struct Measures {
@@ -329,4 +329,46 @@ fn minus(g: u32, a: Measures, next: Reader) -> Sub
         return Sub::Done(a, next);
     }
     Sub::Broken
+}
+
+// The subterm that stands where the reader is.
+fn measure(row: &[u8], s: &[u8], reader: Reader) -> Sub
+    requires { ⌜ (reader .at ≤ length (now s)) × (length (now row) ≤ 4) ⌝ }
+    ensures { λ r. ⌜ MeasuredAt (now (row .entry)) (now (s .entry)) (reader .at) r ⌝ }
+{
+    let step = reader.next(s);
+    match step {
+        Step::End => Sub::Broken,
+        Step::Close(_, _) => Sub::Broken,
+        Step::Word { from, next } => {
+            let e = next.at;
+            word_of(row, &s[from..e], from, next)
+        }
+        Step::Open(p, next) => {
+            let op = operator_at(s, next);
+            let g = op.code;
+            if g == 0 {
+                return Sub::Broken;
+            }
+            let after = op.next;
+            let x = measure(row, s, after);
+            let Sub::Done(a, past) = x else {
+                return x;
+            };
+            if g == 4 {
+                return exponent(s, a, p, past);
+            }
+            let end = closing_at(s, past);
+            let yes = end.yes;
+            if yes {
+                let last = end.next;
+                return minus(g, a, last);
+            }
+            let y = measure(row, s, past);
+            let Sub::Done(b, behind) = y else {
+                return y;
+            };
+            closed(s, joined(g, a, b), p, behind)
+        }
+    }
 }
