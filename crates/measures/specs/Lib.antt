@@ -11,3 +11,4 @@ pub mod Owning
 pub mod Operands
 pub mod Inside
 pub mod Walk
+pub mod Accepting

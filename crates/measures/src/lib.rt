@@ -1,4 +1,5 @@
 // The measures of every subterm of a term's text, in order of finishing, and the first that passes a limit.
+use syntax::Syntax;
 use tokens::Reader;
 use tokens::Step;
 ghost use mathlib.Core.Path.{_≡_};
@@ -6,7 +7,9 @@ ghost use Prim.Native.Nat.{_+_, _*_, _^_, _≤_, _<_, min, max};
 ghost use lib.ListN.{length};
 ghost use mathlib.Core.Bool.{true};
 ghost use lib.Dec.{eqb};
+ghost use Rattle.texts.specs.definitions.Limits.{acceptTerm};
 ghost use Rattle.words.specs.Words.{isInteger};
+ghost use Rattle.syntax.specs.Answer.{syntaxOf};
 ghost use Rattle.syntax.specs.Machine.{pick};
 ghost use Rattle.measures.specs.Measuring.{boxM, addM, mulM, powM, limitM, Small, judged};
 ghost use Rattle.measures.specs.Found.{magnitudeOf, wordM, Closes, Powers, OperatorAt, ClosingAt, ExponentAt, MeasuredAt};
@@ -370,5 +373,24 @@ fn measure(row: &[u8], s: &[u8], reader: Reader) -> Sub
             };
             closed(s, joined(g, a, b), p, behind)
         }
+    }
+}
+
+// Whether s is an accepted term over the row, or the refusal 3, 4, 5, 6, 8, 9 or 10 and its place.
+pub fn accept_term(row: &[u8], s: &[u8]) -> Syntax
+    requires { ⌜ length (now row) ≤ 4 ⌝ }
+    ensures { λ r. ⌜ r ≡ syntaxOf (acceptTerm (now (row .entry)) (now (s .entry))) ⌝ }
+{
+    let first = syntax::judge_term(row, s);
+    let Syntax::Term = first else {
+        return first;
+    };
+    let reader = Reader::new();
+    let found = measure(row, s, reader);
+    match found {
+        Sub::Refused(e, p) => Syntax::Refused(e, p),
+        Sub::Done(_, _) => Syntax::Term,
+        // no term is broken
+        Sub::Broken => Syntax::Refused(4, 0),
     }
 }
