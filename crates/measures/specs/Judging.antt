@@ -36,14 +36,14 @@ rest-same e = cc
 
 -- the judgement, by the limit's number
 module _ (s : List ℕ) (m : Measures) (p : ℕ) (nx : Reader) where
-  judged-safe : (at : ℕ) → at < nx .at → nx .at ≤ length s → Safe s at (judged m p nx)
+  pub judged-safe : (at : ℕ) → at < nx .at → nx .at ≤ length s → Safe s at (judged m p nx)
   judged-safe at l k = by (eqb (limitM m) 0) refl
     where
       by : (b : Bool) → eqb (limitM m) 0 ≡ b → Safe s at (judged m p nx)
       by true e = subst (Safe s at) (sym (pick-yes _ _ e)) (is-small m (eqb-true (limitM m) 0 e), (l, k))
       by false e = subst (Safe s at) (sym (pick-no _ _ e)) tt
 
-  judged-is : Judges s m p (from s (nx .at)) (judged m p nx)
+  pub judged-is : Judges s m p (from s (nx .at)) (judged m p nx)
   judged-is = by (eqb (limitM m) 0) refl
     where
       by : (b : Bool) → eqb (limitM m) 0 ≡ b → Judges s m p (from s (nx .at)) (judged m p nx)

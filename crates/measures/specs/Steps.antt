@@ -23,23 +23,23 @@ use Rattle.measures.specs.declared.Sub.the-variants.{Refused, Done, Brok
 use Rattle.measures.specs.Found.{Safe, Powers, Raises, OperatorAt, ClosingAt, ExponentAt}
 use Rattle.measures.specs.Judging.{open-close, word-close, end-close, rest-same}
 
-open-word : {p o : ℕ} {w : List ℕ} {ks rest : List Token} → opening p ∷ ks ≡ word o w ∷ rest → ⊥
+pub open-word : {p o : ℕ} {w : List ℕ} {ks rest : List Token} → opening p ∷ ks ≡ word o w ∷ rest → ⊥
 open-word e = let z : _≡_ {A = ℕ} 0 1 = cc in omega arith
 
-close-word : {p o : ℕ} {w : List ℕ} {ks rest : List Token} → closing p ∷ ks ≡ word o w ∷ rest → ⊥
+pub close-word : {p o : ℕ} {w : List ℕ} {ks rest : List Token} → closing p ∷ ks ≡ word o w ∷ rest → ⊥
 close-word e = let z : _≡_ {A = ℕ} 0 1 = cc in omega arith
 
-end-word : {o : ℕ} {w : List ℕ} {rest : List Token} → [] ≡ word o w ∷ rest → ⊥
+pub end-word : {o : ℕ} {w : List ℕ} {rest : List Token} → [] ≡ word o w ∷ rest → ⊥
 end-word e = let z : _≡_ {A = ℕ} 0 1 = cc in omega arith
 
-same-word : {p o : ℕ} {v w : List ℕ} {ks rest : List Token} → word p v ∷ ks ≡ word o w ∷ rest → v ≡ w
+pub same-word : {p o : ℕ} {v w : List ℕ} {ks rest : List Token} → word p v ∷ ks ≡ word o w ∷ rest → v ≡ w
 same-word e = cc
 
-same-behind : {p o : ℕ} {v w : List ℕ} {ks rest : List Token} → word p v ∷ ks ≡ word o w ∷ rest → ks ≡ rest
+pub same-behind : {p o : ℕ} {v w : List ℕ} {ks rest : List Token} → word p v ∷ ks ≡ word o w ∷ rest → ks ≡ rest
 same-behind e = cc
 
 -- a `)` does not begin a term
-close-term : (t : Tree) (rest : List Token) {c : ℕ} {ks : List Token} → closing c ∷ ks ≡ placed t ++ rest → ⊥
+pub close-term : (t : Tree) (rest : List Token) {c : ℕ} {ks : List Token} → closing c ∷ ks ≡ placed t ++ rest → ⊥
 close-term (num p z) rest e = let z : _≡_ {A = ℕ} 0 1 = cc in omega arith
 close-term (letter p b) rest e = let z : _≡_ {A = ℕ} 0 1 = cc in omega arith
 close-term (neg p o c x) rest e = let z : _≡_ {A = ℕ} 0 1 = cc in omega arith

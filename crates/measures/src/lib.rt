@@ -1,4 +1,5 @@
 // The measures of every subterm of a term's text, in order of finishing, and the first that passes a limit.
+use syntax::Syntax;
 use tokens::Reader;
 use tokens::Step;
 ghost use mathlib.Core.Path.{_≡_};
@@ -6,10 +7,12 @@ ghost use Prim.Native.Nat.{_+_, _*_, _^_, _≤_, _<_, min, max};
 ghost use lib.ListN.{length};
 ghost use mathlib.Core.Bool.{true};
 ghost use lib.Dec.{eqb};
+ghost use Rattle.texts.specs.definitions.Limits.{acceptTerm};
 ghost use Rattle.words.specs.Words.{isInteger};
+ghost use Rattle.syntax.specs.Answer.{syntaxOf};
 ghost use Rattle.syntax.specs.Machine.{pick};
 ghost use Rattle.measures.specs.Measuring.{boxM, addM, mulM, powM, limitM, Small, judged};
-ghost use Rattle.measures.specs.Found.{magnitudeOf, wordM, Closes, Powers, OperatorAt, ClosingAt, ExponentAt};
+ghost use Rattle.measures.specs.Found.{magnitudeOf, wordM, Closes, Powers, OperatorAt, ClosingAt, ExponentAt, MeasuredAt};
 
 // Of a subterm: its weight, its terms and its degree in each of four variables.
 pub struct Measures {
@@ -329,4 +332,65 @@ fn minus(g: u32, a: Measures, next: Reader) -> Sub
         return Sub::Done(a, next);
     }
     Sub::Broken
+}
+
+// The subterm that stands where the reader is.
+fn measure(row: &[u8], s: &[u8], reader: Reader) -> Sub
+    requires { ⌜ (reader .at ≤ length (now s)) × (length (now row) ≤ 4) ⌝ }
+    ensures { λ r. ⌜ MeasuredAt (now (row .entry)) (now (s .entry)) (reader .at) r ⌝ }
+{
+    let step = reader.next(s);
+    match step {
+        Step::End => Sub::Broken,
+        Step::Close(_, _) => Sub::Broken,
+        Step::Word { from, next } => {
+            let e = next.at;
+            word_of(row, &s[from..e], from, next)
+        }
+        Step::Open(p, next) => {
+            let op = operator_at(s, next);
+            let g = op.code;
+            if g == 0 {
+                return Sub::Broken;
+            }
+            let after = op.next;
+            let x = measure(row, s, after);
+            let Sub::Done(a, past) = x else {
+                return x;
+            };
+            if g == 4 {
+                return exponent(s, a, p, past);
+            }
+            let end = closing_at(s, past);
+            let yes = end.yes;
+            if yes {
+                let last = end.next;
+                return minus(g, a, last);
+            }
+            let y = measure(row, s, past);
+            let Sub::Done(b, behind) = y else {
+                return y;
+            };
+            closed(s, joined(g, a, b), p, behind)
+        }
+    }
+}
+
+// Whether s is an accepted term over the row, or the refusal 3, 4, 5, 6, 8, 9 or 10 and its place.
+pub fn accept_term(row: &[u8], s: &[u8]) -> Syntax
+    requires { ⌜ length (now row) ≤ 4 ⌝ }
+    ensures { λ r. ⌜ r ≡ syntaxOf (acceptTerm (now (row .entry)) (now (s .entry))) ⌝ }
+{
+    let first = syntax::judge_term(row, s);
+    let Syntax::Term = first else {
+        return first;
+    };
+    let reader = Reader::new();
+    let found = measure(row, s, reader);
+    match found {
+        Sub::Refused(e, p) => Syntax::Refused(e, p),
+        Sub::Done(_, _) => Syntax::Term,
+        // no term is broken
+        Sub::Broken => Syntax::Refused(4, 0),
+    }
 }

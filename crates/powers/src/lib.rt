@@ -2,7 +2,7 @@
 ghost use mathlib.Core.Path.{_≡_};
 ghost use Prim.Native.Nat.{_+_, _≤_};
 ghost use lib.ListN.{length, take, drop};
-ghost use Rattle.coded.specs.Coding.{Coded, Made, dec};
+ghost use Rattle.coded.specs.Coding.{Coded, Made, dec, enc};
 ghost use Rattle.fits.specs.Fit.{prodOf};
 ghost use Rattle.fits.specs.Tables.{Space};
 ghost use Rattle.powers.specs.Raise.{raiseOf, Raising, Stacked};
@@ -27,7 +27,7 @@ fn next(
     t: &mut [u32],
     u: &mut [u32],
 ) -> usize
-    requires { ⌜ (n + m ≤ length (now s)) × (n + 3073 ≤ length (now s)) ⌝ }
+    requires { ⌜ (n + m ≤ length (now s)) × (n + length (enc width (prodOf width (dec width (take n (now s))) (dec width (take m (drop n (now s)))))) ≤ length (now s)) ⌝ }
     requires { ⌜ Coded width (take n (now s)) × Coded width (take m (drop n (now s))) ⌝ }
     requires { ⌜ Space width (dec width (take n (now s))) (dec width (take m (drop n (now s)))) (length (now out)) (length (now t)) (length (now u)) ⌝ }
     ensures { λ r. ⌜ Stacked width (dec width (take n (now (s .entry)))) (prodOf width (dec width (take n (now (s .entry)))) (dec width (take m (drop n (now (s .entry)))))) n r (now (s .exit)) ⌝ }
@@ -48,7 +48,7 @@ fn last(
     t: &mut [u32],
     u: &mut [u32],
 ) -> usize
-    requires { ⌜ (n + m ≤ length (now s)) × (3073 ≤ length (now s)) ⌝ }
+    requires { ⌜ (n + m ≤ length (now s)) × (length (enc width (prodOf width (dec width (take n (now s))) (dec width (take m (drop n (now s)))))) ≤ length (now s)) ⌝ }
     requires { ⌜ Coded width (take n (now s)) × Coded width (take m (drop n (now s))) ⌝ }
     requires { ⌜ Space width (dec width (take n (now s))) (dec width (take m (drop n (now s)))) (length (now out)) (length (now t)) (length (now u)) ⌝ }
     ensures { λ r. ⌜ Made width (prodOf width (dec width (take n (now (s .entry)))) (dec width (take m (drop n (now (s .entry)))))) r (now (s .exit)) ⌝ }

@@ -1,22 +1,21 @@
 -- A form fits with each of its powers below one that fits.
 use mathlib.Core.List.{List, [], _∷_}
 use mathlib.Core.Path.{_≡_, refl, sym, _∙_, ap, ap₂, subst}
-use Prim.Native.Nat.{ℕ, zero, suc, _+_, _-_, _^_, _<_, _≤_}
+use Prim.Native.Nat.{ℕ, zero, suc, _+_, _-_, _*_, _^_, _<_, _≤_, min}
 use native.Mathlib.Nat as NatL
 use native.Mathlib.Omega.{arith}
 use lib.ListN.{length}
 use Rattle.horner.specs.definitions.Form.{Form, int, raise}
-use Rattle.horner.specs.definitions.Measures.{sums, multiples, box, AllLe, one-if}
+use Rattle.horner.specs.definitions.Measures.{sums, multiples, box, AllLe, one-if, count}
 use Rattle.horner.specs.laws.Bounds.{bounded-raise}
 use Rattle.horner.specs.laws.Count.{count-size, one-if-le}
 use Rattle.horner.specs.laws.Degree.{Below, all-le-below}
 use Rattle.horner.specs.laws.Measure.{meas-raise}
 use Rattle.horner.specs.laws.Normal.{normal-raise}
-use Rattle.coded.specs.Coding.{enc}
 use Rattle.coded.specs.Widths.{Leaf, ringOf}
-use Rattle.coded.specs.laws.Good.{good-int}
+use Rattle.coded.specs.laws.Sizes.{enc-pos}
 use Rattle.fits.specs.Fit.{prodOf, Within, Fit, Held}
-use Rattle.fits.specs.Tables.{Space}
+use Rattle.fits.specs.Tables.{wordsFor, Tables, Space}
 use Rattle.fits.specs.laws.Fit.{fit-prod}
 use Rattle.fits.specs.laws.Lists.{first-le, box-below}
 use Rattle.powers.specs.Raise.{raiseOf, Raising}
@@ -30,12 +29,12 @@ sums-multiples : (k : ℕ) (ds : List ℕ) → sums ds (multiples k ds) ≡ mult
 sums-multiples k [] = refl
 sums-multiples k (d ∷ ds) = ap₂ _∷_ (omega (arith, NatL.suc-mul k d)) (sums-multiples k ds)
 
-below-multiples : (j k : ℕ) (ds : List ℕ) → j ≤ k → Below (multiples j ds) (multiples k ds)
+pub below-multiples : (j k : ℕ) (ds : List ℕ) → j ≤ k → Below (multiples j ds) (multiples k ds)
 below-multiples j k [] l = tt
 below-multiples j k (d ∷ ds) l = (NatL.mul-le-mul-right d l, below-multiples j k ds l)
 
 -- ---- powers of a number that is not 0
-power-pos : (c k : ℕ) → 1 ≤ c → 1 ≤ c ^ k
+pub power-pos : (c k : ℕ) → 1 ≤ c → 1 ≤ c ^ k
 power-pos c zero l = omega (arith, NatL.pow-zero c)
 power-pos c (suc k) l = omega (arith, NatL.pow-succ' c k, NatL.mul-le-mul l (power-pos c k l))
 
@@ -47,7 +46,7 @@ power-more c j (suc d) l =
     let e : suc d + j ≡ suc (d + j) = omega arith in
     omega (arith, ap (λ z. c ^ z) e, NatL.pow-succ' c (d + j), power-more c j d l, NatL.mul-le-mul-right (c ^ (d + j)) l)
 
-power-mono : (c j k : ℕ) → 1 ≤ c → j ≤ k → c ^ j ≤ c ^ k
+pub power-mono : (c j k : ℕ) → 1 ≤ c → j ≤ k → c ^ j ≤ c ^ k
 power-mono c j k l h =
     let e : k - j + j ≡ k = omega arith in
     omega (arith, ap (λ z. c ^ z) e, power-more c j (k - j) l)
@@ -99,13 +98,9 @@ module _ {w k n s o t u : ℕ} {x : Form (Leaf w)} (r : Raising w x k n s o t u)
   pub raise-space : (j : ℕ) → j < k → Space w x (raiseOf w x j) o t u
   raise-space j l = record { n = r .vars; k = 63; fit = raise-fit j l; tables = r .tables }
 
--- the power itself
-one-held : (w : ℕ) (x : Form (Leaf w)) → Held w (raiseOf w x 0)
-unfolding raiseOf enc
-one-held w x = record { good = good-int w (ringOf w .unit); words = omega arith }
+  -- there is a word for 1, in the place of x and behind it
+  pub raise-room : 0 < s
+  raise-room = omega (arith, enc-pos w (raiseOf w x k), r .whole)
 
-pub raise-held : {w n s o t u : ℕ} {x : Form (Leaf w)} (k : ℕ) → Raising w x k n s o t u → Held w (raiseOf w x k)
-raise-held {w} {x = x} zero r = one-held w x
-raise-held {w} {x = x} (suc k) r =
-    let e : k + 1 ≡ suc k = omega arith in
-    subst (Held w) (raise-more w x k ∙ ap (raiseOf w x) e) (fit-prod (raise-fit r k (omega arith)))
+  pub raise-behind : 0 < k → n < s
+  raise-behind l = omega (arith, enc-pos w (raiseOf w x 0), r .lower 0 l, r .fits)

@@ -1,18 +1,21 @@
 -- Document 01's limits on a term are what `raise` asks for.
-use Prim.Native.Nat.{ℕ, _+_, _≤_}
+use Prim.Native.Nat.{ℕ, _+_, _≤_, _<_}
 use lib.IntN.{ℤ}
+use lib.ListN.{length}
 use Rattle.horner.specs.definitions.Measures.{AllLe, degreesOf, termsOf}
 use Rattle.horner.specs.definitions.Term.{Term, expt, Over, norm}
 use Rattle.horner.specs.laws.Limits.{length-degreesOf, termsOf-pos}
+use Rattle.coded.specs.Coding.{enc}
 use Rattle.coded.specs.Widths.{Leaf, ringOf}
 use Rattle.fits.specs.Tables.{wordsFor, Tables}
 use Rattle.fits.specs.laws.Terms.{term-within}
-use Rattle.powers.specs.Raise.{Raising}
+use Rattle.powers.specs.Raise.{raiseOf, Raising}
 
 pub term-raising :
     (w v : ℕ) (ι : ℤ → Leaf w) (x : Term) {k n s o t u : ℕ} → v ≤ 4 → Over v x → AllLe 63 (degreesOf v (expt x k)) → termsOf v (expt x k) ≤ 256 →
-    n + 3073 ≤ s → Tables (wordsFor v 63) (wordsFor v 63) o t u → Raising w (norm (ringOf w) ι x) k n s o t u
-term-raising w v ι x l o d c f h =
+    (held : ℕ) → ((j : ℕ) → j < k → length (enc w (raiseOf w (norm (ringOf w) ι x) j)) ≤ held) → n + held ≤ s → length (enc w (raiseOf w (norm (ringOf w) ι x) k)) ≤ s →
+    Tables (wordsFor v 63) (wordsFor v 63) o t u → Raising w (norm (ringOf w) ι x) k n s o t u
+term-raising w v ι x l o d c m p f q h =
     record {
       vars = v;
       ds = degreesOf v x;
@@ -23,6 +26,9 @@ term-raising w v ι x l o d c f h =
       pos = termsOf-pos v x;
       degrees = d;
       few = c;
+      held = m;
+      lower = p;
       fits = f;
+      whole = q;
       tables = h;
     }

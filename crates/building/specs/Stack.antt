@@ -1,0 +1,104 @@
+-- What the stack holds: two forms one behind the other, what an operator makes of them, and how many words a term asks for.
+use mathlib.Core.Bool.{Bool, true, false, _&&_}
+use mathlib.Core.List.{List, [], _∷_, _++_}
+use mathlib.Core.Path.{_≡_}
+use Prim.Native.Nat.{ℕ, zero, suc, _+_, _*_, _≤_, _<_, max}
+use lib.Dec.{eqb}
+use lib.ListN.{length, take, drop}
+use Rattle.horner.specs.definitions.Form.{Form, size}
+use Rattle.horner.specs.definitions.Measures.{termsOf}
+use Rattle.horner.specs.definitions.Term.{normP, expt}
+use Rattle.coded.specs.Coding.{Coded, Made, dec, enc}
+use Rattle.coded.specs.Operations.{sumOf, negateOf}
+use Rattle.coded.specs.Widths.{Leaf}
+use Rattle.fits.specs.Fit.{prodOf}
+use Rattle.fits.specs.Tables.{Space, Tables}
+use Rattle.texts.specs.definitions.Answer.{read}
+use Rattle.texts.specs.definitions.Bytes.{isRow}
+use Rattle.texts.specs.definitions.Limits.{acceptTerm}
+use Rattle.texts.specs.definitions.Parts.{Part, Fits}
+use Rattle.texts.specs.definitions.Tokens.{Token}
+use Rattle.texts.specs.definitions.Tree.{Tree, num, letter, neg, two, power, placed, termOf, letters}
+use Rattle.tokens.specs.Views.{from}
+use Rattle.building.specs.Standing.{fit}
+
+-- the form in the first a words, and the one in the b words behind them
+abbrev pub left : ℕ → List ℕ → Form (Leaf 0)
+left a d = dec 0 (take a d)
+
+abbrev pub right : ℕ → ℕ → List ℕ → Form (Leaf 0)
+right a b d = dec 0 (take b (drop a d))
+
+pub record Pair (a b : ℕ) (d : List ℕ) : Type 0 where
+  pub fits : a + b ≤ length d
+  pub coded-left : Coded 0 (take a d)
+  pub coded-right : Coded 0 (take b (drop a d))
+
+-- by the operator's number
+abbrev pub combined : ℕ → Form (Leaf 0) → Form (Leaf 0) → Form (Leaf 0)
+combined g x y = elim (eqb g 3) [ true ↦ prodOf 0 x y | false ↦ elim (eqb g 2) [ true ↦ sumOf 0 x (negateOf 0 y) | false ↦ sumOf 0 x y ] ]
+
+-- n words of operands; l, o, t and u are the lengths of the four tables
+pub record Combining (g : ℕ) (x y : Form (Leaf 0)) (n l o t u : ℕ) : Type 0 where
+  pub room : n ≤ o + 1
+  pub small : o ≤ 33554432
+  pub space : g ≡ 3 → Space 0 x y o t u
+  pub words : g ≡ 3 → length (enc 0 (prodOf 0 x y)) ≤ l
+
+-- ---- how many words of the stack a term asks for
+abbrev pub wordsOf : List ℕ → Tree → ℕ
+wordsOf row x = length (enc 0 (normP (termOf row x)))
+
+-- as many words as the lower powers of x take at most, where n + 1 is the exponent
+abbrev pub lowerWords : List ℕ → Tree → ℕ → ℕ
+lowerWords row x n = 12 * termsOf (length row) (expt (termOf row x) n) + 1
+
+-- the second operand is built behind the first, and the lower powers behind their base; the result takes their place
+abbrev pub needPower : List ℕ → Tree → ℕ → ℕ → ℕ → ℕ
+needPower row x m w zero = 1
+needPower row x m w (suc n) = max (max m w) (wordsOf row x + lowerWords row x n)
+
+abbrev pub need : List ℕ → Tree → ℕ
+need row (num p z) = 4
+need row (letter p b) = 4
+need row (neg p o c x) = need row x
+need row (two p o c g x y) = max (max (need row x) (wordsOf row (two p o c g x y))) (wordsOf row x + need row y)
+need row (power p o c x q n) = needPower row x (need row x) (wordsOf row (power p o c x q n)) n
+
+-- ---- what stands at a place, and what is built of it
+-- the term x, within the limits, and rest behind it
+pub record Stands (row s : List ℕ) (at : ℕ) (x : Tree) (rest : List Token) : Type 0 where
+  pub tokens : from s at ≡ placed x ++ rest
+  pub in-row : letters (fit row) x ≡ true
+  pub fits : (y : Tree) → Part y x → Fits row y
+
+-- l, o, t and u are the lengths of the four tables
+pub record ReadyAt (row s : List ℕ) (at l o t u : ℕ) : Type 0 where
+  pub x : Tree
+  pub rest : List Token
+  pub stands : Stands row s at x rest
+  pub inside : at ≤ length s
+  pub proper : isRow row ≡ true
+  pub room : need row x ≤ l
+  pub tables : Tables 15684 15684 o t u
+
+-- its form stands at the front of the stack d, in n words
+pub record Done (row s : List ℕ) (at n next : ℕ) (d : List ℕ) (x : Tree) (rest : List Token) : Type 0 where
+  pub made : Made 0 (normP (termOf row x)) n d
+  pub behind : from s next ≡ rest
+  pub later : at < next
+  pub inside : next ≤ length s
+
+abbrev pub Finished : (row s : List ℕ) (at n next : ℕ) (d : List ℕ) → Type 0
+Finished row s at n next d = (x : Tree) (rest : List Token) → Stands row s at x rest → Done row s at n next d x rest
+
+-- s is the text of an accepted term over the row
+pub record Given (row s : List ℕ) : Type 0 where
+  pub proper : isRow row ≡ true
+  pub t : Tree
+  pub accepted : acceptTerm row s ≡ read t
+
+-- how long the four tables are
+pub record Lent (l o t u : ℕ) : Type 0 where
+  pub stack : 15332 ≤ l
+  pub tables : Tables 15684 15684 o t u
