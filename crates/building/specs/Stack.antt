@@ -1,11 +1,11 @@
 -- What the stack holds: two forms one behind the other, what an operator makes of them, and how many words a term asks for.
-use mathlib.Core.Bool.{Bool, true, false, _&&_}
-use mathlib.Core.List.{List, [], _∷_, _++_}
+use mathlib.Core.Bool.{true, false}
+use mathlib.Core.List.{List, _++_}
 use mathlib.Core.Path.{_≡_}
 use Prim.Native.Nat.{ℕ, zero, suc, _+_, _*_, _≤_, _<_, max}
 use lib.Dec.{eqb}
 use lib.ListN.{length, take, drop}
-use Rattle.horner.specs.definitions.Form.{Form, size}
+use Rattle.horner.specs.definitions.Form.{Form}
 use Rattle.horner.specs.definitions.Measures.{termsOf}
 use Rattle.horner.specs.definitions.Term.{normP, expt}
 use Rattle.coded.specs.Coding.{Coded, Made, dec, enc}

@@ -2,9 +2,7 @@
 use tokens::Reader;
 use tokens::Step;
 ghost use mathlib.Core.Path.{_≡_};
-ghost use mathlib.Core.Bool.{true};
-ghost use mathlib.Core.List.{List};
-ghost use Prim.Native.Nat.{ℕ, _+_, _≤_, _<_};
+ghost use Prim.Native.Nat.{_+_, _≤_, _<_};
 ghost use lib.ListN.{length, take, drop};
 ghost use Rattle.horner.specs.definitions.Form.{int};
 ghost use Rattle.horner.specs.definitions.Term.{normP};
@@ -16,7 +14,7 @@ ghost use Rattle.fits.specs.Tables.{Space};
 ghost use Rattle.texts.specs.definitions.Answer.{read};
 ghost use Rattle.texts.specs.definitions.Limits.{acceptTerm};
 ghost use Rattle.texts.specs.definitions.Tree.{Tree, termOf};
-ghost use Rattle.building.specs.Standing.{Headed, Passed, Skipped, Zeroed, Raised, IsInteger, OneLeaf, integerOf, LeafMade, Operated, Turned};
+ghost use Rattle.building.specs.Standing.{Headed, Passed, Skipped, Zeroed, Raised, ExponentRead, IsInteger, OneLeaf, integerOf, LeafMade, Operated, Turned};
 ghost use Rattle.building.specs.Stack.{Pair, left, right, combined, Combining, ReadyAt, Finished, Given, Lent};
 
 // What a term begins with: 0 and the word of a leaf, or the operator's number; and the place behind it.
@@ -170,7 +168,7 @@ fn zero_power(s: &[u8], g: u32, at: usize) -> usize
 // The exponent at a place.
 fn exponent_at(s: &[u8], at: usize) -> Exponent
     requires { ⌜ Raised (now s) at ⌝ }
-    ensures { λ r. ⌜ Rattle.building.specs.Standing.ExponentRead (now (s .entry)) at (r .value) (r .next) ⌝ }
+    ensures { λ r. ⌜ ExponentRead (now (s .entry)) at (r .value) (r .next) ⌝ }
 {
     let step = Reader { at }.next(s);
     let Step::Word { from, next } = step else {
