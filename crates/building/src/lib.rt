@@ -323,38 +323,27 @@ fn build(
     let zero = zero_power(s, g, first);
     if zero != 0 {
         stack[0] = 1;
-        return Built {
-            words: 1,
-            next: zero,
-        };
+        let next = zero;
+        return Built { words: 1, next };
     }
     let x = build(row, s, first, stack, out, t, u);
     let a = x.words;
     let mid = x.next;
     if g == 4 {
         let e = exponent_at(s, mid);
-        let n = powers::raise(0, stack, a, e.value, out, t, u);
-        let end = past(s, e.next);
-        return Built {
-            words: n,
-            next: end,
-        };
+        let words = powers::raise(0, stack, a, e.value, out, t, u);
+        let next = past(s, e.next);
+        return Built { words, next };
     }
-    let close = past(s, mid);
-    if close != 0 {
-        let n = negate_front(stack, a, out);
-        return Built {
-            words: n,
-            next: close,
-        };
+    let next = past(s, mid);
+    if next != 0 {
+        let words = negate_front(stack, a, out);
+        return Built { words, next };
     }
     let y = build(row, s, mid, &mut stack[a..], out, t, u);
-    let n = combine(g, stack, a, y.words, out, t, u);
-    let end = past(s, y.next);
-    Built {
-        words: n,
-        next: end,
-    }
+    let words = combine(g, stack, a, y.words, out, t, u);
+    let next = past(s, y.next);
+    Built { words, next }
 }
 
 // The form of the accepted term s over the row, at the front of stack, and how many words it takes.
