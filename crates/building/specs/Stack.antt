@@ -98,7 +98,7 @@ pub record Given (row s : List ℕ) : Type 0 where
   pub t : Tree
   pub accepted : acceptTerm row s ≡ read t
 
--- how long the four tables are
+-- how long the four tables are: the product asks for `wordsFor 4 63` words, 15,684, of two of them; laws/Room has why 15,332 are enough for the stack
 pub record Lent (l o t u : ℕ) : Type 0 where
   pub stack : 15332 ≤ l
   pub tables : Tables 15684 15684 o t u
