@@ -4,7 +4,7 @@ use mathlib.Core.Path.{_≡_, sym, ap, subst, _∙_}
 use Prim.Native.Nat.{ℕ, _+_, _-_, _*_, _%_, _^_, _<_, _≤_, _∣_}
 use native.Mathlib.Nat as NatL
 use native.Mathlib.Omega.{arith}
-use lib.Pow.{pow-pos, pow-add}
+use lib.Pow.{pow-add}
 use Rattle.coded.specs.Widths.{modulus, modulus-pos}
 use Rattle.coded.specs.laws.Widths.{modulus-small}
 

@@ -2,11 +2,11 @@
 -- Assumes nothing.
 use mathlib.Core.Path.{_≡_, refl, sym, ap, subst, _∙_}
 use mathlib.Core.List.{List, [], _∷_, _++_, append-assoc}
-use Prim.Native.Nat.{ℕ, zero, suc, _+_, _-_, _≤_, _<_, min}
+use Prim.Native.Nat.{ℕ, suc, _+_, _-_, _≤_, _<_}
 use native.Mathlib.Omega.{arith}
-use lib.ListN.{length, take, drop, getD, set, length-append, length-drop, length-take, length-set, take-append-drop}
+use lib.ListN.{length, take, drop, getD, set, length-append, length-drop, length-take, length-set}
 use native.Mathlib.Numerals.{add-one}
-use lib.Seq.{take-append-add, take-all, take-append-le, take-suc, drop-cons, set-at, length-take-le, getD-append-add, getD-drop}
+use lib.Seq.{take-append-add, take-append-le, take-suc, drop-cons, set-at, length-take-le, getD-append-add, getD-drop}
 use borrow.Rule.Slice.PartMut.{putMid}
 use Rattle.coded.specs.Coding.{Begins}
 use Rattle.coded.specs.laws.Codes.{tail-part}

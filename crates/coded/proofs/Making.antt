@@ -11,7 +11,7 @@ use borrow.Rule.Slice.PartMut.{putMid}
 use Rattle.horner.specs.definitions.Form.{Form, int, pop, pow}
 use Rattle.coded.specs.Coding.{enc, dec, Good, Codes, Begins}
 use Rattle.coded.specs.Operations.{popOf, powOf, zeroOf}
-use Rattle.coded.specs.Widths.{Leaf, leaf, modulus}
+use Rattle.coded.specs.Widths.{Leaf, leaf}
 use Rattle.coded.specs.laws.Codes.{IsInt, IsPop, IsPow, codes-length, int-view, pop-view, pow-view, dec-enc}
 use Rattle.coded.specs.laws.Good.{good-pop, good-pow, good-zero}
 use Rattle.coded.specs.laws.Sizes.{enc-pos}
@@ -67,12 +67,12 @@ mkpop-pow (suc i) z v = rw (v .is) (ap (λ r. (2147483648 + suc i) ∷ r) (v .li
 pub mkpop-pop-small : {w : ℕ} {h : Form (Leaf w)} {l : List ℕ} (i : ℕ) → 0 < i → (v : IsPop w h l) → Good w (popOf w i h) → i + v .i ≤ 63
 unfolding popOf
 mkpop-pop-small zero z v g = absurd (omega arith)
-mkpop-pop-small {w} (suc i) z v g = omega (arith, good-pop w (suc i + v .i) (v .p) (rw (v .is) at g) .1 .0)
+mkpop-pop-small {w} (suc i) z v g = let h : Good w (pop (suc i + v .i) (v .p)) = rw (v .is) at g in omega (arith, good-pop h .1 .0)
 
 pub mkpop-pow-small : {w : ℕ} {h : Form (Leaf w)} {l : List ℕ} (i : ℕ) → 0 < i → IsPow w h l → Good w (popOf w i h) → i ≤ 63
 unfolding popOf
 mkpop-pow-small zero z v g = absurd (omega arith)
-mkpop-pow-small {w} (suc i) z v g = omega (arith, good-pop w (suc i) (pow (v .i) (v .p) (v .q)) (rw (v .is) at g) .1 .0)
+mkpop-pow-small {w} (suc i) z v g = let h : Good w (pop (suc i) (pow (v .i) (v .p) (v .q))) = rw (v .is) at g in omega (arith, good-pop h .1 .0)
 
 -- the words of a pop's form, moved down
 pub popped :
@@ -147,8 +147,8 @@ pub pow-code :
 unfolding enc
 pow-code i a x y c e f = rw (c .is, e .is, f)
 
-pub pow-small : (w i : ℕ) (p q : Form (Leaf w)) → Good w (pow i p q) → i ≤ 63
-pow-small w i p q g = good-pow w i p q g .1 .0
+pub pow-small : {w i : ℕ} {p q h : Form (Leaf w)} → h ≡ pow i p q → Good w h → i ≤ 63
+pow-small {w} e g = good-pow (subst (Good w) e g) .1 .0
 
 -- A plain pow: a store before the two forms
 pub stored :
@@ -193,6 +193,10 @@ merged {w} {h} {q} d e a b i c room v s x es ex z cq m =
     region-set (3 + s) b 0 d x (omega arith) ∙ ap (λ n. take b (drop n d)) k ∙ cq .is in
     begins-as m (rw (l₁, l₂, l₃) (ap (λ n. n ∷ (enc w (v .p) ++ enc w q)) (rw (ex, es)) ∙ pow-code (i + v .i) (length (enc w (v .p))) (enc w (v .p)) (enc w q) (record { is = refl; good = v .good-p }) (record { is = refl; good = cq .good }) refl))
 
+-- A form that was made at the front
+pub front-codes : {w : ℕ} {h : Form (Leaf w)} {n : ℕ} {d : List ℕ} → Begins n (enc w h) d → Good w h → Codes w h (take n d)
+front-codes m g = record { is = m .is; good = g }
+
 -- A form that was made in the part from f on
 pub made-codes :
     {w : ℕ} {h : Form (Leaf w)} (f : ℕ) (d e : List ℕ) (n : ℕ) → f ≤ length d → Begins n (enc w h) e → Good w h →
@@ -216,18 +220,33 @@ pub zero-codes : (w : ℕ) → Codes w (zeroOf w) (0 ∷ [])
 unfolding enc zeroOf
 zero-codes w = record { is = ap (λ n. n ∷ []) (sym (zero-leaf w)); good = good-zero w }
 
--- pop(i, .) and pow(i, ., .) of what was made
+-- two that were made, the second behind the first
+abbrev pub one-put : (d e : List ℕ) → List ℕ
+one-put d e = putMid 1 (length d - 1) d e
 
-module _ {w : ℕ} {p : Form (Leaf w)} {x : List ℕ} (c : Codes w p x) (i : ℕ) where
-  pub mkpop-good : Good w (popOf w i p) → Good w (popOf w i (dec w x))
-  mkpop-good = rw (dec-enc c) (λ g. g)
+abbrev pub two-put : (d e₁ e₂ : List ℕ) → ℕ → List ℕ
+two-put d e₁ e₂ a = putMid (1 + a) (length (one-put d e₁) - (1 + a)) (one-put d e₁) e₂
 
-  pub mkpop-enc : enc w (popOf w i (dec w x)) ≡ enc w (popOf w i p)
-  mkpop-enc = rw (dec-enc c)
+pub two-made :
+    {w : ℕ} {p q : Form (Leaf w)} (d e₁ e₂ : List ℕ) (a b : ℕ) →
+    1 ≤ length d → 1 + a ≤ length (one-put d e₁) → Begins a (enc w p) e₁ → Good w p → Begins b (enc w q) e₂ → Good w q →
+    Codes w p (take a (drop 1 (two-put d e₁ e₂ a))) × Codes w q (take b (drop (1 + a) (two-put d e₁ e₂ a)))
+two-made d e₁ e₂ a b l k m g n h =
+    let o = one-put d e₁ in
+    (kept-codes 1 a (1 + a) (length o - (1 + a)) o e₂ (made-codes 1 d e₁ a l m g) (omega arith) k, made-codes (1 + a) o e₂ b k n h)
 
-module _ {w : ℕ} {p q : Form (Leaf w)} {x y : List ℕ} (c : Codes w p x) (e : Codes w q y) (i : ℕ) where
-  pub mkpow-good : Good w (powOf w i p q) → Good w (powOf w i (dec w x) (dec w y))
-  mkpow-good = rw (dec-enc c, dec-enc e) (λ g. g)
+-- What make_pop and make_pow ask and give, where h is pop(i, p) or pow(i, p, q) of the forms that stand in the regions
 
-  pub mkpow-enc : enc w (powOf w i (dec w x) (dec w y)) ≡ enc w (powOf w i p q)
-  mkpow-enc = rw (dec-enc c, dec-enc e)
+module _ {w : ℕ} (i : ℕ) {h p : Form (Leaf w)} {x : List ℕ} (c : Codes w p x) (e : h ≡ popOf w i p) where
+  pub pop-asks : Good w h → Good w (popOf w i (dec w x))
+  pop-asks g = rw (dec-enc c) (subst (Good w) e g)
+
+  pub pop-gives : {r : ℕ} {o : List ℕ} → Begins r (enc w (popOf w i (dec w x))) o → Begins r (enc w h) o
+  pop-gives m = begins-as m (rw (dec-enc c) (ap (enc w) (sym e)))
+
+module _ {w : ℕ} (i : ℕ) {h p q : Form (Leaf w)} {x y : List ℕ} (c : Codes w p x × Codes w q y) (e : h ≡ powOf w i p q) where
+  pub pow-asks : Good w h → Good w (powOf w i (dec w x) (dec w y))
+  pow-asks g = rw (dec-enc (c .0), dec-enc (c .1)) (subst (Good w) e g)
+
+  pub pow-gives : {r : ℕ} {o : List ℕ} → Begins r (enc w (powOf w i (dec w x) (dec w y))) o → Begins r (enc w h) o
+  pow-gives m = begins-as m (rw (dec-enc (c .0), dec-enc (c .1)) (ap (enc w) (sym e)))

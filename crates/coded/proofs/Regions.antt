@@ -1,12 +1,11 @@
 -- Laws of regions: the m words of a list from the a-th on, `take m (drop a d)`.
 -- Assumes nothing.
 use mathlib.Core.Path.{_≡_, refl, sym, ap, subst, _∙_}
-use mathlib.Core.List.{List, [], _∷_, _++_, append-assoc}
-use Prim.Native.Nat.{ℕ, zero, suc, _+_, _-_, _≤_, _<_, min}
+use mathlib.Core.List.{List, [], _∷_, _++_}
+use Prim.Native.Nat.{ℕ, zero, suc, _+_, _-_, _≤_, _<_}
 use native.Mathlib.Omega.{arith}
-use native.Mathlib.Numerals.{unary-clauses}
-use lib.ListN.{length, take, drop, getD, set, length-append, length-drop, length-take, length-set}
-use lib.Seq.{take-take, drop-drop, drop-set-lt, take-append-le, drop-append-le, drop-at, take-nil, drop-nil, take-at, getD-take, getD-drop, length-take-le}
+use lib.ListN.{length, take, drop, getD, set, length-drop}
+use lib.Seq.{take-take, drop-drop, drop-set-lt, take-append-le, drop-append-le, drop-at, take-at, getD-take, getD-drop, length-take-le}
 use borrow.Rule.Slice.PartMut.{putMid}
 use Rattle.coded.specs.Coding.{Begins}
 use Rattle.coded.proofs.Lists.{begins-as, begins-tail}
@@ -37,10 +36,6 @@ region-head a m d h =
 -- a word of a region
 pub region-at : (a m k : ℕ) (d : List ℕ) → k < m → getD (take m (drop a d)) k 0 ≡ getD d (a + k) 0
 region-at a m k d h = getD-take m (drop a d) k 0 h ∙ getD-drop a d k 0
-
--- what l ++ d has after l
-pub region-after : (l d : List ℕ) (k m : ℕ) → k ≡ length l → take m (drop k (l ++ d)) ≡ take m d
-region-after l d k m e = ap (take m) (drop-at l d k (sym e))
 
 -- what a shift leaves of p after its first n words
 pub region-beyond : (l p : List ℕ) (n k m : ℕ) → length l ≡ n → n ≤ k → take m (drop k (l ++ drop n p)) ≡ take m (drop k p)

@@ -7,9 +7,13 @@ ghost use Prim.Native.Nat.{_+_, _*_, _%_, _<_, _≤_};
 ghost use mathlib.Core.List.{_++_, _∷_};
 ghost use lib.ListN.{length, take, drop};
 ghost use Rattle.horner.specs.definitions.Residues.{addBy, negBy, mulBy, powBy};
+ghost use Rattle.horner.specs.definitions.Form.{pow};
 ghost use Rattle.coded.specs.Widths.{modulus};
 ghost use Rattle.coded.specs.Coding.{Coded, Good, Begins, Made, Room, dec};
 ghost use Rattle.coded.specs.Operations.{popOf, powOf};
+
+// A head word from here on is a node's; one below is a leaf.
+pub const NODE: u32 = 2147483648;
 
 // The low 8 bits of a counter.
 fn low8(a: u16) -> u16
@@ -108,17 +112,17 @@ pub fn make_pop(width: u32, out: &mut [u32], i: u32, n: usize) -> usize
     ensures { λ r. ⌜ Made width (popOf width i (dec width (take n (drop 1 (now (out .entry)))))) r (now (out .exit)) ⌝ }
 {
     let w = out[1];
-    if w < 2147483648 {
+    if w < NODE {
         out[0] = w;
         return 1;
     }
-    if (w - 2147483648) / 64 == 0 {
+    if (w - NODE) / 64 == 0 {
         out[0] = w + i;
         let m = n - 1;
         shift(&mut out[1..], 1, m);
         return 1 + m;
     }
-    out[0] = 2147483648 + i;
+    out[0] = NODE + i;
     1 + n
 }
 
@@ -132,7 +136,18 @@ fn join(out: &mut [u32], s: usize, b: usize)
     shift(&mut out[e..], 2, b);
 }
 
-// out holds a free word, then a form of a words, then one of b words. Makes it pow(i, the one, the other) (Definition 8), in place, and returns its length.
+// out holds a free word, then a form of a words, then one of b words. Makes it (POW i the one the other), and returns its length.
+fn plain_pow(width: u32, out: &mut [u32], i: u32, a: usize, b: usize) -> usize
+    requires { ⌜ (1 + a + b ≤ length (now out)) × (length (now out) ≤ 33554432) ⌝ }
+    requires { ⌜ Coded width (take a (drop 1 (now out))) × Coded width (take b (drop (1 + a) (now out))) ⌝ }
+    requires { ⌜ i ≤ 63 ⌝ }
+    ensures { λ r. ⌜ Made width (pow i (dec width (take a (drop 1 (now (out .entry))))) (dec width (take b (drop (1 + a) (now (out .entry)))))) r (now (out .exit)) ⌝ }
+{
+    out[0] = NODE + 64 * (a as u32) + i;
+    1 + a + b
+}
+
+// The same, with pow(i, the one, the other) (Definition 8).
 pub fn make_pow(width: u32, out: &mut [u32], i: u32, a: usize, b: usize) -> usize
     requires { ⌜ (1 + a + b ≤ length (now out)) × (length (now out) ≤ 33554432) ⌝ }
     requires { ⌜ Coded width (take a (drop 1 (now out))) × Coded width (take b (drop (1 + a) (now out))) ⌝ }
@@ -146,19 +161,20 @@ pub fn make_pow(width: u32, out: &mut [u32], i: u32, a: usize, b: usize) -> usiz
         shift(out, 1, n);
         return n;
     }
-    if w >= 2147483648 {
-        let s = ((w - 2147483648) / 64) as usize;
-        if s > 0 {
-            let e = 2 + s;
-            if out[e] == 0 {
-                out[0] = w + i;
-                join(out, s, b);
-                return 1 + s + b;
-            }
-        }
+    if w < NODE {
+        return plain_pow(width, out, i, a, b);
     }
-    out[0] = 2147483648 + 64 * (a as u32) + i;
-    1 + a + b
+    let s = ((w - NODE) / 64) as usize;
+    if s == 0 {
+        return plain_pow(width, out, i, a, b);
+    }
+    let e = 2 + s;
+    if out[e] == 0 {
+        out[0] = w + i;
+        join(out, s, b);
+        return 1 + s + b;
+    }
+    plain_pow(width, out, i, a, b)
 }
 
 // Writes the head word of a pow of exponent i and its p, and returns how many words those are.
@@ -168,7 +184,7 @@ pub fn put_pow(i: u32, p: &[u32], out: &mut [u32]) -> usize
     ensures { λ r. ⌜ Begins r ((2147483648 + 64 * length (now (p .entry)) + i) ∷ now (p .entry)) (now (out .exit)) ⌝ }
 {
     let n = p.len();
-    out[0] = 2147483648 + 64 * (n as u32) + i;
+    out[0] = NODE + 64 * (n as u32) + i;
     copy(p, &mut out[1..]);
     1 + n
 }

@@ -1,4 +1,5 @@
 // A number put for the first variable of a coded form: what the search for a point goes by.
+use coded::NODE;
 ghost use mathlib.Core.Path.{_≡_};
 ghost use Prim.Native.Nat.{_+_, _<_, _≤_};
 ghost use lib.ListN.{length};
@@ -18,7 +19,7 @@ fn put_lower(width: u32, i: u32, p: &[u32], out: &mut [u32]) -> usize
         coded::copy(p, out);
         return n;
     }
-    out[0] = 2147483647 + i;
+    out[0] = NODE + (i - 1);
     coded::copy(p, &mut out[1..]);
     1 + n
 }
@@ -31,11 +32,11 @@ pub fn at_first(width: u32, x: &[u32], a: u32, out: &mut [u32], spare: &mut [u32
     ensures { λ r. ⌜ Made width (atFirstOf width (dec width (now (x .entry))) a) r (now (out .exit)) ⌝ }
 {
     let w = x[0];
-    if w < 2147483648 {
+    if w < NODE {
         out[0] = w;
         return 1;
     }
-    let s = ((w - 2147483648) / 64) as usize;
+    let s = ((w - NODE) / 64) as usize;
     if s == 0 {
         return put_lower(width, w % 64, &x[1..], out);
     }

@@ -1,17 +1,18 @@
 -- The code of a product, from the codes of its parts: what the functions that multiply forms return.
 -- Assumes nothing.
-use mathlib.Core.Path.{_≡_, refl, sym, ap, subst, _∙_}
-use mathlib.Core.List.{List, [], _∷_, _++_}
+use mathlib.Core.Path.{_≡_, sym, ap, _∙_}
+use mathlib.Core.List.{List, _∷_, _++_}
 use Prim.Native.Nat.{ℕ, suc, _+_, _-_, _%_, _≤_, _<_}
 use native.Mathlib.Omega.{arith}
 use lib.ListN.{length, getD, take, drop, set}
 use lib.Seq.{take-set-le, set-split, take-at, drop-at, length-take-le}
 use borrow.Rule.Slice.PartMut.{putMid, take-put}
 use Rattle.horner.specs.definitions.Form.{Form, pop, lower, mkpop}
-use Rattle.coded.specs.Coding.{enc, Good, Codes, Begins}
+use Rattle.coded.specs.Coding.{enc, dec, Good, Codes, Begins}
 use Rattle.coded.specs.Operations.{popOf, powOf, scaleOf, zeroOf}
 use Rattle.coded.specs.Widths.{Leaf}
-use Rattle.coded.specs.laws.Codes.{IsInt, IsPop, IsPow}
+use Rattle.coded.specs.laws.Codes.{IsInt}
+use Rattle.coded.specs.laws.Parts.{inner, first, rest, PopAt, PowAt}
 use Rattle.coded.proofs.Lists.{begins-le}
 use Rattle.coded.proofs.Making.{zero-codes}
 use Rattle.coded.proofs.Regions.{region-sub}
@@ -27,12 +28,15 @@ module _ {w : ℕ} {h : Form (Leaf w)} {x : ℕ} (v : IsInt w h x) (y : Form (Le
   times-int = ap (enc w) (sym (any-int w x y) ∙ ap (λ z. prodOf w y z) (sym (v .is)))
 
 -- (4) and (5)
-module _ {w : ℕ} {h : Form (Leaf w)} {l : List ℕ} (v : IsPow w h l) (i : ℕ) (p : Form (Leaf w)) (pos : 0 < i) where
-  pub pop-times : (k : ℕ) → k ≡ v .i → prodOf w (pop i p) h ≡ powOf w k (prodOf w (pop i p) (v .p)) (prodOf w (lower (i - 1) p) (v .q))
-  pop-times k e = rw (v .is, e) (pop-pow w i (v .i) p (v .p) (v .q) pos)
+module _ {w : ℕ} {l : List ℕ} (v : PowAt w l) (i : ℕ) (p : Form (Leaf w)) (pos : 0 < i) where
+  pub pop-times : prodOf w (pop i p) (dec w l) ≡ powOf w (getD l 0 0 % 64) (prodOf w (pop i p) (dec w (first l))) (prodOf w (lower (i - 1) p) (dec w (rest l)))
+  pop-times = ap (prodOf w (pop i p)) (v .is) ∙ pop-pow w i (getD l 0 0 % 64) p (dec w (first l)) (dec w (rest l)) pos
 
-  pub times-swap : prodOf w (pop i p) h ≡ prodOf w h (pop i p)
-  times-swap = rw (v .is) (sym (pow-pop w i (v .i) p (v .p) (v .q) pos))
+  pub times-swap : prodOf w (pop i p) (dec w l) ≡ prodOf w (dec w l) (pop i p)
+  times-swap =
+      ap (prodOf w (pop i p)) (v .is)
+      ∙ sym (pow-pop w i (getD l 0 0 % 64) p (dec w (first l)) (dec w (rest l)) pos)
+      ∙ ap (λ h. prodOf w h (pop i p)) (sym (v .is))
 
 -- what stands before a part that is lent is kept
 pub front-codes : {w : ℕ} {h : Form (Leaf w)} (n : ℕ) (d e : List ℕ) (k : ℕ) → n ≤ length d → Codes w h (take n d) → Codes w h (take n (putMid n k d e))
@@ -47,15 +51,13 @@ pub up-int : {w : ℕ} {h : Form (Leaf w)} {x : ℕ} → IsInt w h x → popOf w
 unfolding popOf
 up-int v = rw (v .is)
 
-pub up-pop : {w : ℕ} {h : Form (Leaf w)} {l : List ℕ} (v : IsPop w h l) {p : Form (Leaf w)} → p ≡ v .p → popOf w 1 h ≡ pop (1 + getD l 0 0 % 64) p
+pub up-pop : {w : ℕ} {l : List ℕ} → PopAt w l → popOf w 1 (dec w l) ≡ pop (1 + getD l 0 0 % 64) (dec w (inner l))
 unfolding popOf
-up-pop {l = l} v e =
-    let i : 1 + getD l 0 0 % 64 ≡ 1 + v .i = omega (arith, v .word, v .small) in
-    rw (v .is, e, i)
+up-pop v = ap (mkpop 1) (v .is)
 
-pub up-pow : {w : ℕ} {h : Form (Leaf w)} {l : List ℕ} → IsPow w h l → popOf w 1 h ≡ pop 1 h
+pub up-pow : {w : ℕ} {l : List ℕ} → PowAt w l → popOf w 1 (dec w l) ≡ pop 1 (dec w l)
 unfolding popOf
-up-pow v = rw (v .is)
+up-pow v = ap (mkpop 1) (v .is) ∙ ap (pop 1) (sym (v .is))
 
 -- a store after a form, and the leaf 0 that it makes
 

@@ -1,5 +1,6 @@
 // The sum of two coded forms (Definition 9). `sum` goes by the first form's head word. The functions below it take a form in its parts: a pop as its
 // exponent and its p, a pow as its exponent, its p and its q. So (POP i-j p) and (POW i-j p 0) are never written out.
+use coded::NODE;
 ghost use mathlib.Core.Path.{_≡_};
 ghost use Prim.Native.Nat.{_+_, _<_};
 ghost use lib.ListN.{length};
@@ -16,11 +17,11 @@ pub fn add_int(width: u32, a: u32, y: &[u32], out: &mut [u32]) -> usize
     ensures { λ r. ⌜ Made width (sumOf width (int (leaf width a)) (dec width (now (y .entry)))) r (now (out .exit)) ⌝ }
 {
     let w = y[0];
-    if w < 2147483648 {
+    if w < NODE {
         out[0] = coded::leaf_sum(width, a, w);
         return 1;
     }
-    let s = ((w - 2147483648) / 64) as usize;
+    let s = ((w - NODE) / 64) as usize;
     if s == 0 {
         out[0] = w;
         let n = add_int(width, a, &y[1..], &mut out[1..]);
@@ -39,10 +40,10 @@ pub fn sum(width: u32, x: &[u32], y: &[u32], out: &mut [u32]) -> usize
     ensures { λ r. ⌜ Made width (sumOf width (dec width (now (x .entry))) (dec width (now (y .entry)))) r (now (out .exit)) ⌝ }
 {
     let w = x[0];
-    if w < 2147483648 {
+    if w < NODE {
         return add_int(width, w, y, out);
     }
-    let s = ((w - 2147483648) / 64) as usize;
+    let s = ((w - NODE) / 64) as usize;
     if s == 0 {
         return add_pop(width, w % 64, &x[1..], y, out);
     }
@@ -58,12 +59,12 @@ fn add_pop(width: u32, i: u32, p: &[u32], y: &[u32], out: &mut [u32]) -> usize
     ensures { λ r. ⌜ Made width (sumOf width (pop i (dec width (now (p .entry)))) (dec width (now (y .entry)))) r (now (out .exit)) ⌝ }
 {
     let w = y[0];
-    if w < 2147483648 {
-        out[0] = 2147483648 + i;
+    if w < NODE {
+        out[0] = NODE + i;
         let n = add_int(width, w, p, &mut out[1..]);
         return 1 + n;
     }
-    let s = ((w - 2147483648) / 64) as usize;
+    let s = ((w - NODE) / 64) as usize;
     if s == 0 {
         return add_pops(width, i, p, w % 64, &y[1..], out);
     }
@@ -100,7 +101,7 @@ fn add_pops_gt(width: u32, i: u32, p: &[u32], j: u32, q: &[u32], out: &mut [u32]
     coded::make_pop(width, out, j, n)
 }
 
-// (POP i p) and (POW j q r)
+// (POP i p) and (POW j q r): (POP i-1 p), or p itself, is added to r
 fn add_pop_pow(
     width: u32,
     i: u32,
@@ -120,29 +121,8 @@ fn add_pop_pow(
         let n = sum(width, r, p, &mut out[f..]);
         return f + n;
     }
-    let n = add_any_pop(width, r, i - 1, p, &mut out[f..]);
+    let n = add_pop(width, i - 1, p, r, &mut out[f..]);
     f + n
-}
-
-// x and (POP i p)
-fn add_any_pop(width: u32, x: &[u32], i: u32, p: &[u32], out: &mut [u32]) -> usize
-    requires { ⌜ Coded width (now x) × Coded width (now p) ⌝ }
-    requires { ⌜ Good width (pop i (dec width (now p))) ⌝ }
-    requires { ⌜ Room (1 + length (now p) + length (now x)) (now out) ⌝ }
-    ensures { λ r. ⌜ Made width (sumOf width (dec width (now (x .entry))) (pop i (dec width (now (p .entry))))) r (now (out .exit)) ⌝ }
-{
-    let w = x[0];
-    if w < 2147483648 {
-        out[0] = 2147483648 + i;
-        let n = add_int(width, w, p, &mut out[1..]);
-        return 1 + n;
-    }
-    let s = ((w - 2147483648) / 64) as usize;
-    if s == 0 {
-        return add_pops(width, w % 64, &x[1..], i, p, out);
-    }
-    let e = 1 + s;
-    add_pop_pow(width, i, p, w % 64, &x[1..e], &x[e..], out)
 }
 
 // (POW i p q) and y
@@ -153,12 +133,12 @@ fn add_pow(width: u32, i: u32, p: &[u32], q: &[u32], y: &[u32], out: &mut [u32])
     ensures { λ r. ⌜ Made width (sumOf width (pow i (dec width (now (p .entry))) (dec width (now (q .entry)))) (dec width (now (y .entry)))) r (now (out .exit)) ⌝ }
 {
     let w = y[0];
-    if w < 2147483648 {
+    if w < NODE {
         let f = coded::put_pow(i, p, out);
         let n = add_int(width, w, q, &mut out[f..]);
         return f + n;
     }
-    let s = ((w - 2147483648) / 64) as usize;
+    let s = ((w - NODE) / 64) as usize;
     if s == 0 {
         return add_pop_pow(width, w % 64, &y[1..], i, p, q, out);
     }

@@ -1,14 +1,16 @@
 -- The code of a form carried to another ring, from the codes of its parts.
 -- Assumes nothing.
-use mathlib.Core.Path.{_≡_, refl, sym, ap, ap₂, _∙_}
+use mathlib.Core.Path.{_≡_, sym, ap, ap₂, _∙_}
 use mathlib.Core.List.{List, [], _∷_}
-use Prim.Native.Nat.{ℕ, _<_}
+use Prim.Native.Nat.{ℕ, _%_, _<_}
+use lib.ListN.{getD}
 use Rattle.horner.specs.definitions.Form.{Form}
 use Rattle.horner.specs.definitions.Residues.{mulBy}
-use Rattle.coded.specs.Coding.{enc}
+use Rattle.coded.specs.Coding.{enc, dec}
 use Rattle.coded.specs.Operations.{popOf, powOf}
 use Rattle.coded.specs.Widths.{modulus, Leaf, leaf}
-use Rattle.coded.specs.laws.Codes.{IsInt, IsPop, IsPow}
+use Rattle.coded.specs.laws.Codes.{IsInt}
+use Rattle.coded.specs.laws.Parts.{inner, first, rest, PopAt, PowAt}
 use Rattle.coded.specs.laws.Widths.{leaf-number}
 use Rattle.walks.specs.Carrying.{carried, carryOf}
 
@@ -19,10 +21,11 @@ module _ {v : ℕ} (w a : ℕ) where
   unfolding enc carryOf
   carried-int y r u l f e = ap (λ n. n ∷ []) (e ∙ ap₂ (mulBy (modulus w)) (sym (leaf-number w a l)) f) ∙ rw (u .is)
 
-  pub carried-pop : {h : Form (Leaf v)} {l : List ℕ} (u : IsPop v h l) → carryOf v w a h ≡ popOf w (u .i) (carryOf v w a (u .p))
+  pub carried-pop : {l : List ℕ} → PopAt v l → carryOf v w a (dec v l) ≡ popOf w (getD l 0 0 % 64) (carryOf v w a (dec v (inner l)))
   unfolding carryOf popOf
-  carried-pop u = rw (u .is)
+  carried-pop u = ap (carryOf v w a) (u .is)
 
-  pub carried-pow : {h : Form (Leaf v)} {l : List ℕ} (u : IsPow v h l) → carryOf v w a h ≡ powOf w (u .i) (carryOf v w a (u .p)) (carryOf v w a (u .q))
+  pub carried-pow :
+      {l : List ℕ} → PowAt v l → carryOf v w a (dec v l) ≡ powOf w (getD l 0 0 % 64) (carryOf v w a (dec v (first l))) (carryOf v w a (dec v (rest l)))
   unfolding carryOf powOf
-  carried-pow u = rw (u .is)
+  carried-pow u = ap (carryOf v w a) (u .is)

@@ -1,17 +1,19 @@
 -- The value of a form, from the values of its parts.
 -- Assumes nothing.
-use mathlib.Core.Path.{_≡_, refl, sym, ap, ap₂, _∙_}
+use mathlib.Core.Path.{_≡_, refl, sym, ap, _∙_}
 use mathlib.Core.List.{List, [], _∷_, map}
-use Prim.Native.Nat.{ℕ, zero, suc, _+_, _-_, _<_, min}
+use Prim.Native.Nat.{ℕ, zero, suc, _+_, _-_, _%_, min}
 use native.Mathlib.Omega.{arith}
 use lib.ListN.{length, getD, take, drop}
 use lib.Seq.{getD-drop}
-use Rattle.horner.specs.definitions.Form.{Form, int, pop, pow}
+use Rattle.horner.specs.definitions.Form.{Form}
 use Rattle.horner.specs.definitions.Residues.{addBy, mulBy, powBy}
 use Rattle.horner.specs.definitions.Value.{evalh}
+use Rattle.coded.specs.Coding.{dec}
 use Rattle.coded.specs.Operations.{valueOf}
 use Rattle.coded.specs.Widths.{modulus, Leaf, ringOf, leaf}
-use Rattle.coded.specs.laws.Codes.{IsInt, IsPop, IsPow, tail-part}
+use Rattle.coded.specs.laws.Codes.{IsInt, tail-part}
+use Rattle.coded.specs.laws.Parts.{inner, first, rest, PopAt, PowAt}
 use Rattle.coded.specs.laws.Widths.{leaf-number, zero-leaf, power-number}
 use Rattle.walks.specs.Points.{Leaves}
 
@@ -35,31 +37,37 @@ drop-map f zero l = refl
 drop-map f (suc i) [] = refl
 drop-map f (suc i) (x ∷ l) = drop-map f i l
 
-module _ {w : ℕ} {h : Form (Leaf w)} (l : List ℕ) where
-  pub eval-int : {x : ℕ} → IsInt w h x → x ≡ valueOf w h l
-  unfolding valueOf
-  eval-int {x} v = sym (leaf-number w x (v .below)) ∙ rw (v .is)
-
-  pub eval-pop :
-      {k : List ℕ} (v : IsPop w h k) (p : Form (Leaf w)) (i : ℕ) →
-      p ≡ v .p → i ≡ v .i → valueOf w p (take (length l - min i (length l)) (drop (min i (length l)) l)) ≡ valueOf w h l
-  unfolding valueOf
-  eval-pop v p i e f = rw (v .is, e, f, tail-part (min (v .i) (length l)) l, drop-least)
-      (ap (λ N. evalh (ringOf w) (v .p) N .0) (sym (drop-map (leaf w) (v .i) l)))
-
-pub eval-none : {w : ℕ} {h : Form (Leaf w)} {k : List ℕ} (l : List ℕ) → IsPow w h k → length l ≡ 0 → 0 ≡ valueOf w h l
+pub eval-int : {w : ℕ} {h : Form (Leaf w)} {x : ℕ} (l : List ℕ) → IsInt w h x → x ≡ valueOf w h l
 unfolding valueOf
-eval-none {w} [] v e = sym (zero-leaf w) ∙ rw (v .is)
+eval-int {w} {h} {x} l v = sym (leaf-number w x (v .below)) ∙ rw (v .is)
+
+pub eval-pop :
+    {w : ℕ} {k : List ℕ} (l : List ℕ) → PopAt w k →
+    let i = getD k 0 0 % 64 in
+    valueOf w (dec w (inner k)) (take (length l - min i (length l)) (drop (min i (length l)) l)) ≡ valueOf w (dec w k) l
+unfolding valueOf
+eval-pop {w} {k} l v =
+    let i = getD k 0 0 % 64 in
+    rw (tail-part (min i (length l)) l, drop-least)
+    (ap (λ N. evalh (ringOf w) (dec w (inner k)) N .0) (sym (drop-map (leaf w) i l)) ∙ ap (λ z. valueOf w z l) (sym (v .is)))
+
+pub eval-none : {w : ℕ} {k : List ℕ} (l : List ℕ) → PowAt w k → length l ≡ 0 → 0 ≡ valueOf w (dec w k) l
+unfolding valueOf
+eval-none {w} [] v e = sym (zero-leaf w) ∙ ap (λ z. valueOf w z []) (sym (v .is))
 eval-none (n ∷ l) v e = absurd (omega arith)
 
 pub eval-pow :
-    {w : ℕ} {h : Form (Leaf w)} {k : List ℕ} (l : List ℕ) (v : IsPow w h k) (p q : Form (Leaf w)) (i : ℕ) →
-    (length l ≡ 0 → ⊥) → Leaves w l → p ≡ v .p → q ≡ v .q → i ≡ v .i →
-    addBy (modulus w) (mulBy (modulus w) (powBy (modulus w) (getD l 0 0) i) (valueOf w p l)) (valueOf w q (take (length l - 1) (drop 1 l))) ≡ valueOf w h l
-unfolding valueOf
-eval-pow [] v p q i n r e f g = absurd (n refl)
-eval-pow {w} (n ∷ l) v p q i s r e f g =
-    let b : leaf w n .0 ≡ n = leaf-number w n (r .below 0) in
+    {w : ℕ} {k : List ℕ} (l : List ℕ) → PowAt w k → (length l ≡ 0 → ⊥) → Leaves w l →
     let m = modulus w in
-    rw (v .is, e, f, g, tail-part 1 (n ∷ l))
-    (ap (λ z. addBy m (mulBy m z (valueOf w (v .p) (n ∷ l))) (valueOf w (v .q) l)) (ap (λ z. powBy m z (v .i)) (sym b) ∙ sym (power-number w (leaf w n) (v .i))))
+    addBy m (mulBy m (powBy m (getD l 0 0) (getD k 0 0 % 64)) (valueOf w (dec w (first k)) l)) (valueOf w (dec w (rest k)) (take (length l - 1) (drop 1 l)))
+    ≡ valueOf w (dec w k) l
+unfolding valueOf
+eval-pow [] v n r = absurd (n refl)
+eval-pow {w} {k} (n ∷ l) v s r =
+    let m = modulus w in
+    let i = getD k 0 0 % 64 in
+    let b : leaf w n .0 ≡ n = leaf-number w n (r .below 0) in
+    rw (tail-part 1 (n ∷ l))
+    (ap (λ z. addBy m (mulBy m z (valueOf w (dec w (first k)) (n ∷ l))) (valueOf w (dec w (rest k)) l))
+    (ap (λ z. powBy m z i) (sym b) ∙ sym (power-number w (leaf w n) i))
+    ∙ ap (λ z. valueOf w z (n ∷ l)) (sym (v .is)))

@@ -1,15 +1,16 @@
 -- The code of the negative of a form, from the codes of its parts.
 -- Assumes nothing.
-use mathlib.Core.Path.{_≡_, refl, sym, ap, _∙_}
+use mathlib.Core.Path.{_≡_, sym, ap, _∙_}
 use mathlib.Core.List.{List, [], _∷_, _++_}
 use Prim.Native.Nat.{ℕ}
-use lib.ListN.{getD}
-use Rattle.horner.specs.definitions.Form.{Form, int, pop, pow}
+use lib.ListN.{length, getD}
+use Rattle.horner.specs.definitions.Form.{Form}
 use Rattle.horner.specs.definitions.Residues.{negBy}
-use Rattle.coded.specs.Coding.{enc}
+use Rattle.coded.specs.Coding.{enc, dec}
 use Rattle.coded.specs.Operations.{negateOf}
-use Rattle.coded.specs.Widths.{modulus, Leaf, leaf}
-use Rattle.coded.specs.laws.Codes.{IsInt, IsPop, IsPow}
+use Rattle.coded.specs.Widths.{modulus, Leaf}
+use Rattle.coded.specs.laws.Codes.{IsInt, codes-length}
+use Rattle.coded.specs.laws.Parts.{inner, first, rest, PopAt, PowAt, pop-made, pow-made}
 use Rattle.coded.specs.laws.Sizes.{negate-length}
 use Rattle.coded.specs.laws.Widths.{leaf-number}
 
@@ -17,14 +18,16 @@ pub neg-int : {w : ℕ} {h : Form (Leaf w)} {x r : ℕ} → IsInt w h x → r �
 unfolding enc negateOf
 neg-int {w} {h} {x} v e = ap (λ n. n ∷ []) (e ∙ ap (negBy (modulus w)) (sym (leaf-number w x (v .below)))) ∙ rw (v .is)
 
-pub neg-pop :
-    {w : ℕ} {h : Form (Leaf w)} {l : List ℕ} (v : IsPop w h l) (p : Form (Leaf w)) → p ≡ v .p →
-    (getD l 0 0 ∷ []) ++ enc w (negateOf w p) ≡ enc w (negateOf w h)
-unfolding enc negateOf
-neg-pop v p e = rw (v .is, v .word, e)
+module _ {w : ℕ} {l : List ℕ} where
+  pub neg-pop : PopAt w l → (getD l 0 0 ∷ []) ++ enc w (negateOf w (dec w (inner l))) ≡ enc w (negateOf w (dec w l))
+  unfolding negateOf
+  neg-pop v = pop-made v (negateOf w (dec w (inner l))) ∙ ap (λ h. enc w (negateOf w h)) (sym (v .is))
 
-pub neg-pow :
-    {w : ℕ} {h : Form (Leaf w)} {l : List ℕ} (v : IsPow w h l) (p q : Form (Leaf w)) →
-    p ≡ v .p → q ≡ v .q → ((getD l 0 0 ∷ []) ++ enc w (negateOf w p)) ++ enc w (negateOf w q) ≡ enc w (negateOf w h)
-unfolding enc negateOf
-neg-pow {w} v p q e f = rw (v .is, v .word, e, f, negate-length w (v .p))
+  -- the negative of a pow's p is as long as its p
+  pub neg-left : PowAt w l → length (enc w (negateOf w (dec w (first l)))) ≡ length (first l)
+  neg-left v = negate-length w (dec w (first l)) ∙ sym (codes-length (v .left))
+
+  pub neg-pow :
+      PowAt w l → ((getD l 0 0 ∷ []) ++ enc w (negateOf w (dec w (first l)))) ++ enc w (negateOf w (dec w (rest l))) ≡ enc w (negateOf w (dec w l))
+  unfolding negateOf
+  neg-pow v = pow-made v (negateOf w (dec w (first l))) (negateOf w (dec w (rest l))) (neg-left v) ∙ ap (λ h. enc w (negateOf w h)) (sym (v .is))

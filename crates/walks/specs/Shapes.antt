@@ -1,5 +1,5 @@
 -- A variable as a form, and what a test tells.
-use mathlib.Core.Bool.{Bool, true, false}
+use mathlib.Core.Bool.{Bool, true}
 use mathlib.Core.Path.{_≡_}
 use Prim.Native.Nat.{ℕ}
 use Rattle.horner.specs.definitions.Form.{Form, letter}

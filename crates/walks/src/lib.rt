@@ -1,4 +1,5 @@
 // Functions that walk over one coded form: its negative, its value at a point, its product with a leaf, and the same form in another ring.
+use coded::NODE;
 ghost use mathlib.Core.Path.{_≡_};
 ghost use Prim.Native.Nat.{ℕ, _+_, _<_, _≤_, min};
 ghost use lib.ListN.{length};
@@ -24,11 +25,11 @@ pub fn negate(width: u32, x: &[u32], out: &mut [u32]) -> usize
     ensures { λ r. ⌜ Made width (negateOf width (dec width (now (x .entry)))) r (now (out .exit)) ⌝ }
 {
     let w = x[0];
-    if w < 2147483648 {
+    if w < NODE {
         out[0] = coded::leaf_negation(width, w);
         return 1;
     }
-    let s = ((w - 2147483648) / 64) as usize;
+    let s = ((w - NODE) / 64) as usize;
     out[0] = w;
     if s == 0 {
         let n = negate(width, &x[1..], &mut out[1..]);
@@ -48,10 +49,10 @@ pub fn value(width: u32, x: &[u32], point: &[u32]) -> u32
     ensures { λ r. ⌜ (r ≡ valueOf width (dec width (now (x .entry))) (now (point .entry))) × (r < modulus width) ⌝ }
 {
     let w = x[0];
-    if w < 2147483648 {
+    if w < NODE {
         return w;
     }
-    let s = ((w - 2147483648) / 64) as usize;
+    let s = ((w - NODE) / 64) as usize;
     let i = w % 64;
     if s == 0 {
         let k = least(i as usize, point.len());
@@ -104,11 +105,11 @@ pub fn carry(from: u32, width: u32, a: u32, y: &[u32], out: &mut [u32]) -> usize
     ensures { λ r. ⌜ Made width (carryOf from width a (dec from (now (y .entry)))) r (now (out .exit)) ⌝ }
 {
     let w = y[0];
-    if w < 2147483648 {
+    if w < NODE {
         out[0] = coded::leaf_product(width, a, leaf_carried(from, width, w));
         return 1;
     }
-    let s = ((w - 2147483648) / 64) as usize;
+    let s = ((w - NODE) / 64) as usize;
     if s == 0 {
         let n = carry(from, width, a, &y[1..], &mut out[1..]);
         return coded::make_pop(width, out, w % 64, n);
@@ -175,7 +176,7 @@ pub fn integer(width: u32, a: u32, out: &mut [u32]) -> usize
     1
 }
 
-// The i-th variable as a form: pop(i, (POW 1 1 0)).
+// The i-th variable as a form: pop(i, (POW 1 1 0)). The head word of that pow is NODE + 64 + 1.
 pub fn letter(width: u32, i: u32, out: &mut [u32]) -> usize
     requires { ⌜ i ≤ 3 ⌝ }
     requires { ⌜ 4 ≤ length (now out) ⌝ }
@@ -187,7 +188,7 @@ pub fn letter(width: u32, i: u32, out: &mut [u32]) -> usize
         out[2] = 0;
         return 3;
     }
-    out[0] = 2147483648 + i;
+    out[0] = NODE + i;
     out[1] = 2147483713;
     out[2] = 1;
     out[3] = 0;

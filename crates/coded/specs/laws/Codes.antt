@@ -1,5 +1,5 @@
 -- The decoder gives back what was coded, and what the head word of a code says of its form: a leaf, a POP or a POW, with its parts.
-use mathlib.Core.List.{List, [], _∷_, _++_}
+use mathlib.Core.List.{List, _∷_, _++_}
 use mathlib.Core.Path.{_≡_, refl, sym, ap, _∙_}
 use Prim.Native.Nat.{ℕ, zero, suc, _+_, _*_, _-_, _/_, _%_, _≤_, _<_}
 use native.Mathlib.Omega.{arith}
@@ -8,9 +8,10 @@ use lib.Seq.{take-append-seam, drop-append-seam, take-all}
 use borrow.Author.Tests.{lt-ltb, le-ltb, eq-eqb, ne-eqb}
 use Rattle.horner.specs.definitions.Form.{Form, int, pop, pow}
 use Rattle.coded.specs.Coding.{enc, Good, Codes, decn, dec, Coded}
+use Rattle.coded.specs.Operations.{sumOf}
 use Rattle.coded.specs.Widths.{modulus, Leaf, leaf}
 use Rattle.coded.specs.laws.Good.{good-pop, good-pow}
-use Rattle.coded.specs.laws.Sizes.{enc-pos}
+use Rattle.coded.specs.laws.Sizes.{enc-pos, sum-length}
 use Rattle.coded.specs.laws.Widths.{modulus-small, leaf-of, leaf-below}
 
 module _ (w : ℕ) where
@@ -25,13 +26,13 @@ module _ (w : ℕ) where
   decn-enc (int c) (suc n) g l = rw (lt-ltb (c .0) 2147483648 (omega (arith, leaf-word c))) (ap int (leaf-of w c))
   decn-enc (pop i p) zero g l = absurd (omega arith)
   decn-enc (pop i p) (suc n) g l =
-      let k = good-pop w i p g in
+      let k = good-pop g in
       let e : (2147483648 + i) % 64 ≡ i = omega (arith, k .1 .0) in
       let ih : decn w n (enc w p) ≡ p = decn-enc p n (k .1 .1) (omega arith) in
       rw (le-ltb (2147483648 + i) 2147483648 (omega arith), eq-eqb ((2147483648 + i - 2147483648) / 64) 0 (omega (arith, k .1 .0)), e, ih)
   decn-enc (pow i p q) zero g l = absurd (omega arith)
   decn-enc (pow i p q) (suc n) g l =
-      let k = good-pow w i p q g in
+      let k = good-pow g in
       let s : (2147483648 + 64 * length (enc w p) + i - 2147483648) / 64 ≡ length (enc w p) = omega (arith, k .1 .0) in
       let e : (2147483648 + 64 * length (enc w p) + i) % 64 ≡ i = omega (arith, k .1 .0) in
       let len : length (enc w p ++ enc w q) ≡ length (enc w p) + length (enc w q) = length-append (enc w p) (enc w q) in
@@ -48,6 +49,11 @@ coded {w} {h} {l} c = rw (dec-enc c) c
 
 pub codes-length : {w : ℕ} {h : Form (Leaf w)} {l : List ℕ} → Codes w h l → length l ≡ length (enc w h)
 codes-length c = ap length (c .is)
+
+-- the sum of two coded forms is shorter than the two
+pub sum-shorter :
+    {w : ℕ} {x y : Form (Leaf w)} {l k : List ℕ} → Codes w x l → Codes w y k → length (enc w (sumOf w x y)) + 1 ≤ length l + length k
+sum-shorter {w} {x} {y} c e = omega (arith, codes-length c, codes-length e, sum-length w x y)
 
 -- two good forms with one code are one form
 pub codes-same : {w : ℕ} {g h : Form (Leaf w)} {l : List ℕ} → Codes w g l → Codes w h l → g ≡ h
@@ -103,16 +109,16 @@ module _ (w : ℕ) where
   unfolding enc
   pop-of (int c) g l e = absurd (omega (arith, leaf-word w c))
   pop-of (pop i p) g l e =
-      let k = good-pop w i p g in
+      let k = good-pop g in
       record { i = i; p = p; is = refl; word = refl; pos-i = k .0; small = k .1 .0; good-node = g; good = k .1 .1; list = refl; len = refl; pos = enc-pos w p }
   pop-of (pow i p q) g l e = absurd (omega (arith, enc-pos w p))
 
   pow-of : (h : Form (Leaf w)) → Good w h → 2147483648 ≤ getD (enc w h) 0 0 → ((getD (enc w h) 0 0 - 2147483648) / 64 ≡ 0 → ⊥) → IsPow w h (enc w h)
   unfolding enc
   pow-of (int c) g l e = absurd (omega (arith, leaf-word w c))
-  pow-of (pop i p) g l e = absurd (omega (arith, good-pop w i p g .1 .0))
+  pow-of (pop i p) g l e = absurd (omega (arith, good-pop g .1 .0))
   pow-of (pow i p q) g l e =
-      let k = good-pow w i p q g in
+      let k = good-pow g in
       record {
         i = i;
         p = p;

@@ -1,5 +1,4 @@
 -- How many words the operations' results take: no more than their parts and a word, and a sum at least one less than its terms together.
-use mathlib.Core.List.{_++_}
 use mathlib.Core.Path.{_≡_, refl}
 use Prim.Native.Nat.{ℕ, zero, suc, _+_, _≤_, _<_}
 use native.Mathlib.Omega.{arith}

@@ -1,19 +1,20 @@
 -- A number put for the first variable: the cases of the definition over coded parts, and that the result is good and no longer.
-use mathlib.Core.List.{List, [], _∷_, _++_}
-use mathlib.Core.Path.{_≡_, refl, sym, ap, ap₂, _∙_}
-use Prim.Native.Nat.{ℕ, zero, suc, _+_, _-_, _≤_, _<_}
+use mathlib.Core.List.{List, _∷_}
+use mathlib.Core.Path.{_≡_, sym, ap, _∙_}
+use Prim.Native.Nat.{ℕ, zero, suc, _+_, _-_, _%_, _≤_, _<_}
 use native.Mathlib.Omega.{arith}
-use lib.ListN.{length}
+use lib.ListN.{length, getD}
 use Rattle.horner.specs.definitions.Form.{Form, int, pop, pow, size, lower, sum, scale}
 use Rattle.horner.specs.definitions.Points.{atFirst}
 use Rattle.horner.specs.definitions.Residues.{powBy}
 use Rattle.horner.specs.definitions.Ring.{Ring, power}
 use Rattle.horner.specs.laws.First.{normal-atFirst, bounded-atFirst}
-use Rattle.coded.specs.Coding.{enc, limits, Good, Codes}
+use Rattle.coded.specs.Coding.{enc, dec, limits, Good, Codes}
 use Rattle.coded.specs.Operations.{sumOf, scaleOf}
 use Rattle.coded.specs.Widths.{modulus, Leaf, ringOf, leaf}
-use Rattle.coded.specs.laws.Codes.{IsInt, IsPop, IsPow}
-use Rattle.coded.specs.laws.Good.{good-at}
+use Rattle.coded.specs.laws.Codes.{IsInt}
+use Rattle.coded.specs.laws.Good.{good-at, good-pop}
+use Rattle.coded.specs.laws.Parts.{inner, first, rest, PopAt, PowAt}
 use Rattle.coded.specs.laws.Sizes.{size-enc, size-sumF, size-scale}
 use Rattle.coded.specs.laws.Widths.{leaf-number, leaf-of, power-number}
 use Rattle.firsts.specs.First.{lowerOf, atFirstOf}
@@ -59,25 +60,25 @@ module _ (w : ℕ) where
       let e : suc i - 1 ≡ i = omega arith in
       ap (λ k. lower k p) e
 
-  pub first-pop : {h : Form (Leaf w)} {l : List ℕ} (a : ℕ) (v : IsPop w h l) → lowerOf w (v .i) (v .p) ≡ atFirstOf w h a
-  first-pop a v = rw (v .is) (lower-is (v .i) (v .p) a (v .pos-i))
+  pub first-pop : {l : List ℕ} (a : ℕ) → PopAt w l → lowerOf w (getD l 0 0 % 64) (dec w (inner l)) ≡ atFirstOf w (dec w l) a
+  first-pop {l} a v = lower-is (getD l 0 0 % 64) (dec w (inner l)) a (good-pop (v .node) .0) ∙ ap (λ h. atFirstOf w h a) (sym (v .is))
 
   pub first-pow :
-      {h : Form (Leaf w)} {l : List ℕ} (a : ℕ) (v : IsPow w h l) → a < modulus w →
-      sumOf w (scaleOf w (powBy (modulus w) a (v .i)) (atFirstOf w (v .p) a)) (v .q) ≡ atFirstOf w h a
+      {l : List ℕ} (a : ℕ) → PowAt w l → a < modulus w →
+      sumOf w (scaleOf w (powBy (modulus w) a (getD l 0 0 % 64)) (atFirstOf w (dec w (first l)) a)) (dec w (rest l)) ≡ atFirstOf w (dec w l) a
   unfolding atFirstOf sumOf scaleOf
-  first-pow a v l =
-      rw (v .is) (ap (λ z. sum (ringOf w) (scale (ringOf w) z (atFirst (ringOf w) (v .p) (leaf w a))) (v .q)) (power-leaf a (v .i) l))
+  first-pow {l} a v h =
+      ap (λ z. sum (ringOf w) (scale (ringOf w) z (atFirst (ringOf w) (dec w (first l)) (leaf w a))) (dec w (rest l))) (power-leaf a (getD l 0 0 % 64) h)
+      ∙ ap (λ h. atFirstOf w h a) (sym (v .is))
 
   -- the code of a lowered form
-  pub lower-code : (i : ℕ) {p : Form (Leaf w)} {l : List ℕ} → Codes w p l → 1 < i → (2147483647 + i) ∷ l ≡ enc w (lowerOf w i p)
+  pub lower-code : (i : ℕ) {p : Form (Leaf w)} {l : List ℕ} → Codes w p l → 1 < i → (2147483648 + (i - 1)) ∷ l ≡ enc w (lowerOf w i p)
   unfolding enc lowerOf
   lower-code zero c h = absurd (omega arith)
   lower-code (suc zero) c h = absurd (omega arith)
   lower-code (suc (suc i)) {p} c h =
       let e : suc (suc i) - 1 ≡ suc i = omega arith in
-      let f : 2147483647 + suc (suc i) ≡ 2147483648 + suc i = omega arith in
-      ap₂ _∷_ f (c .is) ∙ ap (λ k. enc w (lower k p)) (sym e)
+      ap (λ k. (2147483648 + (suc (suc i) - 1)) ∷ k) (c .is) ∙ ap (λ n. (2147483648 + n) ∷ enc w p) e ∙ ap (λ k. enc w (lower k p)) (sym e)
 
   pub lower-same : (i : ℕ) (p : Form (Leaf w)) → i ≡ 1 → lowerOf w i p ≡ p
   unfolding lowerOf

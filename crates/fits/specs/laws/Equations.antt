@@ -1,8 +1,8 @@
 -- The cases of Definition 11, of the product in the ring of a width.
 use mathlib.Core.Path.{_≡_, refl, sym, ap, subst, _∙_}
-use Prim.Native.Nat.{ℕ, zero, suc, _+_, _-_, _<_, _≤_}
+use Prim.Native.Nat.{ℕ, suc, _-_, _<_}
 use native.Mathlib.Omega.{arith}
-use Rattle.horner.specs.definitions.Form.{Form, int, pop, pow, lower, scale}
+use Rattle.horner.specs.definitions.Form.{Form, int, pop, pow, lower}
 use Rattle.horner.specs.laws.Equations.{prod-int, prod-pop-int, prod-pow-int, prod-pop-pow, prod-pow-pop, prod-pow-pow, prod-3a, prod-3b, prod-3c}
 use Rattle.coded.specs.Operations.{popOf, powOf, sumOf, scaleOf, zeroOf}
 use Rattle.coded.specs.Widths.{Leaf, ringOf, leaf}

@@ -1,21 +1,19 @@
 -- What fits stays so: the parts of two forms that fit, by which Definition 11 goes on, fit too, and the product is held.
-use mathlib.Core.List.{List, [], _∷_}
-use mathlib.Core.Path.{_≡_, refl, sym, _∙_, ap, subst}
-use Prim.Native.Nat.{ℕ, zero, suc, _+_, _-_, _*_, _<_, _≤_, min}
+use mathlib.Core.Path.{_≡_, sym, _∙_, ap, subst}
+use Prim.Native.Nat.{ℕ, _+_, _-_, _*_, _<_, _≤_, min}
 use native.Mathlib.Nat as NatL
 use native.Mathlib.Omega.{arith}
 use lib.ListN.{length}
-use Rattle.horner.specs.definitions.Form.{Form, int, pop, pow, lower, prod}
-use Rattle.horner.specs.definitions.Measures.{firstOr0, sums, box, AllLe, one-if, count, Bounded}
-use Rattle.horner.specs.definitions.Normal.{Normal}
+use Rattle.horner.specs.definitions.Form.{Form, pop, pow, lower, prod}
+use Rattle.horner.specs.definitions.Measures.{firstOr0, sums, box, AllLe, one-if, count}
 use Rattle.horner.specs.definitions.Value.{after}
 use Rattle.horner.specs.laws.Bounds.{sums-comm, length-sums, bounded-mkpop, bounded-prod}
 use Rattle.horner.specs.laws.Count.{box-after, count-size, count-box}
-use Rattle.horner.specs.laws.Degree.{Below, bounded-mono, all-le-below}
+use Rattle.horner.specs.laws.Degree.{bounded-mono, all-le-below}
 use Rattle.horner.specs.laws.Measure.{meas-mkpop, meas-prod}
 use Rattle.horner.specs.laws.Normal.{normal-mkpop, normal-prod}
 use Rattle.horner.specs.laws.Room.{words-3073}
-use Rattle.coded.specs.Coding.{limits, enc, Good}
+use Rattle.coded.specs.Coding.{limits, enc}
 use Rattle.coded.specs.Operations.{popOf}
 use Rattle.coded.specs.Widths.{Leaf, ringOf}
 use Rattle.coded.specs.laws.Good.{good-at}

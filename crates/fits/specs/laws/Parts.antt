@@ -1,10 +1,10 @@
 -- The parts of a form with bounds: what is known of a form that stands i variables further down.
 use mathlib.Core.List.{List, [], _∷_}
-use mathlib.Core.Path.{_≡_, refl, sym, _∙_, ap, subst}
-use Prim.Native.Nat.{ℕ, zero, suc, _+_, _-_, _*_, _<_, _≤_}
+use mathlib.Core.Path.{_≡_, _∙_, ap, subst}
+use Prim.Native.Nat.{ℕ, suc, _+_, _-_, _<_, _≤_}
 use native.Mathlib.Omega.{arith}
-use Rattle.horner.specs.definitions.Form.{Form, int, pop, pow, lower}
-use Rattle.horner.specs.definitions.Measures.{firstOr0, one-if, count, Bounded}
+use Rattle.horner.specs.definitions.Form.{Form, pop, pow, lower}
+use Rattle.horner.specs.definitions.Measures.{firstOr0, one-if, Bounded}
 use Rattle.horner.specs.definitions.Normal.{Normal}
 use Rattle.horner.specs.definitions.Value.{tl, after}
 use Rattle.horner.specs.laws.Grid.{bounded-lower}

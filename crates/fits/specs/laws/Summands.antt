@@ -1,12 +1,11 @@
 -- The summands of Definition 11 (6) are held, and so is the sum of the first two.
 use mathlib.Core.List.{List, [], _∷_}
-use mathlib.Core.Path.{_≡_, refl, sym, _∙_, ap, subst}
-use Prim.Native.Nat.{ℕ, zero, suc, _+_, _-_, _*_, _<_, _≤_}
+use mathlib.Core.Path.{_≡_, ap, subst}
+use Prim.Native.Nat.{ℕ, _+_, _-_, _*_, _≤_}
 use native.Mathlib.Nat as NatL
 use native.Mathlib.Omega.{arith}
-use Rattle.horner.specs.definitions.Form.{Form, pow, mkpop, mkpow, sum, zeroForm, prod}
+use Rattle.horner.specs.definitions.Form.{Form, pow, mkpop, mkpow, zeroForm, prod}
 use Rattle.horner.specs.definitions.Measures.{sums, one-if, count, Bounded}
-use Rattle.horner.specs.definitions.Normal.{Normal}
 use Rattle.horner.specs.definitions.Ring.{Ring}
 use Rattle.horner.specs.laws.Bounds.{bounded-mkpop, bounded-mkpow, bounded-sum, bounded-prod}
 use Rattle.horner.specs.laws.Count.{count-size}

@@ -1,13 +1,13 @@
 -- The tables that are enough for a product are enough for the products that it is made of: Definition 11, case by case.
 use mathlib.Core.List.{List}
 use mathlib.Core.Path.{_≡_}
-use Prim.Native.Nat.{ℕ, zero, suc, _+_, _-_, _*_, _<_, _≤_}
+use Prim.Native.Nat.{ℕ, _+_, _-_, _<_, _≤_}
 use native.Mathlib.Omega.{arith}
-use Rattle.horner.specs.definitions.Form.{Form, int, pop, pow, lower}
+use Rattle.horner.specs.definitions.Form.{Form, pop, pow, lower}
 use Rattle.horner.specs.laws.Normal.{pow-level}
 use Rattle.coded.specs.Operations.{popOf}
 use Rattle.coded.specs.Widths.{Leaf, ringOf}
-use Rattle.fits.specs.Fit.{Within, Fit, Held}
+use Rattle.fits.specs.Fit.{Within}
 use Rattle.fits.specs.Tables.{wordsFor, Tables, Space, PopSpace, CrossSpace}
 use Rattle.fits.specs.laws.Fit.{fit-sym, fit-exponent, fit-pow, fit-up, fit-rests, fit-pops, fit-pops-gt, fit-lower}
 use Rattle.fits.specs.laws.Summands.{cross-held}

@@ -32,20 +32,20 @@ zeros-at (suc i) (suc j) ks ls e = zeros-at i j ks ls (ap (λ m. getD ks m 0) on
     one-less : j - i ≡ suc j - suc i
     one-less = omega arith
 
-zeros-zero : (n j : ℕ) → getD (zeros n []) j 0 ≡ 0
+pub zeros-zero : (n j : ℕ) → getD (zeros n []) j 0 ≡ 0
 zeros-zero zero j = refl
 zeros-zero (suc n) zero = refl
 zeros-zero (suc n) (suc j) = zeros-zero n j
 
-first-getD : (ds : List ℕ) → firstOr0 ds ≡ getD ds 0 0
+pub first-getD : (ds : List ℕ) → firstOr0 ds ≡ getD ds 0 0
 first-getD [] = refl
 first-getD (d ∷ ds) = refl
 
-tl-getD : (ds : List ℕ) (j : ℕ) → getD (tl ds) j 0 ≡ getD ds (suc j) 0
+pub tl-getD : (ds : List ℕ) (j : ℕ) → getD (tl ds) j 0 ≡ getD ds (suc j) 0
 tl-getD [] j = refl
 tl-getD (d ∷ ds) j = refl
 
-maxs-getD : (ds es : List ℕ) (j : ℕ) → length es ≡ length ds → getD (maxs ds es) j 0 ≡ max (getD ds j 0) (getD es j 0)
+pub maxs-getD : (ds es : List ℕ) (j : ℕ) → length es ≡ length ds → getD (maxs ds es) j 0 ≡ max (getD ds j 0) (getD es j 0)
 maxs-getD [] [] j h = omega arith
 maxs-getD [] (e ∷ es) j h = absurd (omega arith)
 maxs-getD (d ∷ ds) [] j h = absurd (omega arith)

@@ -1,22 +1,21 @@
 -- The proof of the cycle of calls that multiplies two forms. The measure is 8 times the words of the two forms, and a rank.
 -- Assumes nothing.
 use mathlib.Core.Path.{_≡_, _∙_, sym, ap, refl, subst}
-use mathlib.Core.List.{List, [], _∷_, _++_}
-use Prim.Native.Nat.{ℕ, suc, _+_, _*_, _-_, _/_, _%_, _<_, _≤_}
+use Prim.Native.Nat.{ℕ, _+_, _*_, _-_, _%_, _<_, _≤_}
 use native.Mathlib.Omega.{arith}
 use lib.ListN.{length, getD, take, drop, set, length-set}
 use lib.Seq.{length-take-le}
 use borrow.Rule.Slice.PartMut.{putMid}
-use Rattle.horner.specs.definitions.Form.{Form, pop, pow, lower}
-use Rattle.coded.specs.Coding.{dec, enc, Good, Codes, Begins}
-use Rattle.coded.specs.Operations.{popOf, powOf, sumOf, zeroOf}
-use Rattle.coded.specs.laws.Codes.{IsInt, IsPop, IsPow, some, int-view, pop-view, pow-view, pop-part, pow-left, pow-right, dec-enc, coded, codes-length}
+use Rattle.horner.specs.definitions.Form.{pop, pow, lower}
+use Rattle.coded.specs.Coding.{dec, enc, Codes, Begins}
+use Rattle.coded.specs.Operations.{popOf, sumOf, zeroOf}
+use Rattle.coded.specs.laws.Codes.{some, int-view, dec-enc, coded, codes-length}
 use Rattle.coded.specs.laws.Good.{good-pop, good-pow}
+use Rattle.coded.specs.laws.Parts.{inner, first, rest, PopAt, PowAt, pop-at, pow-at}
 use Rattle.coded.proofs.Lists.{begins-le, begins-as, length-tail-part}
-use Rattle.coded.proofs.Making.{made-codes, kept-codes, mkpop-good, mkpop-enc, mkpow-good, mkpow-enc}
-use Rattle.sums.proofs.Sums.{pop-is, pow-is}
+use Rattle.coded.proofs.Making.{made-codes, one-put, two-put, two-made, pop-asks, pop-gives, pow-asks, pow-gives}
 use Rattle.fits.specs.Fit.{prodOf, leadOf, crossOf, Held}
-use Rattle.fits.specs.Tables.{Space, PopSpace, CrossSpace, PowWord}
+use Rattle.fits.specs.Tables.{Space, PopSpace}
 use Rattle.fits.specs.laws.Equations.{pops-eq, pops-gt, pops-lt, lower-1, lower-more, pows}
 use Rattle.fits.specs.laws.Fit.{fit-sym, fit-x, fit-y, fit-prod, fit-pop-words}
 use Rattle.fits.specs.laws.Summands.{lead-held, two-held}
@@ -189,1184 +188,1009 @@ product-at t = and 5 product-kinds.ps (is 5 product-kinds.ps μ-product t) produ
 abbrev product-below : ℕ → In 5 product-kinds.ps
 product-below t = and 5 product-kinds.ps (falls 5 product-kinds.ps _<_ μ-product t) product.Pre
 
-is-pop·product : (t : ℕ) (c : product-lts.Then2 (scale-reads.Asked, scale-reads.Learnt, mul-pop-below t, mul-pop.Post, mul-pow-below t, mul-pow.Post) (product-at t) product.Post) → IsPop ((c .before .before .before .before .before .before .before .before) .args .width) (dec ((c .before .before .before .before .before .before .before .before) .args .width) ((c .before .before .before .before .before .before .before .before) .args .x .now)) ((c .before .before .before .before .before .before .before .before) .args .x .now)
-is-pop·product t c = pop-view ((c .before .before .before .before .before .before .before .before) .pre .1 .0 .0) ((c .before .if1) .left) ((c .if2) .taken)
+abbrev Then2·product : ℕ → Type 0
+Then2·product t = product-lts.Then2 (scale-reads.Asked, scale-reads.Learnt, mul-pop-below t, mul-pop.Post, mul-pow-below t, mul-pow.Post) (product-at t) product.Post
 
-inner·product : (t : ℕ) (c : product-lts.Then2 (scale-reads.Asked, scale-reads.Learnt, mul-pop-below t, mul-pop.Post, mul-pow-below t, mul-pow.Post) (product-at t) product.Post) → Codes ((c .before .before .before .before .before .before .before .before) .args .width) (is-pop·product t c .p) (take (length ((c .before .before .before .before .before .before .before .before) .args .x .now) - 1) (drop 1 ((c .before .before .before .before .before .before .before .before) .args .x .now)))
-inner·product t c = pop-part (is-pop·product t c)
+is-pop·product : (t : ℕ) (c : Then2·product t) →
+    let s = c .before .before .before .before .before .before .before .before in
+    PopAt (s .args .width) (s .args .x .now)
+is-pop·product t c = pop-at (c .before .before .before .before .before .before .before .before .pre .1 .0 .0) (c .before .if1 .left) (c .if2 .taken)
 
-is-pow·product : (t : ℕ) (c : product-lts.Else2 (scale-reads.Asked, scale-reads.Learnt, mul-pop-below t, mul-pop.Post, mul-pow-below t, mul-pow.Post) (product-at t) product.Post) → IsPow ((c .before .before .before .before .before .before .before .before) .args .width) (dec ((c .before .before .before .before .before .before .before .before) .args .width) ((c .before .before .before .before .before .before .before .before) .args .x .now)) ((c .before .before .before .before .before .before .before .before) .args .x .now)
-is-pow·product t c = pow-view ((c .before .before .before .before .before .before .before .before) .pre .1 .0 .0) ((c .before .if1) .left) ((c .if2) .left)
+abbrev Else2·product : ℕ → Type 0
+Else2·product t = product-lts.Else2 (scale-reads.Asked, scale-reads.Learnt, mul-pop-below t, mul-pop.Post, mul-pow-below t, mul-pow.Post) (product-at t) product.Post
 
-is-pop·mul-pop : (t : ℕ) (c : mul-pop-lts.Then2 (scale-pop-reads.Asked, scale-pop-reads.Learnt, mul-pops-below t, mul-pops.Post, mul-pop-pow-below t, mul-pop-pow.Post) (mul-pop-at t) mul-pop.Post) → IsPop ((c .before .before .before .before .before .before .before .before) .args .width) (dec ((c .before .before .before .before .before .before .before .before) .args .width) ((c .before .before .before .before .before .before .before .before) .args .y .now)) ((c .before .before .before .before .before .before .before .before) .args .y .now)
-is-pop·mul-pop t c = pop-view ((c .before .before .before .before .before .before .before .before) .pre .1 .0 .1) ((c .before .if1) .left) ((c .if2) .taken)
+is-pow·product : (t : ℕ) (c : Else2·product t) →
+    let s = c .before .before .before .before .before .before .before .before in
+    PowAt (s .args .width) (s .args .x .now)
+is-pow·product t c = pow-at (c .before .before .before .before .before .before .before .before .pre .1 .0 .0) (c .before .if1 .left) (c .if2 .left)
 
-inner·mul-pop : (t : ℕ) (c : mul-pop-lts.Then2 (scale-pop-reads.Asked, scale-pop-reads.Learnt, mul-pops-below t, mul-pops.Post, mul-pop-pow-below t, mul-pop-pow.Post) (mul-pop-at t) mul-pop.Post) → Codes ((c .before .before .before .before .before .before .before .before) .args .width) (is-pop·mul-pop t c .p) (take (length ((c .before .before .before .before .before .before .before .before) .args .y .now) - 1) (drop 1 ((c .before .before .before .before .before .before .before .before) .args .y .now)))
-inner·mul-pop t c = pop-part (is-pop·mul-pop t c)
+abbrev Then2·mul-pop : ℕ → Type 0
+Then2·mul-pop t = mul-pop-lts.Then2 (scale-pop-reads.Asked, scale-pop-reads.Learnt, mul-pops-below t, mul-pops.Post, mul-pop-pow-below t, mul-pop-pow.Post) (mul-pop-at t) mul-pop.Post
 
-is-pow·mul-pop : (t : ℕ) (c : mul-pop-lts.Else2 (scale-pop-reads.Asked, scale-pop-reads.Learnt, mul-pops-below t, mul-pops.Post, mul-pop-pow-below t, mul-pop-pow.Post) (mul-pop-at t) mul-pop.Post) → IsPow ((c .before .before .before .before .before .before .before .before) .args .width) (dec ((c .before .before .before .before .before .before .before .before) .args .width) ((c .before .before .before .before .before .before .before .before) .args .y .now)) ((c .before .before .before .before .before .before .before .before) .args .y .now)
-is-pow·mul-pop t c = pow-view ((c .before .before .before .before .before .before .before .before) .pre .1 .0 .1) ((c .before .if1) .left) ((c .if2) .left)
+is-pop·mul-pop : (t : ℕ) (c : Then2·mul-pop t) →
+    let s = c .before .before .before .before .before .before .before .before in
+    PopAt (s .args .width) (s .args .y .now)
+is-pop·mul-pop t c = pop-at (c .before .before .before .before .before .before .before .before .pre .1 .0 .1) (c .before .if1 .left) (c .if2 .taken)
 
-is-pop·mul-any-pop : (t : ℕ) (c : mul-any-pop-lts.Then2 (scale-pop-reads.Asked, scale-pop-reads.Learnt, mul-pops-below t, mul-pops.Post, mul-pop-pow-below t, mul-pop-pow.Post) (mul-any-pop-at t) mul-any-pop.Post) → IsPop ((c .before .before .before .before .before .before .before .before) .args .width) (dec ((c .before .before .before .before .before .before .before .before) .args .width) ((c .before .before .before .before .before .before .before .before) .args .x .now)) ((c .before .before .before .before .before .before .before .before) .args .x .now)
-is-pop·mul-any-pop t c = pop-view ((c .before .before .before .before .before .before .before .before) .pre .1 .0 .0) ((c .before .if1) .left) ((c .if2) .taken)
+abbrev Else2·mul-pop : ℕ → Type 0
+Else2·mul-pop t = mul-pop-lts.Else2 (scale-pop-reads.Asked, scale-pop-reads.Learnt, mul-pops-below t, mul-pops.Post, mul-pop-pow-below t, mul-pop-pow.Post) (mul-pop-at t) mul-pop.Post
 
-inner·mul-any-pop : (t : ℕ) (c : mul-any-pop-lts.Then2 (scale-pop-reads.Asked, scale-pop-reads.Learnt, mul-pops-below t, mul-pops.Post, mul-pop-pow-below t, mul-pop-pow.Post) (mul-any-pop-at t) mul-any-pop.Post) → Codes ((c .before .before .before .before .before .before .before .before) .args .width) (is-pop·mul-any-pop t c .p) (take (length ((c .before .before .before .before .before .before .before .before) .args .x .now) - 1) (drop 1 ((c .before .before .before .before .before .before .before .before) .args .x .now)))
-inner·mul-any-pop t c = pop-part (is-pop·mul-any-pop t c)
+is-pow·mul-pop : (t : ℕ) (c : Else2·mul-pop t) →
+    let s = c .before .before .before .before .before .before .before .before in
+    PowAt (s .args .width) (s .args .y .now)
+is-pow·mul-pop t c = pow-at (c .before .before .before .before .before .before .before .before .pre .1 .0 .1) (c .before .if1 .left) (c .if2 .left)
 
-is-pow·mul-any-pop : (t : ℕ) (c : mul-any-pop-lts.Else2 (scale-pop-reads.Asked, scale-pop-reads.Learnt, mul-pops-below t, mul-pops.Post, mul-pop-pow-below t, mul-pop-pow.Post) (mul-any-pop-at t) mul-any-pop.Post) → IsPow ((c .before .before .before .before .before .before .before .before) .args .width) (dec ((c .before .before .before .before .before .before .before .before) .args .width) ((c .before .before .before .before .before .before .before .before) .args .x .now)) ((c .before .before .before .before .before .before .before .before) .args .x .now)
-is-pow·mul-any-pop t c = pow-view ((c .before .before .before .before .before .before .before .before) .pre .1 .0 .0) ((c .before .if1) .left) ((c .if2) .left)
+abbrev Then2·mul-any-pop : ℕ → Type 0
+Then2·mul-any-pop t = mul-any-pop-lts.Then2 (scale-pop-reads.Asked, scale-pop-reads.Learnt, mul-pops-below t, mul-pops.Post, mul-pop-pow-below t, mul-pop-pow.Post) (mul-any-pop-at t) mul-any-pop.Post
 
-made·mul-pops : (t : ℕ) (c : mul-pops-lts.After-out (product-below t, product.Post, make-pop-reads.Asked, make-pop-reads.Learnt, mul-pops-gt-below t, mul-pops-gt.Post) (mul-pops-at t) mul-pops.Post) → Codes ((c .before .before .before .before .before .before .before .before .before .before .before) .args .width) (prodOf ((c .before .before .before .before .before .before .before .before .before .before .before) .args .width) (dec ((c .before .before .before .before .before .before .before .before .before .before .before) .args .width) ((c .before .before .before .before .before .before .before .before .before .before .before) .args .p .now)) (dec ((c .before .before .before .before .before .before .before .before .before .before .before) .args .width) ((c .before .before .before .before .before .before .before .before .before .before .before) .args .q .now))) (take ((c .before .product) .result) (drop 1 (putMid 1 (length ((c .before .before .before .before .before .before .before .before .before .before .before) .args .out .now) - 1) ((c .before .before .before .before .before .before .before .before .before .before .before) .args .out .now) ((c .before .product) .last .1 .1 .1 .0))))
-made·mul-pops t c = made-codes 1 ((c .before .before .before .before .before .before .before .before .before .before .before) .args .out .now) ((c .before .product) .last .1 .1 .1 .0) ((c .before .product) .result) (omega (arith, ((c .before .before .before .before .before .before .before .before .before .before .before) .pre .1 .1) .tables)) ((c .before .product) .ensures) (fit-prod ((space-pops ((c .before .before .before .before .before .before .before .before .before .before .before) .args .i) ((c .before .before .before .before .before .before .before .before .before .before .before) .args .j) (dec ((c .before .before .before .before .before .before .before .before .before .before .before) .args .width) ((c .before .before .before .before .before .before .before .before .before .before .before) .args .p .now)) (dec ((c .before .before .before .before .before .before .before .before .before .before .before) .args .width) ((c .before .before .before .before .before .before .before .before .before .before .before) .args .q .now)) ((c .before .before .before .before .before .before .before .before .before .before .before) .pre .1 .1) ((c .before .before .before .before .before .if1) .taken)) .fit) .good)
+is-pop·mul-any-pop : (t : ℕ) (c : Then2·mul-any-pop t) →
+    let s = c .before .before .before .before .before .before .before .before in
+    PopAt (s .args .width) (s .args .x .now)
+is-pop·mul-any-pop t c = pop-at (c .before .before .before .before .before .before .before .before .pre .1 .0 .0) (c .before .if1 .left) (c .if2 .taken)
 
-made·mul-pops-gt : (t : ℕ) (c : mul-pops-gt-lts.After-out (mul-pop-below t, mul-pop.Post, make-pop-reads.Asked, make-pop-reads.Learnt) (mul-pops-gt-at t) mul-pops-gt.Post) → Codes ((c .before .before .before .before .before .before .before .before .before .before) .args .width) (prodOf ((c .before .before .before .before .before .before .before .before .before .before) .args .width) (pop (((c .before .before .before .before .before .before .before .before .before .before) .args .i) - ((c .before .before .before .before .before .before .before .before .before .before) .args .j)) (dec ((c .before .before .before .before .before .before .before .before .before .before) .args .width) ((c .before .before .before .before .before .before .before .before .before .before) .args .p .now))) (dec ((c .before .before .before .before .before .before .before .before .before .before) .args .width) ((c .before .before .before .before .before .before .before .before .before .before) .args .q .now))) (take ((c .before .mul-pop) .result) (drop 1 (putMid 1 (length ((c .before .before .before .before .before .before .before .before .before .before) .args .out .now) - 1) ((c .before .before .before .before .before .before .before .before .before .before) .args .out .now) ((c .before .mul-pop) .last .1 .1 .1 .1 .0))))
-made·mul-pops-gt t c = made-codes 1 ((c .before .before .before .before .before .before .before .before .before .before) .args .out .now) ((c .before .mul-pop) .last .1 .1 .1 .1 .0) ((c .before .mul-pop) .result) (omega (arith, ((c .before .before .before .before .before .before .before .before .before .before) .pre .1 .1 .0) .tables)) ((c .before .mul-pop) .ensures) (fit-prod ((space-pops-gt ((c .before .before .before .before .before .before .before .before .before .before) .args .i) ((c .before .before .before .before .before .before .before .before .before .before) .args .j) (dec ((c .before .before .before .before .before .before .before .before .before .before) .args .width) ((c .before .before .before .before .before .before .before .before .before .before) .args .p .now)) (dec ((c .before .before .before .before .before .before .before .before .before .before) .args .width) ((c .before .before .before .before .before .before .before .before .before .before) .args .q .now)) ((c .before .before .before .before .before .before .before .before .before .before) .pre .1 .1 .0) ((c .before .before .before .before .before .before .before .before .before .before) .pre .1 .1 .1)) .fit) .good)
+abbrev Else2·mul-any-pop : ℕ → Type 0
+Else2·mul-any-pop t = mul-any-pop-lts.Else2 (scale-pop-reads.Asked, scale-pop-reads.Learnt, mul-pops-below t, mul-pops.Post, mul-pop-pow-below t, mul-pop-pow.Post) (mul-any-pop-at t) mul-any-pop.Post
 
-is-pow·mul-pop-pow : (t : ℕ) (c : mul-pop-pow-lts.Start (mul-pop-below t, mul-pop.Post, mul-less-below t, mul-less.Post, make-pow-reads.Asked, make-pow-reads.Learnt) (mul-pop-pow-at t) mul-pop-pow.Post) → IsPow (c .args .width) (dec (c .args .width) (c .args .y .now)) (c .args .y .now)
-is-pow·mul-pop-pow t c = pow-view (c .pre .1 .0 .1) ((c .pre .1 .1 .1) .node) ((c .pre .1 .1 .1) .sized)
+is-pow·mul-any-pop : (t : ℕ) (c : Else2·mul-any-pop t) →
+    let s = c .before .before .before .before .before .before .before .before in
+    PowAt (s .args .width) (s .args .x .now)
+is-pow·mul-any-pop t c = pow-at (c .before .before .before .before .before .before .before .before .pre .1 .0 .0) (c .before .if1 .left) (c .if2 .left)
 
-left·mul-pop-pow : (t : ℕ) (c : mul-pop-pow-lts.Start (mul-pop-below t, mul-pop.Post, mul-less-below t, mul-less.Post, make-pow-reads.Asked, make-pow-reads.Learnt) (mul-pop-pow-at t) mul-pop-pow.Post) → Codes (c .args .width) ((is-pow·mul-pop-pow t c) .p) (take ((1 + ((getD (c .args .y .now) 0 0) - 2147483648) / 64) - 1) (drop 1 (c .args .y .now)))
-left·mul-pop-pow t c = pow-left (is-pow·mul-pop-pow t c) ((1 + ((getD (c .args .y .now) 0 0) - 2147483648) / 64) - 1) (omega (arith, (is-pow·mul-pop-pow t c)))
+abbrev After-out·mul-pops : ℕ → Type 0
+After-out·mul-pops t = mul-pops-lts.After-out (product-below t, product.Post, make-pop-reads.Asked, make-pop-reads.Learnt, mul-pops-gt-below t, mul-pops-gt.Post) (mul-pops-at t) mul-pops.Post
 
-right·mul-pop-pow : (t : ℕ) (c : mul-pop-pow-lts.Start (mul-pop-below t, mul-pop.Post, mul-less-below t, mul-less.Post, make-pow-reads.Asked, make-pow-reads.Learnt) (mul-pop-pow-at t) mul-pop-pow.Post) → Codes (c .args .width) ((is-pow·mul-pop-pow t c) .q) (take (length (c .args .y .now) - (1 + ((getD (c .args .y .now) 0 0) - 2147483648) / 64)) (drop (1 + ((getD (c .args .y .now) 0 0) - 2147483648) / 64) (c .args .y .now)))
-right·mul-pop-pow t c = pow-right (is-pow·mul-pop-pow t c) (1 + ((getD (c .args .y .now) 0 0) - 2147483648) / 64) (omega (arith, (is-pow·mul-pop-pow t c)))
+made·mul-pops : (t : ℕ) (c : After-out·mul-pops t) →
+    let s = c .before .before .before .before .before .before .before .before .before .before .before in
+    Codes (s .args .width) (prodOf (s .args .width) (dec (s .args .width) (s .args .p .now)) (dec (s .args .width) (s .args .q .now)))
+    (take (c .before .product .result) (drop 1 (one-put (s .args .out .now) (c .before .product .last .1 .1 .1 .0))))
+made·mul-pops t c =
+    let s = c .before .before .before .before .before .before .before .before .before .before .before in
+    made-codes 1 (s .args .out .now) (c .before .product .last .1 .1 .1 .0) (c .before .product .result) (omega (arith, s .pre .1 .1 .tables))
+    (c .before .product .ensures)
+    (fit-prod ((space-pops (s .args .i) (s .args .j) (dec (s .args .width) (s .args .p .now)) (dec (s .args .width) (s .args .q .now)) (s .pre .1 .1) (c .before .before .before .before .before .if1 .taken)) .fit) .good)
 
-space-pow·mul-pop-pow : (t : ℕ) (c : mul-pop-pow-lts.Start (mul-pop-below t, mul-pop.Post, mul-less-below t, mul-less.Post, make-pow-reads.Asked, make-pow-reads.Learnt) (mul-pop-pow-at t) mul-pop-pow.Post) → PopSpace (c .args .width) (pop (c .args .i) (dec (c .args .width) (c .args .p .now))) (pow ((is-pow·mul-pop-pow t c) .i) ((is-pow·mul-pop-pow t c) .p) ((is-pow·mul-pop-pow t c) .q)) (length (c .args .out .now)) (length (c .args .t .now)) (length (c .args .u .now))
-space-pow·mul-pop-pow t c = subst (λ h. PopSpace (c .args .width) (pop (c .args .i) (dec (c .args .width) (c .args .p .now))) h (length (c .args .out .now)) (length (c .args .t .now)) (length (c .args .u .now))) ((is-pow·mul-pop-pow t c) .is) (c .pre .1 .1 .0)
+abbrev Else2·mul-pops : ℕ → Type 0
+Else2·mul-pops t = mul-pops-lts.Else2 (product-below t, product.Post, make-pop-reads.Asked, make-pop-reads.Learnt, mul-pops-gt-below t, mul-pops-gt.Post) (mul-pops-at t) mul-pops.Post
 
-ens1·mul-pop-pow : (t : ℕ) (c : mul-pop-pow-lts.After-u (mul-pop-below t, mul-pop.Post, mul-less-below t, mul-less.Post, make-pow-reads.Asked, make-pow-reads.Learnt) (mul-pop-pow-at t) mul-pop-pow.Post) → Begins ((c .before .before .before .before .before .mul-pop) .result) (enc ((c .before .before .before .before .before .before .before .before .before .before .before .before .before .before .before .before) .args .width) (prodOf ((c .before .before .before .before .before .before .before .before .before .before .before .before .before .before .before .before) .args .width) (pop ((c .before .before .before .before .before .before .before .before .before .before .before .before .before .before .before .before) .args .i) (dec ((c .before .before .before .before .before .before .before .before .before .before .before .before .before .before .before .before) .args .width) ((c .before .before .before .before .before .before .before .before .before .before .before .before .before .before .before .before) .args .p .now))) ((is-pow·mul-pop-pow t (c .before .before .before .before .before .before .before .before .before .before .before .before .before .before .before .before)) .p))) ((c .before .before .before .before .before .mul-pop) .last .1 .1 .1 .1 .0)
-ens1·mul-pop-pow t c = begins-as ((c .before .before .before .before .before .mul-pop) .ensures) (ap (λ h. enc ((c .before .before .before .before .before .before .before .before .before .before .before .before .before .before .before .before) .args .width) (prodOf ((c .before .before .before .before .before .before .before .before .before .before .before .before .before .before .before .before) .args .width) (pop ((c .before .before .before .before .before .before .before .before .before .before .before .before .before .before .before .before) .args .i) (dec ((c .before .before .before .before .before .before .before .before .before .before .before .before .before .before .before .before) .args .width) ((c .before .before .before .before .before .before .before .before .before .before .before .before .before .before .before .before) .args .p .now))) h)) (dec-enc (left·mul-pop-pow t (c .before .before .before .before .before .before .before .before .before .before .before .before .before .before .before .before))))
+below·mul-pops : (t : ℕ) (c : Else2·mul-pops t) → let s = c .before .before .before .before .before .before .before in (s .args .i) < (s .args .j)
+below·mul-pops t c = omega (arith, c .before .if1 .left, c .if2 .left)
 
-few-a·mul-pop-pow : (t : ℕ) (c : mul-pop-pow-lts.After-u (mul-pop-below t, mul-pop.Post, mul-less-below t, mul-less.Post, make-pow-reads.Asked, make-pow-reads.Learnt) (mul-pop-pow-at t) mul-pop-pow.Post) → ((c .before .before .before .before .before .mul-pop) .result) ≤ 3073
-few-a·mul-pop-pow t c = omega (arith, ens1·mul-pop-pow t c .size, fit-prod ((pop-space-pow ((c .before .before .before .before .before .before .before .before .before .before .before .before .before .before .before .before) .args .i) ((is-pow·mul-pop-pow t (c .before .before .before .before .before .before .before .before .before .before .before .before .before .before .before .before)) .i) (dec ((c .before .before .before .before .before .before .before .before .before .before .before .before .before .before .before .before) .args .width) ((c .before .before .before .before .before .before .before .before .before .before .before .before .before .before .before .before) .args .p .now)) ((is-pow·mul-pop-pow t (c .before .before .before .before .before .before .before .before .before .before .before .before .before .before .before .before)) .p) ((is-pow·mul-pop-pow t (c .before .before .before .before .before .before .before .before .before .before .before .before .before .before .before .before)) .q) (space-pow·mul-pop-pow t (c .before .before .before .before .before .before .before .before .before .before .before .before .before .before .before .before))) .fit) .words)
+abbrev After-out·mul-pops-gt : ℕ → Type 0
+After-out·mul-pops-gt t = mul-pops-gt-lts.After-out (mul-pop-below t, mul-pop.Post, make-pop-reads.Asked, make-pop-reads.Learnt) (mul-pops-gt-at t) mul-pops-gt.Post
 
-a-size·mul-pop-pow : (t : ℕ) (c : mul-pop-pow-lts.After-u (mul-pop-below t, mul-pop.Post, mul-less-below t, mul-less.Post, make-pow-reads.Asked, make-pow-reads.Learnt) (mul-pop-pow-at t) mul-pop-pow.Post) → (1 + ((c .before .before .before .before .before .mul-pop) .result)) ≤ length (putMid 1 (length ((c .before .before .before .before .before .before .before .before .before .before .before .before .before .before .before .before) .args .out .now) - 1) ((c .before .before .before .before .before .before .before .before .before .before .before .before .before .before .before .before) .args .out .now) ((c .before .before .before .before .before .mul-pop) .last .1 .1 .1 .1 .0))
-a-size·mul-pop-pow t c = omega (arith, few-a·mul-pop-pow t c, (c .before .before .before .before .out) .given .1, ((c .before .before .before .before .before .before .before .before .before .before .before .before .before .before .before .before) .pre .1 .1 .0) .tables)
+made·mul-pops-gt : (t : ℕ) (c : After-out·mul-pops-gt t) →
+    let s = c .before .before .before .before .before .before .before .before .before .before in
+    Codes (s .args .width)
+    (prodOf (s .args .width) (pop ((s .args .i) - (s .args .j)) (dec (s .args .width) (s .args .p .now))) (dec (s .args .width) (s .args .q .now)))
+    (take (c .before .mul-pop .result) (drop 1 (one-put (s .args .out .now) (c .before .mul-pop .last .1 .1 .1 .1 .0))))
+made·mul-pops-gt t c =
+    let s = c .before .before .before .before .before .before .before .before .before .before in
+    made-codes 1 (s .args .out .now) (c .before .mul-pop .last .1 .1 .1 .1 .0) (c .before .mul-pop .result) (omega (arith, s .pre .1 .1 .0 .tables))
+    (c .before .mul-pop .ensures)
+    (fit-prod ((space-pops-gt (s .args .i) (s .args .j) (dec (s .args .width) (s .args .p .now)) (dec (s .args .width) (s .args .q .now)) (s .pre .1 .1 .0) (s .pre .1 .1 .1)) .fit) .good)
 
-rest·mul-pop-pow : (t : ℕ) (c : mul-pop-pow-lts.After-u (mul-pop-below t, mul-pop.Post, mul-less-below t, mul-less.Post, make-pow-reads.Asked, make-pow-reads.Learnt) (mul-pop-pow-at t) mul-pop-pow.Post) → length ((c .before .before .before .before .before .before .before .before .before .before .before .before .before .before .before .before) .args .out .now) - (1 + ((c .before .before .before .before .before .mul-pop) .result)) ≡ length (take (length (putMid 1 (length ((c .before .before .before .before .before .before .before .before .before .before .before .before .before .before .before .before) .args .out .now) - 1) ((c .before .before .before .before .before .before .before .before .before .before .before .before .before .before .before .before) .args .out .now) ((c .before .before .before .before .before .mul-pop) .last .1 .1 .1 .1 .0)) - (1 + ((c .before .before .before .before .before .mul-pop) .result))) (drop (1 + ((c .before .before .before .before .before .mul-pop) .result)) (putMid 1 (length ((c .before .before .before .before .before .before .before .before .before .before .before .before .before .before .before .before) .args .out .now) - 1) ((c .before .before .before .before .before .before .before .before .before .before .before .before .before .before .before .before) .args .out .now) ((c .before .before .before .before .before .mul-pop) .last .1 .1 .1 .1 .0))))
-rest·mul-pop-pow t c = omega (arith, length-tail-part (1 + ((c .before .before .before .before .before .mul-pop) .result)) (putMid 1 (length ((c .before .before .before .before .before .before .before .before .before .before .before .before .before .before .before .before) .args .out .now) - 1) ((c .before .before .before .before .before .before .before .before .before .before .before .before .before .before .before .before) .args .out .now) ((c .before .before .before .before .before .mul-pop) .last .1 .1 .1 .1 .0)), (c .before .before .before .before .out) .given .1)
+abbrev Start·mul-pop-pow : ℕ → Type 0
+Start·mul-pop-pow t = mul-pop-pow-lts.Start (mul-pop-below t, mul-pop.Post, mul-less-below t, mul-less.Post, make-pow-reads.Asked, make-pow-reads.Learnt) (mul-pop-pow-at t) mul-pop-pow.Post
 
-ens2·mul-pop-pow : (t : ℕ) (c : mul-pop-pow-lts.After-u2 (mul-pop-below t, mul-pop.Post, mul-less-below t, mul-less.Post, make-pow-reads.Asked, make-pow-reads.Learnt) (mul-pop-pow-at t) mul-pop-pow.Post) → Begins ((c .before .before .before .before .before .mul-less) .result) (enc ((c .before .before .before .before .before .before .before .before .before .before .before .before .before .before .before .before .before .before .before .before .before .before .before .before .before .before .before) .args .width) (prodOf ((c .before .before .before .before .before .before .before .before .before .before .before .before .before .before .before .before .before .before .before .before .before .before .before .before .before .before .before) .args .width) (lower (((c .before .before .before .before .before .before .before .before .before .before .before .before .before .before .before .before .before .before .before .before .before .before .before .before .before .before .before) .args .i) - 1) (dec ((c .before .before .before .before .before .before .before .before .before .before .before .before .before .before .before .before .before .before .before .before .before .before .before .before .before .before .before) .args .width) ((c .before .before .before .before .before .before .before .before .before .before .before .before .before .before .before .before .before .before .before .before .before .before .before .before .before .before .before) .args .p .now))) ((is-pow·mul-pop-pow t (c .before .before .before .before .before .before .before .before .before .before .before .before .before .before .before .before .before .before .before .before .before .before .before .before .before .before .before)) .q))) ((c .before .before .before .before .before .mul-less) .last .1 .1 .1 .1 .0)
-ens2·mul-pop-pow t c = begins-as ((c .before .before .before .before .before .mul-less) .ensures) (ap (λ h. enc ((c .before .before .before .before .before .before .before .before .before .before .before .before .before .before .before .before .before .before .before .before .before .before .before .before .before .before .before) .args .width) (prodOf ((c .before .before .before .before .before .before .before .before .before .before .before .before .before .before .before .before .before .before .before .before .before .before .before .before .before .before .before) .args .width) (lower (((c .before .before .before .before .before .before .before .before .before .before .before .before .before .before .before .before .before .before .before .before .before .before .before .before .before .before .before) .args .i) - 1) (dec ((c .before .before .before .before .before .before .before .before .before .before .before .before .before .before .before .before .before .before .before .before .before .before .before .before .before .before .before) .args .width) ((c .before .before .before .before .before .before .before .before .before .before .before .before .before .before .before .before .before .before .before .before .before .before .before .before .before .before .before) .args .p .now))) h)) (dec-enc (right·mul-pop-pow t (c .before .before .before .before .before .before .before .before .before .before .before .before .before .before .before .before .before .before .before .before .before .before .before .before .before .before .before))))
+is-pow·mul-pop-pow : (t : ℕ) (c : Start·mul-pop-pow t) → PowAt (c .args .width) (c .args .y .now)
+is-pow·mul-pop-pow t c = pow-at (c .pre .1 .0 .1) (c .pre .1 .1 .1 .node) (c .pre .1 .1 .1 .sized)
 
-kept-a·mul-pop-pow : (t : ℕ) (c : mul-pop-pow-lts.After-u2 (mul-pop-below t, mul-pop.Post, mul-less-below t, mul-less.Post, make-pow-reads.Asked, make-pow-reads.Learnt) (mul-pop-pow-at t) mul-pop-pow.Post) → Codes ((c .before .before .before .before .before .before .before .before .before .before .before .before .before .before .before .before .before .before .before .before .before .before .before .before .before .before .before) .args .width) (prodOf ((c .before .before .before .before .before .before .before .before .before .before .before .before .before .before .before .before .before .before .before .before .before .before .before .before .before .before .before) .args .width) (pop ((c .before .before .before .before .before .before .before .before .before .before .before .before .before .before .before .before .before .before .before .before .before .before .before .before .before .before .before) .args .i) (dec ((c .before .before .before .before .before .before .before .before .before .before .before .before .before .before .before .before .before .before .before .before .before .before .before .before .before .before .before) .args .width) ((c .before .before .before .before .before .before .before .before .before .before .before .before .before .before .before .before .before .before .before .before .before .before .before .before .before .before .before) .args .p .now))) ((is-pow·mul-pop-pow t (c .before .before .before .before .before .before .before .before .before .before .before .before .before .before .before .before .before .before .before .before .before .before .before .before .before .before .before)) .p)) (take ((c .before .before .before .before .before .before .before .before .before .before .before .before .before .before .before .before .mul-pop) .result) (drop 1 (putMid (1 + ((c .before .before .before .before .before .before .before .before .before .before .before .before .before .before .before .before .mul-pop) .result)) (length (putMid 1 (length ((c .before .before .before .before .before .before .before .before .before .before .before .before .before .before .before .before .before .before .before .before .before .before .before .before .before .before .before) .args .out .now) - 1) ((c .before .before .before .before .before .before .before .before .before .before .before .before .before .before .before .before .before .before .before .before .before .before .before .before .before .before .before) .args .out .now) ((c .before .before .before .before .before .before .before .before .before .before .before .before .before .before .before .before .mul-pop) .last .1 .1 .1 .1 .0)) - (1 + ((c .before .before .before .before .before .before .before .before .before .before .before .before .before .before .before .before .mul-pop) .result))) (putMid 1 (length ((c .before .before .before .before .before .before .before .before .before .before .before .before .before .before .before .before .before .before .before .before .before .before .before .before .before .before .before) .args .out .now) - 1) ((c .before .before .before .before .before .before .before .before .before .before .before .before .before .before .before .before .before .before .before .before .before .before .before .before .before .before .before) .args .out .now) ((c .before .before .before .before .before .before .before .before .before .before .before .before .before .before .before .before .mul-pop) .last .1 .1 .1 .1 .0)) ((c .before .before .before .before .before .mul-less) .last .1 .1 .1 .1 .0))))
-kept-a·mul-pop-pow t c = kept-codes 1 ((c .before .before .before .before .before .before .before .before .before .before .before .before .before .before .before .before .mul-pop) .result) (1 + ((c .before .before .before .before .before .before .before .before .before .before .before .before .before .before .before .before .mul-pop) .result)) (length (putMid 1 (length ((c .before .before .before .before .before .before .before .before .before .before .before .before .before .before .before .before .before .before .before .before .before .before .before .before .before .before .before) .args .out .now) - 1) ((c .before .before .before .before .before .before .before .before .before .before .before .before .before .before .before .before .before .before .before .before .before .before .before .before .before .before .before) .args .out .now) ((c .before .before .before .before .before .before .before .before .before .before .before .before .before .before .before .before .mul-pop) .last .1 .1 .1 .1 .0)) - (1 + ((c .before .before .before .before .before .before .before .before .before .before .before .before .before .before .before .before .mul-pop) .result))) (putMid 1 (length ((c .before .before .before .before .before .before .before .before .before .before .before .before .before .before .before .before .before .before .before .before .before .before .before .before .before .before .before) .args .out .now) - 1) ((c .before .before .before .before .before .before .before .before .before .before .before .before .before .before .before .before .before .before .before .before .before .before .before .before .before .before .before) .args .out .now) ((c .before .before .before .before .before .before .before .before .before .before .before .before .before .before .before .before .mul-pop) .last .1 .1 .1 .1 .0)) ((c .before .before .before .before .before .mul-less) .last .1 .1 .1 .1 .0) (made-codes 1 ((c .before .before .before .before .before .before .before .before .before .before .before .before .before .before .before .before .before .before .before .before .before .before .before .before .before .before .before) .args .out .now) ((c .before .before .before .before .before .before .before .before .before .before .before .before .before .before .before .before .mul-pop) .last .1 .1 .1 .1 .0) ((c .before .before .before .before .before .before .before .before .before .before .before .before .before .before .before .before .mul-pop) .result) (omega (arith, ((c .before .before .before .before .before .before .before .before .before .before .before .before .before .before .before .before .before .before .before .before .before .before .before .before .before .before .before) .pre .1 .1 .0) .tables)) (ens1·mul-pop-pow t (c .before .before .before .before .before .before .before .before .before .before .before)) (fit-prod ((pop-space-pow ((c .before .before .before .before .before .before .before .before .before .before .before .before .before .before .before .before .before .before .before .before .before .before .before .before .before .before .before) .args .i) ((is-pow·mul-pop-pow t (c .before .before .before .before .before .before .before .before .before .before .before .before .before .before .before .before .before .before .before .before .before .before .before .before .before .before .before)) .i) (dec ((c .before .before .before .before .before .before .before .before .before .before .before .before .before .before .before .before .before .before .before .before .before .before .before .before .before .before .before) .args .width) ((c .before .before .before .before .before .before .before .before .before .before .before .before .before .before .before .before .before .before .before .before .before .before .before .before .before .before .before) .args .p .now)) ((is-pow·mul-pop-pow t (c .before .before .before .before .before .before .before .before .before .before .before .before .before .before .before .before .before .before .before .before .before .before .before .before .before .before .before)) .p) ((is-pow·mul-pop-pow t (c .before .before .before .before .before .before .before .before .before .before .before .before .before .before .before .before .before .before .before .before .before .before .before .before .before .before .before)) .q) (space-pow·mul-pop-pow t (c .before .before .before .before .before .before .before .before .before .before .before .before .before .before .before .before .before .before .before .before .before .before .before .before .before .before .before))) .fit) .good)) (omega arith) (a-size·mul-pop-pow t (c .before .before .before .before .before .before .before .before .before .before .before))
+space-pow·mul-pop-pow : (t : ℕ) (c : Start·mul-pop-pow t) →
+    PopSpace (c .args .width) (pop (c .args .i) (dec (c .args .width) (c .args .p .now)))
+    (pow ((getD (c .args .y .now) 0 0) % 64) (dec (c .args .width) (first (c .args .y .now))) (dec (c .args .width) (rest (c .args .y .now))))
+    (length (c .args .out .now)) (length (c .args .t .now)) (length (c .args .u .now))
+space-pow·mul-pop-pow t c =
+    subst
+    (λ h. PopSpace (c .args .width) (pop (c .args .i) (dec (c .args .width) (c .args .p .now))) h (length (c .args .out .now)) (length (c .args .t .now)) (length (c .args .u .now)))
+    ((is-pow·mul-pop-pow t c) .is) (c .pre .1 .1 .0)
 
-made-b·mul-pop-pow : (t : ℕ) (c : mul-pop-pow-lts.After-u2 (mul-pop-below t, mul-pop.Post, mul-less-below t, mul-less.Post, make-pow-reads.Asked, make-pow-reads.Learnt) (mul-pop-pow-at t) mul-pop-pow.Post) → Codes ((c .before .before .before .before .before .before .before .before .before .before .before .before .before .before .before .before .before .before .before .before .before .before .before .before .before .before .before) .args .width) (prodOf ((c .before .before .before .before .before .before .before .before .before .before .before .before .before .before .before .before .before .before .before .before .before .before .before .before .before .before .before) .args .width) (lower (((c .before .before .before .before .before .before .before .before .before .before .before .before .before .before .before .before .before .before .before .before .before .before .before .before .before .before .before) .args .i) - 1) (dec ((c .before .before .before .before .before .before .before .before .before .before .before .before .before .before .before .before .before .before .before .before .before .before .before .before .before .before .before) .args .width) ((c .before .before .before .before .before .before .before .before .before .before .before .before .before .before .before .before .before .before .before .before .before .before .before .before .before .before .before) .args .p .now))) ((is-pow·mul-pop-pow t (c .before .before .before .before .before .before .before .before .before .before .before .before .before .before .before .before .before .before .before .before .before .before .before .before .before .before .before)) .q)) (take ((c .before .before .before .before .before .mul-less) .result) (drop (1 + ((c .before .before .before .before .before .before .before .before .before .before .before .before .before .before .before .before .mul-pop) .result)) (putMid (1 + ((c .before .before .before .before .before .before .before .before .before .before .before .before .before .before .before .before .mul-pop) .result)) (length (putMid 1 (length ((c .before .before .before .before .before .before .before .before .before .before .before .before .before .before .before .before .before .before .before .before .before .before .before .before .before .before .before) .args .out .now) - 1) ((c .before .before .before .before .before .before .before .before .before .before .before .before .before .before .before .before .before .before .before .before .before .before .before .before .before .before .before) .args .out .now) ((c .before .before .before .before .before .before .before .before .before .before .before .before .before .before .before .before .mul-pop) .last .1 .1 .1 .1 .0)) - (1 + ((c .before .before .before .before .before .before .before .before .before .before .before .before .before .before .before .before .mul-pop) .result))) (putMid 1 (length ((c .before .before .before .before .before .before .before .before .before .before .before .before .before .before .before .before .before .before .before .before .before .before .before .before .before .before .before) .args .out .now) - 1) ((c .before .before .before .before .before .before .before .before .before .before .before .before .before .before .before .before .before .before .before .before .before .before .before .before .before .before .before) .args .out .now) ((c .before .before .before .before .before .before .before .before .before .before .before .before .before .before .before .before .mul-pop) .last .1 .1 .1 .1 .0)) ((c .before .before .before .before .before .mul-less) .last .1 .1 .1 .1 .0))))
-made-b·mul-pop-pow t c = made-codes (1 + ((c .before .before .before .before .before .before .before .before .before .before .before .before .before .before .before .before .mul-pop) .result)) (putMid 1 (length ((c .before .before .before .before .before .before .before .before .before .before .before .before .before .before .before .before .before .before .before .before .before .before .before .before .before .before .before) .args .out .now) - 1) ((c .before .before .before .before .before .before .before .before .before .before .before .before .before .before .before .before .before .before .before .before .before .before .before .before .before .before .before) .args .out .now) ((c .before .before .before .before .before .before .before .before .before .before .before .before .before .before .before .before .mul-pop) .last .1 .1 .1 .1 .0)) ((c .before .before .before .before .before .mul-less) .last .1 .1 .1 .1 .0) ((c .before .before .before .before .before .mul-less) .result) (a-size·mul-pop-pow t (c .before .before .before .before .before .before .before .before .before .before .before)) (ens2·mul-pop-pow t c) (fit-prod ((space-lower ((c .before .before .before .before .before .before .before .before .before .before .before .before .before .before .before .before .before .before .before .before .before .before .before .before .before .before .before) .args .i) ((is-pow·mul-pop-pow t (c .before .before .before .before .before .before .before .before .before .before .before .before .before .before .before .before .before .before .before .before .before .before .before .before .before .before .before)) .i) (dec ((c .before .before .before .before .before .before .before .before .before .before .before .before .before .before .before .before .before .before .before .before .before .before .before .before .before .before .before) .args .width) ((c .before .before .before .before .before .before .before .before .before .before .before .before .before .before .before .before .before .before .before .before .before .before .before .before .before .before .before) .args .p .now)) ((is-pow·mul-pop-pow t (c .before .before .before .before .before .before .before .before .before .before .before .before .before .before .before .before .before .before .before .before .before .before .before .before .before .before .before)) .p) ((is-pow·mul-pop-pow t (c .before .before .before .before .before .before .before .before .before .before .before .before .before .before .before .before .before .before .before .before .before .before .before .before .before .before .before)) .q) (space-pow·mul-pop-pow t (c .before .before .before .before .before .before .before .before .before .before .before .before .before .before .before .before .before .before .before .before .before .before .before .before .before .before .before)) ((c .before .before .before .before .before .before .before .before .before .before .before .before .before .before .before .before .mul-pop) .result) (few-a·mul-pop-pow t (c .before .before .before .before .before .before .before .before .before .before .before))) .fit) .good)
+abbrev After-u·mul-pop-pow : ℕ → Type 0
+After-u·mul-pop-pow t = mul-pop-pow-lts.After-u (mul-pop-below t, mul-pop.Post, mul-less-below t, mul-less.Post, make-pow-reads.Asked, make-pow-reads.Learnt) (mul-pop-pow-at t) mul-pop-pow.Post
 
-times-is·mul-pop-pow : (t : ℕ) (c : mul-pop-pow-lts.Start (mul-pop-below t, mul-pop.Post, mul-less-below t, mul-less.Post, make-pow-reads.Asked, make-pow-reads.Learnt) (mul-pop-pow-at t) mul-pop-pow.Post) → prodOf (c .args .width) (pop (c .args .i) (dec (c .args .width) (c .args .p .now))) (dec (c .args .width) (c .args .y .now)) ≡ powOf (c .args .width) ((getD (c .args .y .now) 0 0) % 64) (prodOf (c .args .width) (pop (c .args .i) (dec (c .args .width) (c .args .p .now))) ((is-pow·mul-pop-pow t c) .p)) (prodOf (c .args .width) (lower ((c .args .i) - 1) (dec (c .args .width) (c .args .p .now))) ((is-pow·mul-pop-pow t c) .q))
-times-is·mul-pop-pow t c = pop-times (is-pow·mul-pop-pow t c) (c .args .i) (dec (c .args .width) (c .args .p .now)) (good-pop (c .args .width) (c .args .i) (dec (c .args .width) (c .args .p .now)) (fit-x ((c .pre .1 .1 .0) .fit) .good) .0) ((getD (c .args .y .now) 0 0) % 64) (omega (arith, (is-pow·mul-pop-pow t c)))
+few-a·mul-pop-pow : (t : ℕ) (c : After-u·mul-pop-pow t) → (c .before .before .before .before .before .mul-pop .result) ≤ 3073
+few-a·mul-pop-pow t c =
+    let s = c .before .before .before .before .before .before .before .before .before .before .before .before .before .before .before .before in
+    omega (arith, c .before .before .before .before .before .mul-pop .ensures .size, fit-prod ((pop-space-pow (s .args .i) ((getD (s .args .y .now) 0 0) % 64) (dec (s .args .width) (s .args .p .now)) (dec (s .args .width) (first (s .args .y .now))) (dec (s .args .width) (rest (s .args .y .now))) (space-pow·mul-pop-pow t s)) .fit) .words)
 
-is-pop·mul-pow : (t : ℕ) (c : mul-pow-lts.Then2 (scale-reads.Asked, scale-reads.Learnt, mul-pop-pow-below t, mul-pop-pow.Post, mul-pows-below t, mul-pows.Post) (mul-pow-at t) mul-pow.Post) → IsPop ((c .before .before .before .before .before .before .before .before) .args .width) (dec ((c .before .before .before .before .before .before .before .before) .args .width) ((c .before .before .before .before .before .before .before .before) .args .y .now)) ((c .before .before .before .before .before .before .before .before) .args .y .now)
-is-pop·mul-pow t c = pop-view ((c .before .before .before .before .before .before .before .before) .pre .1 .0 .1) ((c .before .if1) .left) ((c .if2) .taken)
+a-size·mul-pop-pow : (t : ℕ) (c : After-u·mul-pop-pow t) →
+    let s = c .before .before .before .before .before in
+    (1 + (s .mul-pop .result)) ≤ length
+    (one-put (c .before .before .before .before .before .before .before .before .before .before .before .before .before .before .before .before .args .out .now) (s .mul-pop .last .1 .1 .1 .1 .0))
+a-size·mul-pop-pow t c =
+    omega (arith, few-a·mul-pop-pow t c, c .before .before .before .before .out .given .1, c .before .before .before .before .before .before .before .before .before .before .before .before .before .before .before .before .pre .1 .1 .0 .tables)
 
-inner·mul-pow : (t : ℕ) (c : mul-pow-lts.Then2 (scale-reads.Asked, scale-reads.Learnt, mul-pop-pow-below t, mul-pop-pow.Post, mul-pows-below t, mul-pows.Post) (mul-pow-at t) mul-pow.Post) → Codes ((c .before .before .before .before .before .before .before .before) .args .width) (is-pop·mul-pow t c .p) (take (length ((c .before .before .before .before .before .before .before .before) .args .y .now) - 1) (drop 1 ((c .before .before .before .before .before .before .before .before) .args .y .now)))
-inner·mul-pow t c = pop-part (is-pop·mul-pow t c)
+behind·mul-pop-pow : (t : ℕ) (c : After-u·mul-pop-pow t) →
+    let s = c .before .before .before .before .before .before .before .before .before .before .before .before .before .before .before .before in
+    let b = c .before .before .before .before .before in
+    length (s .args .out .now) - (1 + (b .mul-pop .result)) ≡ length
+    (take (length (one-put (s .args .out .now) (b .mul-pop .last .1 .1 .1 .1 .0)) - (1 + (b .mul-pop .result))) (drop (1 + (b .mul-pop .result)) (one-put (s .args .out .now) (b .mul-pop .last .1 .1 .1 .1 .0))))
+behind·mul-pop-pow t c =
+    let s = c .before .before .before .before .before in
+    omega (arith, length-tail-part (1 + (s .mul-pop .result)) (one-put (c .before .before .before .before .before .before .before .before .before .before .before .before .before .before .before .before .args .out .now) (s .mul-pop .last .1 .1 .1 .1 .0)), c .before .before .before .before .out .given .1)
 
-is-pow·mul-pow : (t : ℕ) (c : mul-pow-lts.Else2 (scale-reads.Asked, scale-reads.Learnt, mul-pop-pow-below t, mul-pop-pow.Post, mul-pows-below t, mul-pows.Post) (mul-pow-at t) mul-pow.Post) → IsPow ((c .before .before .before .before .before .before .before .before) .args .width) (dec ((c .before .before .before .before .before .before .before .before) .args .width) ((c .before .before .before .before .before .before .before .before) .args .y .now)) ((c .before .before .before .before .before .before .before .before) .args .y .now)
-is-pow·mul-pow t c = pow-view ((c .before .before .before .before .before .before .before .before) .pre .1 .0 .1) ((c .before .if1) .left) ((c .if2) .left)
+abbrev After-u2·mul-pop-pow : ℕ → Type 0
+After-u2·mul-pop-pow t = mul-pop-pow-lts.After-u2 (mul-pop-below t, mul-pop.Post, mul-less-below t, mul-less.Post, make-pow-reads.Asked, make-pow-reads.Learnt) (mul-pop-pow-at t) mul-pop-pow.Post
 
-v-pow·mul-pow : (t : ℕ) (c : mul-pow-lts.Start (scale-reads.Asked, scale-reads.Learnt, mul-pop-pow-below t, mul-pop-pow.Post, mul-pows-below t, mul-pows.Post) (mul-pow-at t) mul-pow.Post) → IsPow (c .args .width) (dec (c .args .width) (c .args .x .now)) (c .args .x .now)
-v-pow·mul-pow t c = pow-view (c .pre .1 .0 .0) ((c .pre .1 .1 .1) .node) ((c .pre .1 .1 .1) .sized)
+made·mul-pop-pow : (t : ℕ) (c : After-u2·mul-pop-pow t) →
+    let s = c .before .before .before .before .before .before .before .before .before .before .before .before .before .before .before .before .before .before .before .before .before .before .before .before .before .before .before in
+    let b = c .before .before .before .before .before .before .before .before .before .before .before .before .before .before .before .before in
+    let d = c .before .before .before .before .before in
+    Codes (s .args .width)
+    (prodOf (s .args .width) (pop (s .args .i) (dec (s .args .width) (s .args .p .now))) (dec (s .args .width) (first (s .args .y .now))))
+    (take (b .mul-pop .result) (drop 1 (two-put (s .args .out .now) (b .mul-pop .last .1 .1 .1 .1 .0) (d .mul-less .last .1 .1 .1 .1 .0) (b .mul-pop .result))))
+    × Codes (s .args .width)
+    (prodOf (s .args .width) (lower ((s .args .i) - 1) (dec (s .args .width) (s .args .p .now))) (dec (s .args .width) (rest (s .args .y .now))))
+    (take (d .mul-less .result) (drop (1 + (b .mul-pop .result)) (two-put (s .args .out .now) (b .mul-pop .last .1 .1 .1 .1 .0) (d .mul-less .last .1 .1 .1 .1 .0) (b .mul-pop .result))))
+made·mul-pop-pow t c =
+    let s = c .before .before .before .before .before .before .before .before .before .before .before .before .before .before .before .before .before .before .before .before .before .before .before .before .before .before .before in
+    let b = c .before .before .before .before .before .before .before .before .before .before .before .before .before .before .before .before in
+    let d = c .before .before .before .before .before .before .before .before .before .before .before in
+    let u = c .before .before .before .before .before in
+    two-made (s .args .out .now) (b .mul-pop .last .1 .1 .1 .1 .0) (u .mul-less .last .1 .1 .1 .1 .0) (b .mul-pop .result) (u .mul-less .result)
+    (omega (arith, s .pre .1 .1 .0 .tables)) (a-size·mul-pop-pow t d) (b .mul-pop .ensures)
+    (fit-prod ((pop-space-pow (s .args .i) ((getD (s .args .y .now) 0 0) % 64) (dec (s .args .width) (s .args .p .now)) (dec (s .args .width) (first (s .args .y .now))) (dec (s .args .width) (rest (s .args .y .now))) (space-pow·mul-pop-pow t s)) .fit) .good)
+    (u .mul-less .ensures)
+    (fit-prod ((space-lower (s .args .i) ((getD (s .args .y .now) 0 0) % 64) (dec (s .args .width) (s .args .p .now)) (dec (s .args .width) (first (s .args .y .now))) (dec (s .args .width) (rest (s .args .y .now))) (space-pow·mul-pop-pow t s) (b .mul-pop .result) (few-a·mul-pop-pow t d)) .fit) .good)
 
-v-left·mul-pow : (t : ℕ) (c : mul-pow-lts.Start (scale-reads.Asked, scale-reads.Learnt, mul-pop-pow-below t, mul-pop-pow.Post, mul-pows-below t, mul-pows.Post) (mul-pow-at t) mul-pow.Post) → Codes (c .args .width) (v-pow·mul-pow t c .p) (take ((1 + ((getD (c .args .x .now) 0 0) - 2147483648) / 64) - 1) (drop 1 (c .args .x .now)))
-v-left·mul-pow t c = pow-left (v-pow·mul-pow t c) ((1 + ((getD (c .args .x .now) 0 0) - 2147483648) / 64) - 1) (omega (arith, v-pow·mul-pow t c))
+abbrev Then2·mul-pow : ℕ → Type 0
+Then2·mul-pow t = mul-pow-lts.Then2 (scale-reads.Asked, scale-reads.Learnt, mul-pop-pow-below t, mul-pop-pow.Post, mul-pows-below t, mul-pows.Post) (mul-pow-at t) mul-pow.Post
 
-v-right·mul-pow : (t : ℕ) (c : mul-pow-lts.Start (scale-reads.Asked, scale-reads.Learnt, mul-pop-pow-below t, mul-pop-pow.Post, mul-pows-below t, mul-pows.Post) (mul-pow-at t) mul-pow.Post) → Codes (c .args .width) (v-pow·mul-pow t c .q) (take (length (c .args .x .now) - (1 + ((getD (c .args .x .now) 0 0) - 2147483648) / 64)) (drop (1 + ((getD (c .args .x .now) 0 0) - 2147483648) / 64) (c .args .x .now)))
-v-right·mul-pow t c = pow-right (v-pow·mul-pow t c) (1 + ((getD (c .args .x .now) 0 0) - 2147483648) / 64) (omega (arith, v-pow·mul-pow t c))
+is-pop·mul-pow : (t : ℕ) (c : Then2·mul-pow t) →
+    let s = c .before .before .before .before .before .before .before .before in
+    PopAt (s .args .width) (s .args .y .now)
+is-pop·mul-pow t c = pop-at (c .before .before .before .before .before .before .before .before .pre .1 .0 .1) (c .before .if1 .left) (c .if2 .taken)
 
-left·mul-pow : (t : ℕ) (c : mul-pow-lts.Else2 (scale-reads.Asked, scale-reads.Learnt, mul-pop-pow-below t, mul-pop-pow.Post, mul-pows-below t, mul-pows.Post) (mul-pow-at t) mul-pow.Post) → Codes ((c .before .before .before .before .before .before .before .before) .args .width) (is-pow·mul-pow t c .p) (take ((1 + (((getD ((c .before .before .before .before .before .before .before .before) .args .y .now) 0 0) - 2147483648) / 64)) - 1) (drop 1 ((c .before .before .before .before .before .before .before .before) .args .y .now)))
-left·mul-pow t c = pow-left (is-pow·mul-pow t c) ((1 + (((getD ((c .before .before .before .before .before .before .before .before) .args .y .now) 0 0) - 2147483648) / 64)) - 1) (omega (arith, is-pow·mul-pow t c))
+abbrev Else2·mul-pow : ℕ → Type 0
+Else2·mul-pow t = mul-pow-lts.Else2 (scale-reads.Asked, scale-reads.Learnt, mul-pop-pow-below t, mul-pop-pow.Post, mul-pows-below t, mul-pows.Post) (mul-pow-at t) mul-pow.Post
 
-right·mul-pow : (t : ℕ) (c : mul-pow-lts.Else2 (scale-reads.Asked, scale-reads.Learnt, mul-pop-pow-below t, mul-pop-pow.Post, mul-pows-below t, mul-pows.Post) (mul-pow-at t) mul-pow.Post) → Codes ((c .before .before .before .before .before .before .before .before) .args .width) (is-pow·mul-pow t c .q) (take (length ((c .before .before .before .before .before .before .before .before) .args .y .now) - (1 + (((getD ((c .before .before .before .before .before .before .before .before) .args .y .now) 0 0) - 2147483648) / 64))) (drop (1 + (((getD ((c .before .before .before .before .before .before .before .before) .args .y .now) 0 0) - 2147483648) / 64)) ((c .before .before .before .before .before .before .before .before) .args .y .now)))
-right·mul-pow t c = pow-right (is-pow·mul-pow t c) (1 + (((getD ((c .before .before .before .before .before .before .before .before) .args .y .now) 0 0) - 2147483648) / 64)) (omega (arith, is-pow·mul-pow t c))
+is-pow·mul-pow : (t : ℕ) (c : Else2·mul-pow t) →
+    let s = c .before .before .before .before .before .before .before .before in
+    PowAt (s .args .width) (s .args .y .now)
+is-pow·mul-pow t c = pow-at (c .before .before .before .before .before .before .before .before .pre .1 .0 .1) (c .before .if1 .left) (c .if2 .left)
 
-v-is·mul-pow : (t : ℕ) (c : mul-pow-lts.Else2 (scale-reads.Asked, scale-reads.Learnt, mul-pop-pow-below t, mul-pop-pow.Post, mul-pows-below t, mul-pows.Post) (mul-pow-at t) mul-pow.Post) → pow ((getD ((c .before .before .before .before .before .before .before .before) .args .x .now) 0 0) % 64) (dec ((c .before .before .before .before .before .before .before .before) .args .width) (take ((1 + ((getD ((c .before .before .before .before .before .before .before .before) .args .x .now) 0 0) - 2147483648) / 64) - 1) (drop 1 ((c .before .before .before .before .before .before .before .before) .args .x .now)))) (dec ((c .before .before .before .before .before .before .before .before) .args .width) (take (length ((c .before .before .before .before .before .before .before .before) .args .x .now) - (1 + ((getD ((c .before .before .before .before .before .before .before .before) .args .x .now) 0 0) - 2147483648) / 64)) (drop (1 + ((getD ((c .before .before .before .before .before .before .before .before) .args .x .now) 0 0) - 2147483648) / 64) ((c .before .before .before .before .before .before .before .before) .args .x .now)))) ≡ dec ((c .before .before .before .before .before .before .before .before) .args .width) ((c .before .before .before .before .before .before .before .before) .args .x .now)
-v-is·mul-pow t c = pow-is (v-pow·mul-pow t (c .before .before .before .before .before .before .before .before)) _ _ (dec-enc (v-left·mul-pow t (c .before .before .before .before .before .before .before .before))) (dec-enc (v-right·mul-pow t (c .before .before .before .before .before .before .before .before)))
+abbrev Start·mul-pow : ℕ → Type 0
+Start·mul-pow t = mul-pow-lts.Start (scale-reads.Asked, scale-reads.Learnt, mul-pop-pow-below t, mul-pop-pow.Post, mul-pows-below t, mul-pows.Post) (mul-pow-at t) mul-pow.Post
 
-y-is·mul-pow : (t : ℕ) (c : mul-pow-lts.Else2 (scale-reads.Asked, scale-reads.Learnt, mul-pop-pow-below t, mul-pop-pow.Post, mul-pows-below t, mul-pows.Post) (mul-pow-at t) mul-pow.Post) → (pow ((getD ((c .before .before .before .before .before .before .before .before) .args .y .now) 0 0) % 64) (dec ((c .before .before .before .before .before .before .before .before) .args .width) (take ((1 + (((getD ((c .before .before .before .before .before .before .before .before) .args .y .now) 0 0) - 2147483648) / 64)) - 1) (drop 1 ((c .before .before .before .before .before .before .before .before) .args .y .now)))) (dec ((c .before .before .before .before .before .before .before .before) .args .width) (take (length ((c .before .before .before .before .before .before .before .before) .args .y .now) - (1 + (((getD ((c .before .before .before .before .before .before .before .before) .args .y .now) 0 0) - 2147483648) / 64))) (drop (1 + (((getD ((c .before .before .before .before .before .before .before .before) .args .y .now) 0 0) - 2147483648) / 64)) ((c .before .before .before .before .before .before .before .before) .args .y .now))))) ≡ dec ((c .before .before .before .before .before .before .before .before) .args .width) ((c .before .before .before .before .before .before .before .before) .args .y .now)
-y-is·mul-pow t c = pow-is (is-pow·mul-pow t c) _ _ (dec-enc (left·mul-pow t c)) (dec-enc (right·mul-pow t c))
+v-pow·mul-pow : (t : ℕ) (c : Start·mul-pow t) → PowAt (c .args .width) (c .args .x .now)
+v-pow·mul-pow t c = pow-at (c .pre .1 .0 .0) (c .pre .1 .1 .1 .node) (c .pre .1 .1 .1 .sized)
 
-one·mul-pows : (t : ℕ) (c : mul-pows-lts.After-mul-lead (mul-lead-below t, mul-lead.Post, add-cross-below t, add-cross.Post) (mul-pows-at t) mul-pows.Post) → Codes ((c .before .before .before .before .before .before .before .before .before .before .before) .args .width) (leadOf ((c .before .before .before .before .before .before .before .before .before .before .before) .args .width) ((c .before .before .before .before .before .before .before .before .before .before .before) .args .i) ((c .before .before .before .before .before .before .before .before .before .before .before) .args .j) (dec ((c .before .before .before .before .before .before .before .before .before .before .before) .args .width) ((c .before .before .before .before .before .before .before .before .before .before .before) .args .p .now)) (dec ((c .before .before .before .before .before .before .before .before .before .before .before) .args .width) ((c .before .before .before .before .before .before .before .before .before .before .before) .args .q .now)) (dec ((c .before .before .before .before .before .before .before .before .before .before .before) .args .width) ((c .before .before .before .before .before .before .before .before .before .before .before) .args .r .now)) (dec ((c .before .before .before .before .before .before .before .before .before .before .before) .args .width) ((c .before .before .before .before .before .before .before .before .before .before .before) .args .s .now))) (take ((c .mul-lead) .result) ((c .mul-lead) .last .1 .1 .1 .1 .1 .1 .1 .0))
-one·mul-pows t c = made-front ((c .mul-lead) .result) ((c .mul-lead) .last .1 .1 .1 .1 .1 .1 .1 .0) ((c .mul-lead) .ensures) (lead-held ((c .before .before .before .before .before .before .before .before .before .before .before) .args .i) ((c .before .before .before .before .before .before .before .before .before .before .before) .args .j) (dec ((c .before .before .before .before .before .before .before .before .before .before .before) .args .width) ((c .before .before .before .before .before .before .before .before .before .before .before) .args .p .now)) (dec ((c .before .before .before .before .before .before .before .before .before .before .before) .args .width) ((c .before .before .before .before .before .before .before .before .before .before .before) .args .q .now)) (dec ((c .before .before .before .before .before .before .before .before .before .before .before) .args .width) ((c .before .before .before .before .before .before .before .before .before .before .before) .args .r .now)) (dec ((c .before .before .before .before .before .before .before .before .before .before .before) .args .width) ((c .before .before .before .before .before .before .before .before .before .before .before) .args .s .now)) (((c .before .before .before .before .before .before .before .before .before .before .before) .pre .1 .1) .fit) .good)
+abbrev After-mul-lead·mul-pows : ℕ → Type 0
+After-mul-lead·mul-pows t = mul-pows-lts.After-mul-lead (mul-lead-below t, mul-lead.Post, add-cross-below t, add-cross.Post) (mul-pows-at t) mul-pows.Post
 
-few-a·mul-pows : (t : ℕ) (c : mul-pows-lts.After-mul-lead (mul-lead-below t, mul-lead.Post, add-cross-below t, add-cross.Post) (mul-pows-at t) mul-pows.Post) → ((c .mul-lead) .result) ≤ 3073
-few-a·mul-pows t c = omega (arith, (c .mul-lead) .ensures .size, lead-held ((c .before .before .before .before .before .before .before .before .before .before .before) .args .i) ((c .before .before .before .before .before .before .before .before .before .before .before) .args .j) (dec ((c .before .before .before .before .before .before .before .before .before .before .before) .args .width) ((c .before .before .before .before .before .before .before .before .before .before .before) .args .p .now)) (dec ((c .before .before .before .before .before .before .before .before .before .before .before) .args .width) ((c .before .before .before .before .before .before .before .before .before .before .before) .args .q .now)) (dec ((c .before .before .before .before .before .before .before .before .before .before .before) .args .width) ((c .before .before .before .before .before .before .before .before .before .before .before) .args .r .now)) (dec ((c .before .before .before .before .before .before .before .before .before .before .before) .args .width) ((c .before .before .before .before .before .before .before .before .before .before .before) .args .s .now)) (((c .before .before .before .before .before .before .before .before .before .before .before) .pre .1 .1) .fit) .words)
+one·mul-pows : (t : ℕ) (c : After-mul-lead·mul-pows t) →
+    let s = c .before .before .before .before .before .before .before .before .before .before .before in
+    Codes (s .args .width)
+    (leadOf (s .args .width) (s .args .i) (s .args .j) (dec (s .args .width) (s .args .p .now)) (dec (s .args .width) (s .args .q .now)) (dec (s .args .width) (s .args .r .now)) (dec (s .args .width) (s .args .s .now)))
+    (take (c .mul-lead .result) (c .mul-lead .last .1 .1 .1 .1 .1 .1 .1 .0))
+one·mul-pows t c =
+    let s = c .before .before .before .before .before .before .before .before .before .before .before in
+    made-front (c .mul-lead .result) (c .mul-lead .last .1 .1 .1 .1 .1 .1 .1 .0) (c .mul-lead .ensures)
+    (lead-held (s .args .i) (s .args .j) (dec (s .args .width) (s .args .p .now)) (dec (s .args .width) (s .args .q .now)) (dec (s .args .width) (s .args .r .now)) (dec (s .args .width) (s .args .s .now)) (s .pre .1 .1 .fit) .good)
 
-behind-one·mul-pows : (t : ℕ) (c : mul-pows-lts.After-mul-lead (mul-lead-below t, mul-lead.Post, add-cross-below t, add-cross.Post) (mul-pows-at t) mul-pows.Post) → length ((c .before .before .before .before .before .before .before .before .before .before .before) .args .out .now) - ((c .mul-lead) .result) ≡ length ((c .mul-lead) .last .1 .1 .1 .1 .1 .1 .1 .0) - ((c .mul-lead) .result)
-behind-one·mul-pows t c = ap (λ z. z - ((c .mul-lead) .result)) (sym (((c .mul-lead) .kept .1 .1 .1 .1 .1 .1 .1) .0))
+few-a·mul-pows : (t : ℕ) (c : After-mul-lead·mul-pows t) → (c .mul-lead .result) ≤ 3073
+few-a·mul-pows t c =
+    let s = c .before .before .before .before .before .before .before .before .before .before .before in
+    omega (arith, c .mul-lead .ensures .size, lead-held (s .args .i) (s .args .j) (dec (s .args .width) (s .args .p .now)) (dec (s .args .width) (s .args .q .now)) (dec (s .args .width) (s .args .r .now)) (dec (s .args .width) (s .args .s .now)) (s .pre .1 .1 .fit) .words)
 
-both·mul-pows : (t : ℕ) (c : mul-pows-lts.After-add-cross (mul-lead-below t, mul-lead.Post, add-cross-below t, add-cross.Post) (mul-pows-at t) mul-pows.Post) → Begins ((c .add-cross) .result) (enc ((c .before .before .before .before .before .before .before .before .before .before .before .before .before .before .before .before .before .before .before .before .before) .args .width) (sumOf ((c .before .before .before .before .before .before .before .before .before .before .before .before .before .before .before .before .before .before .before .before .before) .args .width) (leadOf ((c .before .before .before .before .before .before .before .before .before .before .before .before .before .before .before .before .before .before .before .before .before) .args .width) ((c .before .before .before .before .before .before .before .before .before .before .before .before .before .before .before .before .before .before .before .before .before) .args .i) ((c .before .before .before .before .before .before .before .before .before .before .before .before .before .before .before .before .before .before .before .before .before) .args .j) (dec ((c .before .before .before .before .before .before .before .before .before .before .before .before .before .before .before .before .before .before .before .before .before) .args .width) ((c .before .before .before .before .before .before .before .before .before .before .before .before .before .before .before .before .before .before .before .before .before) .args .p .now)) (dec ((c .before .before .before .before .before .before .before .before .before .before .before .before .before .before .before .before .before .before .before .before .before) .args .width) ((c .before .before .before .before .before .before .before .before .before .before .before .before .before .before .before .before .before .before .before .before .before) .args .q .now)) (dec ((c .before .before .before .before .before .before .before .before .before .before .before .before .before .before .before .before .before .before .before .before .before) .args .width) ((c .before .before .before .before .before .before .before .before .before .before .before .before .before .before .before .before .before .before .before .before .before) .args .r .now)) (dec ((c .before .before .before .before .before .before .before .before .before .before .before .before .before .before .before .before .before .before .before .before .before) .args .width) ((c .before .before .before .before .before .before .before .before .before .before .before .before .before .before .before .before .before .before .before .before .before) .args .s .now))) (crossOf ((c .before .before .before .before .before .before .before .before .before .before .before .before .before .before .before .before .before .before .before .before .before) .args .width) ((c .before .before .before .before .before .before .before .before .before .before .before .before .before .before .before .before .before .before .before .before .before) .args .i) (dec ((c .before .before .before .before .before .before .before .before .before .before .before .before .before .before .before .before .before .before .before .before .before) .args .width) ((c .before .before .before .before .before .before .before .before .before .before .before .before .before .before .before .before .before .before .before .before .before) .args .p .now)) (dec ((c .before .before .before .before .before .before .before .before .before .before .before .before .before .before .before .before .before .before .before .before .before) .args .width) ((c .before .before .before .before .before .before .before .before .before .before .before .before .before .before .before .before .before .before .before .before .before) .args .s .now))))) ((c .add-cross) .last .1 .1 .1 .1 .0)
-both·mul-pows t c = begins-as ((c .add-cross) .ensures) (ap (λ h. enc ((c .before .before .before .before .before .before .before .before .before .before .before .before .before .before .before .before .before .before .before .before .before) .args .width) (sumOf ((c .before .before .before .before .before .before .before .before .before .before .before .before .before .before .before .before .before .before .before .before .before) .args .width) h (crossOf ((c .before .before .before .before .before .before .before .before .before .before .before .before .before .before .before .before .before .before .before .before .before) .args .width) ((c .before .before .before .before .before .before .before .before .before .before .before .before .before .before .before .before .before .before .before .before .before) .args .i) (dec ((c .before .before .before .before .before .before .before .before .before .before .before .before .before .before .before .before .before .before .before .before .before) .args .width) ((c .before .before .before .before .before .before .before .before .before .before .before .before .before .before .before .before .before .before .before .before .before) .args .p .now)) (dec ((c .before .before .before .before .before .before .before .before .before .before .before .before .before .before .before .before .before .before .before .before .before) .args .width) ((c .before .before .before .before .before .before .before .before .before .before .before .before .before .before .before .before .before .before .before .before .before) .args .s .now))))) (dec-enc (one·mul-pows t (c .before .before .before .before .before .before .before .before .before .before))))
+behind-one·mul-pows : (t : ℕ) (c : After-mul-lead·mul-pows t) →
+    length (c .before .before .before .before .before .before .before .before .before .before .before .args .out .now) - (c .mul-lead .result) ≡ length
+    (c .mul-lead .last .1 .1 .1 .1 .1 .1 .1 .0) - (c .mul-lead .result)
+behind-one·mul-pows t c = ap (λ z. z - (c .mul-lead .result)) (sym (c .mul-lead .kept .1 .1 .1 .1 .1 .1 .1 .0))
 
-two·mul-pows : (t : ℕ) (c : mul-pows-lts.After-add-cross (mul-lead-below t, mul-lead.Post, add-cross-below t, add-cross.Post) (mul-pows-at t) mul-pows.Post) → Codes ((c .before .before .before .before .before .before .before .before .before .before .before .before .before .before .before .before .before .before .before .before .before) .args .width) (sumOf ((c .before .before .before .before .before .before .before .before .before .before .before .before .before .before .before .before .before .before .before .before .before) .args .width) (leadOf ((c .before .before .before .before .before .before .before .before .before .before .before .before .before .before .before .before .before .before .before .before .before) .args .width) ((c .before .before .before .before .before .before .before .before .before .before .before .before .before .before .before .before .before .before .before .before .before) .args .i) ((c .before .before .before .before .before .before .before .before .before .before .before .before .before .before .before .before .before .before .before .before .before) .args .j) (dec ((c .before .before .before .before .before .before .before .before .before .before .before .before .before .before .before .before .before .before .before .before .before) .args .width) ((c .before .before .before .before .before .before .before .before .before .before .before .before .before .before .before .before .before .before .before .before .before) .args .p .now)) (dec ((c .before .before .before .before .before .before .before .before .before .before .before .before .before .before .before .before .before .before .before .before .before) .args .width) ((c .before .before .before .before .before .before .before .before .before .before .before .before .before .before .before .before .before .before .before .before .before) .args .q .now)) (dec ((c .before .before .before .before .before .before .before .before .before .before .before .before .before .before .before .before .before .before .before .before .before) .args .width) ((c .before .before .before .before .before .before .before .before .before .before .before .before .before .before .before .before .before .before .before .before .before) .args .r .now)) (dec ((c .before .before .before .before .before .before .before .before .before .before .before .before .before .before .before .before .before .before .before .before .before) .args .width) ((c .before .before .before .before .before .before .before .before .before .before .before .before .before .before .before .before .before .before .before .before .before) .args .s .now))) (crossOf ((c .before .before .before .before .before .before .before .before .before .before .before .before .before .before .before .before .before .before .before .before .before) .args .width) ((c .before .before .before .before .before .before .before .before .before .before .before .before .before .before .before .before .before .before .before .before .before) .args .i) (dec ((c .before .before .before .before .before .before .before .before .before .before .before .before .before .before .before .before .before .before .before .before .before) .args .width) ((c .before .before .before .before .before .before .before .before .before .before .before .before .before .before .before .before .before .before .before .before .before) .args .p .now)) (dec ((c .before .before .before .before .before .before .before .before .before .before .before .before .before .before .before .before .before .before .before .before .before) .args .width) ((c .before .before .before .before .before .before .before .before .before .before .before .before .before .before .before .before .before .before .before .before .before) .args .s .now)))) (take ((c .add-cross) .result) ((c .add-cross) .last .1 .1 .1 .1 .0))
-two·mul-pows t c = made-front ((c .add-cross) .result) ((c .add-cross) .last .1 .1 .1 .1 .0) (both·mul-pows t c) (two-held ((c .before .before .before .before .before .before .before .before .before .before .before .before .before .before .before .before .before .before .before .before .before) .args .i) ((c .before .before .before .before .before .before .before .before .before .before .before .before .before .before .before .before .before .before .before .before .before) .args .j) (dec ((c .before .before .before .before .before .before .before .before .before .before .before .before .before .before .before .before .before .before .before .before .before) .args .width) ((c .before .before .before .before .before .before .before .before .before .before .before .before .before .before .before .before .before .before .before .before .before) .args .p .now)) (dec ((c .before .before .before .before .before .before .before .before .before .before .before .before .before .before .before .before .before .before .before .before .before) .args .width) ((c .before .before .before .before .before .before .before .before .before .before .before .before .before .before .before .before .before .before .before .before .before) .args .q .now)) (dec ((c .before .before .before .before .before .before .before .before .before .before .before .before .before .before .before .before .before .before .before .before .before) .args .width) ((c .before .before .before .before .before .before .before .before .before .before .before .before .before .before .before .before .before .before .before .before .before) .args .r .now)) (dec ((c .before .before .before .before .before .before .before .before .before .before .before .before .before .before .before .before .before .before .before .before .before) .args .width) ((c .before .before .before .before .before .before .before .before .before .before .before .before .before .before .before .before .before .before .before .before .before) .args .s .now)) (((c .before .before .before .before .before .before .before .before .before .before .before .before .before .before .before .before .before .before .before .before .before) .pre .1 .1) .fit) .good)
+abbrev After-add-cross·mul-pows : ℕ → Type 0
+After-add-cross·mul-pows t = mul-pows-lts.After-add-cross (mul-lead-below t, mul-lead.Post, add-cross-below t, add-cross.Post) (mul-pows-at t) mul-pows.Post
 
-few-n·mul-pows : (t : ℕ) (c : mul-pows-lts.After-add-cross (mul-lead-below t, mul-lead.Post, add-cross-below t, add-cross.Post) (mul-pows-at t) mul-pows.Post) → ((c .add-cross) .result) ≤ 3073
-few-n·mul-pows t c = omega (arith, both·mul-pows t c .size, two-held ((c .before .before .before .before .before .before .before .before .before .before .before .before .before .before .before .before .before .before .before .before .before) .args .i) ((c .before .before .before .before .before .before .before .before .before .before .before .before .before .before .before .before .before .before .before .before .before) .args .j) (dec ((c .before .before .before .before .before .before .before .before .before .before .before .before .before .before .before .before .before .before .before .before .before) .args .width) ((c .before .before .before .before .before .before .before .before .before .before .before .before .before .before .before .before .before .before .before .before .before) .args .p .now)) (dec ((c .before .before .before .before .before .before .before .before .before .before .before .before .before .before .before .before .before .before .before .before .before) .args .width) ((c .before .before .before .before .before .before .before .before .before .before .before .before .before .before .before .before .before .before .before .before .before) .args .q .now)) (dec ((c .before .before .before .before .before .before .before .before .before .before .before .before .before .before .before .before .before .before .before .before .before) .args .width) ((c .before .before .before .before .before .before .before .before .before .before .before .before .before .before .before .before .before .before .before .before .before) .args .r .now)) (dec ((c .before .before .before .before .before .before .before .before .before .before .before .before .before .before .before .before .before .before .before .before .before) .args .width) ((c .before .before .before .before .before .before .before .before .before .before .before .before .before .before .before .before .before .before .before .before .before) .args .s .now)) (((c .before .before .before .before .before .before .before .before .before .before .before .before .before .before .before .before .before .before .before .before .before) .pre .1 .1) .fit) .words)
+both·mul-pows : (t : ℕ) (c : After-add-cross·mul-pows t) →
+    let s = c .before .before .before .before .before .before .before .before .before .before .before .before .before .before .before .before .before .before .before .before .before in
+    Begins (c .add-cross .result)
+    (enc (s .args .width) (sumOf (s .args .width) (leadOf (s .args .width) (s .args .i) (s .args .j) (dec (s .args .width) (s .args .p .now)) (dec (s .args .width) (s .args .q .now)) (dec (s .args .width) (s .args .r .now)) (dec (s .args .width) (s .args .s .now))) (crossOf (s .args .width) (s .args .i) (dec (s .args .width) (s .args .p .now)) (dec (s .args .width) (s .args .s .now)))))
+    (c .add-cross .last .1 .1 .1 .1 .0)
+both·mul-pows t c =
+    let s = c .before .before .before .before .before .before .before .before .before .before .before .before .before .before .before .before .before .before .before .before .before in
+    begins-as (c .add-cross .ensures)
+    (ap (λ h. enc (s .args .width) (sumOf (s .args .width) h (crossOf (s .args .width) (s .args .i) (dec (s .args .width) (s .args .p .now)) (dec (s .args .width) (s .args .s .now))))) (dec-enc (one·mul-pows t (c .before .before .before .before .before .before .before .before .before .before))))
 
-behind-two·mul-pows : (t : ℕ) (c : mul-pows-lts.After-add-cross (mul-lead-below t, mul-lead.Post, add-cross-below t, add-cross.Post) (mul-pows-at t) mul-pows.Post) → length ((c .before .before .before .before .before .before .before .before .before .before .before .before .before .before .before .before .before .before .before .before .before) .args .out .now) - ((c .add-cross) .result) ≡ length ((c .add-cross) .last .1 .1 .1 .1 .0) - ((c .add-cross) .result)
-behind-two·mul-pows t c = ap (λ z. z - ((c .add-cross) .result)) (sym (((c .add-cross) .kept .1 .1 .1 .1) .0 ∙ ((c .before .before .before .before .before .before .before .before .before .before .mul-lead) .kept .1 .1 .1 .1 .1 .1 .1) .0))
+two·mul-pows : (t : ℕ) (c : After-add-cross·mul-pows t) →
+    let s = c .before .before .before .before .before .before .before .before .before .before .before .before .before .before .before .before .before .before .before .before .before in
+    Codes (s .args .width)
+    (sumOf (s .args .width) (leadOf (s .args .width) (s .args .i) (s .args .j) (dec (s .args .width) (s .args .p .now)) (dec (s .args .width) (s .args .q .now)) (dec (s .args .width) (s .args .r .now)) (dec (s .args .width) (s .args .s .now))) (crossOf (s .args .width) (s .args .i) (dec (s .args .width) (s .args .p .now)) (dec (s .args .width) (s .args .s .now))))
+    (take (c .add-cross .result) (c .add-cross .last .1 .1 .1 .1 .0))
+two·mul-pows t c =
+    let s = c .before .before .before .before .before .before .before .before .before .before .before .before .before .before .before .before .before .before .before .before .before in
+    made-front (c .add-cross .result) (c .add-cross .last .1 .1 .1 .1 .0) (both·mul-pows t c)
+    (two-held (s .args .i) (s .args .j) (dec (s .args .width) (s .args .p .now)) (dec (s .args .width) (s .args .q .now)) (dec (s .args .width) (s .args .r .now)) (dec (s .args .width) (s .args .s .now)) (s .pre .1 .1 .fit) .good)
 
-few-a·mul-lead : (t : ℕ) (c : mul-lead-lts.After-u (product-below t, product.Post, make-pow-reads.Asked, make-pow-reads.Learnt) (mul-lead-at t) mul-lead.Post) → ((c .before .before .before .before .before .product) .result) ≤ 3073
-few-a·mul-lead t c = omega (arith, (c .before .before .before .before .before .product) .ensures .size, fit-prod ((space-leads ((c .before .before .before .before .before .before .before .before .before .before .before .before .before .before .before .before) .args .i) ((c .before .before .before .before .before .before .before .before .before .before .before .before .before .before .before .before) .args .j) (dec ((c .before .before .before .before .before .before .before .before .before .before .before .before .before .before .before .before) .args .width) ((c .before .before .before .before .before .before .before .before .before .before .before .before .before .before .before .before) .args .p .now)) (dec ((c .before .before .before .before .before .before .before .before .before .before .before .before .before .before .before .before) .args .width) ((c .before .before .before .before .before .before .before .before .before .before .before .before .before .before .before .before) .args .q .now)) (dec ((c .before .before .before .before .before .before .before .before .before .before .before .before .before .before .before .before) .args .width) ((c .before .before .before .before .before .before .before .before .before .before .before .before .before .before .before .before) .args .r .now)) (dec ((c .before .before .before .before .before .before .before .before .before .before .before .before .before .before .before .before) .args .width) ((c .before .before .before .before .before .before .before .before .before .before .before .before .before .before .before .before) .args .s .now)) ((c .before .before .before .before .before .before .before .before .before .before .before .before .before .before .before .before) .pre .1 .1)) .fit) .words)
+few-n·mul-pows : (t : ℕ) (c : After-add-cross·mul-pows t) → (c .add-cross .result) ≤ 3073
+few-n·mul-pows t c =
+    let s = c .before .before .before .before .before .before .before .before .before .before .before .before .before .before .before .before .before .before .before .before .before in
+    omega (arith, both·mul-pows t c .size, two-held (s .args .i) (s .args .j) (dec (s .args .width) (s .args .p .now)) (dec (s .args .width) (s .args .q .now)) (dec (s .args .width) (s .args .r .now)) (dec (s .args .width) (s .args .s .now)) (s .pre .1 .1 .fit) .words)
 
-a-size·mul-lead : (t : ℕ) (c : mul-lead-lts.After-u (product-below t, product.Post, make-pow-reads.Asked, make-pow-reads.Learnt) (mul-lead-at t) mul-lead.Post) → (1 + ((c .before .before .before .before .before .product) .result)) ≤ length (putMid 1 (length ((c .before .before .before .before .before .before .before .before .before .before .before .before .before .before .before .before) .args .out .now) - 1) ((c .before .before .before .before .before .before .before .before .before .before .before .before .before .before .before .before) .args .out .now) ((c .before .before .before .before .before .product) .last .1 .1 .1 .0))
-a-size·mul-lead t c = omega (arith, few-a·mul-lead t c, (c .before .before .before .before .out) .given .1, ((c .before .before .before .before .before .before .before .before .before .before .before .before .before .before .before .before) .pre .1 .1) .tables)
+behind-two·mul-pows : (t : ℕ) (c : After-add-cross·mul-pows t) →
+    length
+    (c .before .before .before .before .before .before .before .before .before .before .before .before .before .before .before .before .before .before .before .before .before .args .out .now)
+    - (c .add-cross .result) ≡ length (c .add-cross .last .1 .1 .1 .1 .0) - (c .add-cross .result)
+behind-two·mul-pows t c =
+    ap (λ z. z - (c .add-cross .result))
+    (sym (c .add-cross .kept .1 .1 .1 .1 .0 ∙ (c .before .before .before .before .before .before .before .before .before .before .mul-lead .kept .1 .1 .1 .1 .1 .1 .1) .0))
 
-rest·mul-lead : (t : ℕ) (c : mul-lead-lts.After-u (product-below t, product.Post, make-pow-reads.Asked, make-pow-reads.Learnt) (mul-lead-at t) mul-lead.Post) → length ((c .before .before .before .before .before .before .before .before .before .before .before .before .before .before .before .before) .args .out .now) - (1 + ((c .before .before .before .before .before .product) .result)) ≡ length (take (length (putMid 1 (length ((c .before .before .before .before .before .before .before .before .before .before .before .before .before .before .before .before) .args .out .now) - 1) ((c .before .before .before .before .before .before .before .before .before .before .before .before .before .before .before .before) .args .out .now) ((c .before .before .before .before .before .product) .last .1 .1 .1 .0)) - (1 + ((c .before .before .before .before .before .product) .result))) (drop (1 + ((c .before .before .before .before .before .product) .result)) (putMid 1 (length ((c .before .before .before .before .before .before .before .before .before .before .before .before .before .before .before .before) .args .out .now) - 1) ((c .before .before .before .before .before .before .before .before .before .before .before .before .before .before .before .before) .args .out .now) ((c .before .before .before .before .before .product) .last .1 .1 .1 .0))))
-rest·mul-lead t c = omega (arith, length-tail-part (1 + ((c .before .before .before .before .before .product) .result)) (putMid 1 (length ((c .before .before .before .before .before .before .before .before .before .before .before .before .before .before .before .before) .args .out .now) - 1) ((c .before .before .before .before .before .before .before .before .before .before .before .before .before .before .before .before) .args .out .now) ((c .before .before .before .before .before .product) .last .1 .1 .1 .0)), (c .before .before .before .before .out) .given .1)
+abbrev After-u·mul-lead : ℕ → Type 0
+After-u·mul-lead t = mul-lead-lts.After-u (product-below t, product.Post, make-pow-reads.Asked, make-pow-reads.Learnt) (mul-lead-at t) mul-lead.Post
 
-kept-a·mul-lead : (t : ℕ) (c : mul-lead-lts.After-u2 (product-below t, product.Post, make-pow-reads.Asked, make-pow-reads.Learnt) (mul-lead-at t) mul-lead.Post) → Codes ((c .before .before .before .before .before .before .before .before .before .before .before .before .before .before .before .before .before .before .before .before .before .before .before .before .before .before) .args .width) (prodOf ((c .before .before .before .before .before .before .before .before .before .before .before .before .before .before .before .before .before .before .before .before .before .before .before .before .before .before) .args .width) (dec ((c .before .before .before .before .before .before .before .before .before .before .before .before .before .before .before .before .before .before .before .before .before .before .before .before .before .before) .args .width) ((c .before .before .before .before .before .before .before .before .before .before .before .before .before .before .before .before .before .before .before .before .before .before .before .before .before .before) .args .p .now)) (dec ((c .before .before .before .before .before .before .before .before .before .before .before .before .before .before .before .before .before .before .before .before .before .before .before .before .before .before) .args .width) ((c .before .before .before .before .before .before .before .before .before .before .before .before .before .before .before .before .before .before .before .before .before .before .before .before .before .before) .args .r .now))) (take ((c .before .before .before .before .before .before .before .before .before .before .before .before .before .before .before .product) .result) (drop 1 (putMid (1 + ((c .before .before .before .before .before .before .before .before .before .before .before .before .before .before .before .product) .result)) (length (putMid 1 (length ((c .before .before .before .before .before .before .before .before .before .before .before .before .before .before .before .before .before .before .before .before .before .before .before .before .before .before) .args .out .now) - 1) ((c .before .before .before .before .before .before .before .before .before .before .before .before .before .before .before .before .before .before .before .before .before .before .before .before .before .before) .args .out .now) ((c .before .before .before .before .before .before .before .before .before .before .before .before .before .before .before .product) .last .1 .1 .1 .0)) - (1 + ((c .before .before .before .before .before .before .before .before .before .before .before .before .before .before .before .product) .result))) (putMid 1 (length ((c .before .before .before .before .before .before .before .before .before .before .before .before .before .before .before .before .before .before .before .before .before .before .before .before .before .before) .args .out .now) - 1) ((c .before .before .before .before .before .before .before .before .before .before .before .before .before .before .before .before .before .before .before .before .before .before .before .before .before .before) .args .out .now) ((c .before .before .before .before .before .before .before .before .before .before .before .before .before .before .before .product) .last .1 .1 .1 .0)) ((c .before .before .before .before .before .product2) .last .1 .1 .1 .0))))
-kept-a·mul-lead t c = kept-codes 1 ((c .before .before .before .before .before .before .before .before .before .before .before .before .before .before .before .product) .result) (1 + ((c .before .before .before .before .before .before .before .before .before .before .before .before .before .before .before .product) .result)) (length (putMid 1 (length ((c .before .before .before .before .before .before .before .before .before .before .before .before .before .before .before .before .before .before .before .before .before .before .before .before .before .before) .args .out .now) - 1) ((c .before .before .before .before .before .before .before .before .before .before .before .before .before .before .before .before .before .before .before .before .before .before .before .before .before .before) .args .out .now) ((c .before .before .before .before .before .before .before .before .before .before .before .before .before .before .before .product) .last .1 .1 .1 .0)) - (1 + ((c .before .before .before .before .before .before .before .before .before .before .before .before .before .before .before .product) .result))) (putMid 1 (length ((c .before .before .before .before .before .before .before .before .before .before .before .before .before .before .before .before .before .before .before .before .before .before .before .before .before .before) .args .out .now) - 1) ((c .before .before .before .before .before .before .before .before .before .before .before .before .before .before .before .before .before .before .before .before .before .before .before .before .before .before) .args .out .now) ((c .before .before .before .before .before .before .before .before .before .before .before .before .before .before .before .product) .last .1 .1 .1 .0)) ((c .before .before .before .before .before .product2) .last .1 .1 .1 .0) (made-codes 1 ((c .before .before .before .before .before .before .before .before .before .before .before .before .before .before .before .before .before .before .before .before .before .before .before .before .before .before) .args .out .now) ((c .before .before .before .before .before .before .before .before .before .before .before .before .before .before .before .product) .last .1 .1 .1 .0) ((c .before .before .before .before .before .before .before .before .before .before .before .before .before .before .before .product) .result) (omega (arith, ((c .before .before .before .before .before .before .before .before .before .before .before .before .before .before .before .before .before .before .before .before .before .before .before .before .before .before) .pre .1 .1) .tables)) ((c .before .before .before .before .before .before .before .before .before .before .before .before .before .before .before .product) .ensures) (fit-prod ((space-leads ((c .before .before .before .before .before .before .before .before .before .before .before .before .before .before .before .before .before .before .before .before .before .before .before .before .before .before) .args .i) ((c .before .before .before .before .before .before .before .before .before .before .before .before .before .before .before .before .before .before .before .before .before .before .before .before .before .before) .args .j) (dec ((c .before .before .before .before .before .before .before .before .before .before .before .before .before .before .before .before .before .before .before .before .before .before .before .before .before .before) .args .width) ((c .before .before .before .before .before .before .before .before .before .before .before .before .before .before .before .before .before .before .before .before .before .before .before .before .before .before) .args .p .now)) (dec ((c .before .before .before .before .before .before .before .before .before .before .before .before .before .before .before .before .before .before .before .before .before .before .before .before .before .before) .args .width) ((c .before .before .before .before .before .before .before .before .before .before .before .before .before .before .before .before .before .before .before .before .before .before .before .before .before .before) .args .q .now)) (dec ((c .before .before .before .before .before .before .before .before .before .before .before .before .before .before .before .before .before .before .before .before .before .before .before .before .before .before) .args .width) ((c .before .before .before .before .before .before .before .before .before .before .before .before .before .before .before .before .before .before .before .before .before .before .before .before .before .before) .args .r .now)) (dec ((c .before .before .before .before .before .before .before .before .before .before .before .before .before .before .before .before .before .before .before .before .before .before .before .before .before .before) .args .width) ((c .before .before .before .before .before .before .before .before .before .before .before .before .before .before .before .before .before .before .before .before .before .before .before .before .before .before) .args .s .now)) ((c .before .before .before .before .before .before .before .before .before .before .before .before .before .before .before .before .before .before .before .before .before .before .before .before .before .before) .pre .1 .1)) .fit) .good)) (omega arith) (a-size·mul-lead t (c .before .before .before .before .before .before .before .before .before .before))
+few-a·mul-lead : (t : ℕ) (c : After-u·mul-lead t) → (c .before .before .before .before .before .product .result) ≤ 3073
+few-a·mul-lead t c =
+    let s = c .before .before .before .before .before .before .before .before .before .before .before .before .before .before .before .before in
+    omega (arith, c .before .before .before .before .before .product .ensures .size, fit-prod ((space-leads (s .args .i) (s .args .j) (dec (s .args .width) (s .args .p .now)) (dec (s .args .width) (s .args .q .now)) (dec (s .args .width) (s .args .r .now)) (dec (s .args .width) (s .args .s .now)) (s .pre .1 .1)) .fit) .words)
 
-made-b·mul-lead : (t : ℕ) (c : mul-lead-lts.After-u2 (product-below t, product.Post, make-pow-reads.Asked, make-pow-reads.Learnt) (mul-lead-at t) mul-lead.Post) → Codes ((c .before .before .before .before .before .before .before .before .before .before .before .before .before .before .before .before .before .before .before .before .before .before .before .before .before .before) .args .width) (prodOf ((c .before .before .before .before .before .before .before .before .before .before .before .before .before .before .before .before .before .before .before .before .before .before .before .before .before .before) .args .width) (dec ((c .before .before .before .before .before .before .before .before .before .before .before .before .before .before .before .before .before .before .before .before .before .before .before .before .before .before) .args .width) ((c .before .before .before .before .before .before .before .before .before .before .before .before .before .before .before .before .before .before .before .before .before .before .before .before .before .before) .args .q .now)) (dec ((c .before .before .before .before .before .before .before .before .before .before .before .before .before .before .before .before .before .before .before .before .before .before .before .before .before .before) .args .width) ((c .before .before .before .before .before .before .before .before .before .before .before .before .before .before .before .before .before .before .before .before .before .before .before .before .before .before) .args .s .now))) (take ((c .before .before .before .before .before .product2) .result) (drop (1 + ((c .before .before .before .before .before .before .before .before .before .before .before .before .before .before .before .product) .result)) (putMid (1 + ((c .before .before .before .before .before .before .before .before .before .before .before .before .before .before .before .product) .result)) (length (putMid 1 (length ((c .before .before .before .before .before .before .before .before .before .before .before .before .before .before .before .before .before .before .before .before .before .before .before .before .before .before) .args .out .now) - 1) ((c .before .before .before .before .before .before .before .before .before .before .before .before .before .before .before .before .before .before .before .before .before .before .before .before .before .before) .args .out .now) ((c .before .before .before .before .before .before .before .before .before .before .before .before .before .before .before .product) .last .1 .1 .1 .0)) - (1 + ((c .before .before .before .before .before .before .before .before .before .before .before .before .before .before .before .product) .result))) (putMid 1 (length ((c .before .before .before .before .before .before .before .before .before .before .before .before .before .before .before .before .before .before .before .before .before .before .before .before .before .before) .args .out .now) - 1) ((c .before .before .before .before .before .before .before .before .before .before .before .before .before .before .before .before .before .before .before .before .before .before .before .before .before .before) .args .out .now) ((c .before .before .before .before .before .before .before .before .before .before .before .before .before .before .before .product) .last .1 .1 .1 .0)) ((c .before .before .before .before .before .product2) .last .1 .1 .1 .0))))
-made-b·mul-lead t c = made-codes (1 + ((c .before .before .before .before .before .before .before .before .before .before .before .before .before .before .before .product) .result)) (putMid 1 (length ((c .before .before .before .before .before .before .before .before .before .before .before .before .before .before .before .before .before .before .before .before .before .before .before .before .before .before) .args .out .now) - 1) ((c .before .before .before .before .before .before .before .before .before .before .before .before .before .before .before .before .before .before .before .before .before .before .before .before .before .before) .args .out .now) ((c .before .before .before .before .before .before .before .before .before .before .before .before .before .before .before .product) .last .1 .1 .1 .0)) ((c .before .before .before .before .before .product2) .last .1 .1 .1 .0) ((c .before .before .before .before .before .product2) .result) (a-size·mul-lead t (c .before .before .before .before .before .before .before .before .before .before)) ((c .before .before .before .before .before .product2) .ensures) (fit-prod ((space-rests ((c .before .before .before .before .before .before .before .before .before .before .before .before .before .before .before .before .before .before .before .before .before .before .before .before .before .before) .args .i) ((c .before .before .before .before .before .before .before .before .before .before .before .before .before .before .before .before .before .before .before .before .before .before .before .before .before .before) .args .j) (dec ((c .before .before .before .before .before .before .before .before .before .before .before .before .before .before .before .before .before .before .before .before .before .before .before .before .before .before) .args .width) ((c .before .before .before .before .before .before .before .before .before .before .before .before .before .before .before .before .before .before .before .before .before .before .before .before .before .before) .args .p .now)) (dec ((c .before .before .before .before .before .before .before .before .before .before .before .before .before .before .before .before .before .before .before .before .before .before .before .before .before .before) .args .width) ((c .before .before .before .before .before .before .before .before .before .before .before .before .before .before .before .before .before .before .before .before .before .before .before .before .before .before) .args .q .now)) (dec ((c .before .before .before .before .before .before .before .before .before .before .before .before .before .before .before .before .before .before .before .before .before .before .before .before .before .before) .args .width) ((c .before .before .before .before .before .before .before .before .before .before .before .before .before .before .before .before .before .before .before .before .before .before .before .before .before .before) .args .r .now)) (dec ((c .before .before .before .before .before .before .before .before .before .before .before .before .before .before .before .before .before .before .before .before .before .before .before .before .before .before) .args .width) ((c .before .before .before .before .before .before .before .before .before .before .before .before .before .before .before .before .before .before .before .before .before .before .before .before .before .before) .args .s .now)) ((c .before .before .before .before .before .before .before .before .before .before .before .before .before .before .before .before .before .before .before .before .before .before .before .before .before .before) .pre .1 .1) ((c .before .before .before .before .before .before .before .before .before .before .before .before .before .before .before .product) .result) (few-a·mul-lead t (c .before .before .before .before .before .before .before .before .before .before))) .fit) .good)
+a-size·mul-lead : (t : ℕ) (c : After-u·mul-lead t) →
+    let s = c .before .before .before .before .before in
+    (1 + (s .product .result)) ≤ length
+    (one-put (c .before .before .before .before .before .before .before .before .before .before .before .before .before .before .before .before .args .out .now) (s .product .last .1 .1 .1 .0))
+a-size·mul-lead t c =
+    omega (arith, few-a·mul-lead t c, c .before .before .before .before .out .given .1, c .before .before .before .before .before .before .before .before .before .before .before .before .before .before .before .before .pre .1 .1 .tables)
 
-kept·add-cross : (t : ℕ) (c : add-cross-lts.After-out (mul-cross-below t, mul-cross.Post, sum-back-reads.Asked, sum-back-reads.Learnt) (add-cross-at t) add-cross.Post) → Codes ((c .before .before .before .before .before .before .before .before .before .before .before .before) .args .width) (dec ((c .before .before .before .before .before .before .before .before .before .before .before .before) .args .width) (take ((c .before .before .before .before .before .before .before .before .before .before .before .before) .args .a) ((c .before .before .before .before .before .before .before .before .before .before .before .before) .args .out .now))) (take ((c .before .before .before .before .before .before .before .before .before .before .before .before) .args .a) (putMid ((c .before .before .before .before .before .before .before .before .before .before .before .before) .args .a) (length ((c .before .before .before .before .before .before .before .before .before .before .before .before) .args .out .now) - ((c .before .before .before .before .before .before .before .before .before .before .before .before) .args .a)) ((c .before .before .before .before .before .before .before .before .before .before .before .before) .args .out .now) ((c .before .before .before .mul-cross) .last .1 .1 .1 .1 .1 .0)))
-kept·add-cross t c = front-codes ((c .before .before .before .before .before .before .before .before .before .before .before .before) .args .a) ((c .before .before .before .before .before .before .before .before .before .before .before .before) .args .out .now) ((c .before .before .before .mul-cross) .last .1 .1 .1 .1 .1 .0) (length ((c .before .before .before .before .before .before .before .before .before .before .before .before) .args .out .now) - ((c .before .before .before .before .before .before .before .before .before .before .before .before) .args .a)) (omega (arith, ((c .before .before .before .before .before .before .before .before .before .before .before .before) .pre .1 .1 .1 .0) .tables)) ((c .before .before .before .before .before .before .before .before .before .before .before .before) .pre .1 .1 .0 .1)
+behind·mul-lead : (t : ℕ) (c : After-u·mul-lead t) →
+    let s = c .before .before .before .before .before .before .before .before .before .before .before .before .before .before .before .before in
+    let b = c .before .before .before .before .before in
+    length (s .args .out .now) - (1 + (b .product .result)) ≡ length
+    (take (length (one-put (s .args .out .now) (b .product .last .1 .1 .1 .0)) - (1 + (b .product .result))) (drop (1 + (b .product .result)) (one-put (s .args .out .now) (b .product .last .1 .1 .1 .0))))
+behind·mul-lead t c =
+    let s = c .before .before .before .before .before in
+    omega (arith, length-tail-part (1 + (s .product .result)) (one-put (c .before .before .before .before .before .before .before .before .before .before .before .before .before .before .before .before .args .out .now) (s .product .last .1 .1 .1 .0)), c .before .before .before .before .out .given .1)
 
-made·add-cross : (t : ℕ) (c : add-cross-lts.After-out (mul-cross-below t, mul-cross.Post, sum-back-reads.Asked, sum-back-reads.Learnt) (add-cross-at t) add-cross.Post) → Codes ((c .before .before .before .before .before .before .before .before .before .before .before .before) .args .width) (crossOf ((c .before .before .before .before .before .before .before .before .before .before .before .before) .args .width) ((c .before .before .before .before .before .before .before .before .before .before .before .before) .args .i) (dec ((c .before .before .before .before .before .before .before .before .before .before .before .before) .args .width) ((c .before .before .before .before .before .before .before .before .before .before .before .before) .args .p .now)) (dec ((c .before .before .before .before .before .before .before .before .before .before .before .before) .args .width) ((c .before .before .before .before .before .before .before .before .before .before .before .before) .args .s .now))) (take ((c .before .before .before .mul-cross) .result) ((c .before .before .before .mul-cross) .last .1 .1 .1 .1 .0))
-made·add-cross t c = made-front ((c .before .before .before .mul-cross) .result) ((c .before .before .before .mul-cross) .last .1 .1 .1 .1 .0) ((c .before .before .before .mul-cross) .ensures) (((c .before .before .before .before .before .before .before .before .before .before .before .before) .pre .1 .1 .1 .0) .held .good)
+abbrev After-u2·mul-lead : ℕ → Type 0
+After-u2·mul-lead t = mul-lead-lts.After-u2 (product-below t, product.Post, make-pow-reads.Asked, make-pow-reads.Learnt) (mul-lead-at t) mul-lead.Post
 
-sum-is·add-cross : (t : ℕ) (c : add-cross-lts.After-out (mul-cross-below t, mul-cross.Post, sum-back-reads.Asked, sum-back-reads.Learnt) (add-cross-at t) add-cross.Post) → enc ((c .before .before .before .before .before .before .before .before .before .before .before .before) .args .width) (sumOf ((c .before .before .before .before .before .before .before .before .before .before .before .before) .args .width) (dec ((c .before .before .before .before .before .before .before .before .before .before .before .before) .args .width) (take ((c .before .before .before .before .before .before .before .before .before .before .before .before) .args .a) (putMid ((c .before .before .before .before .before .before .before .before .before .before .before .before) .args .a) (length ((c .before .before .before .before .before .before .before .before .before .before .before .before) .args .out .now) - ((c .before .before .before .before .before .before .before .before .before .before .before .before) .args .a)) ((c .before .before .before .before .before .before .before .before .before .before .before .before) .args .out .now) ((c .before .before .before .mul-cross) .last .1 .1 .1 .1 .1 .0)))) (dec ((c .before .before .before .before .before .before .before .before .before .before .before .before) .args .width) (take ((c .before .before .before .mul-cross) .result) ((c .before .before .before .mul-cross) .last .1 .1 .1 .1 .0)))) ≡ enc ((c .before .before .before .before .before .before .before .before .before .before .before .before) .args .width) (sumOf ((c .before .before .before .before .before .before .before .before .before .before .before .before) .args .width) (dec ((c .before .before .before .before .before .before .before .before .before .before .before .before) .args .width) (take ((c .before .before .before .before .before .before .before .before .before .before .before .before) .args .a) ((c .before .before .before .before .before .before .before .before .before .before .before .before) .args .out .now))) (crossOf ((c .before .before .before .before .before .before .before .before .before .before .before .before) .args .width) ((c .before .before .before .before .before .before .before .before .before .before .before .before) .args .i) (dec ((c .before .before .before .before .before .before .before .before .before .before .before .before) .args .width) ((c .before .before .before .before .before .before .before .before .before .before .before .before) .args .p .now)) (dec ((c .before .before .before .before .before .before .before .before .before .before .before .before) .args .width) ((c .before .before .before .before .before .before .before .before .before .before .before .before) .args .s .now))))
-sum-is·add-cross t c = ap (λ h. enc ((c .before .before .before .before .before .before .before .before .before .before .before .before) .args .width) (sumOf ((c .before .before .before .before .before .before .before .before .before .before .before .before) .args .width) h (dec ((c .before .before .before .before .before .before .before .before .before .before .before .before) .args .width) (take ((c .before .before .before .mul-cross) .result) ((c .before .before .before .mul-cross) .last .1 .1 .1 .1 .0))))) (dec-enc (kept·add-cross t c)) ∙ ap (λ h. enc ((c .before .before .before .before .before .before .before .before .before .before .before .before) .args .width) (sumOf ((c .before .before .before .before .before .before .before .before .before .before .before .before) .args .width) (dec ((c .before .before .before .before .before .before .before .before .before .before .before .before) .args .width) (take ((c .before .before .before .before .before .before .before .before .before .before .before .before) .args .a) ((c .before .before .before .before .before .before .before .before .before .before .before .before) .args .out .now))) h)) (dec-enc (made·add-cross t c))
+made·mul-lead : (t : ℕ) (c : After-u2·mul-lead t) →
+    let s = c .before .before .before .before .before .before .before .before .before .before .before .before .before .before .before .before .before .before .before .before .before .before .before .before .before .before in
+    let b = c .before .before .before .before .before .before .before .before .before .before .before .before .before .before .before in
+    let d = c .before .before .before .before .before in
+    Codes (s .args .width) (prodOf (s .args .width) (dec (s .args .width) (s .args .p .now)) (dec (s .args .width) (s .args .r .now)))
+    (take (b .product .result) (drop 1 (two-put (s .args .out .now) (b .product .last .1 .1 .1 .0) (d .product2 .last .1 .1 .1 .0) (b .product .result)))) ×
+    Codes (s .args .width) (prodOf (s .args .width) (dec (s .args .width) (s .args .q .now)) (dec (s .args .width) (s .args .s .now)))
+    (take (d .product2 .result) (drop (1 + (b .product .result)) (two-put (s .args .out .now) (b .product .last .1 .1 .1 .0) (d .product2 .last .1 .1 .1 .0) (b .product .result))))
+made·mul-lead t c =
+    let s = c .before .before .before .before .before .before .before .before .before .before .before .before .before .before .before .before .before .before .before .before .before .before .before .before .before .before in
+    let b = c .before .before .before .before .before .before .before .before .before .before .before .before .before .before .before in
+    let d = c .before .before .before .before .before .before .before .before .before .before in
+    let u = c .before .before .before .before .before in
+    two-made (s .args .out .now) (b .product .last .1 .1 .1 .0) (u .product2 .last .1 .1 .1 .0) (b .product .result) (u .product2 .result)
+    (omega (arith, s .pre .1 .1 .tables)) (a-size·mul-lead t d) (b .product .ensures)
+    (fit-prod ((space-leads (s .args .i) (s .args .j) (dec (s .args .width) (s .args .p .now)) (dec (s .args .width) (s .args .q .now)) (dec (s .args .width) (s .args .r .now)) (dec (s .args .width) (s .args .s .now)) (s .pre .1 .1)) .fit) .good)
+    (u .product2 .ensures)
+    (fit-prod ((space-rests (s .args .i) (s .args .j) (dec (s .args .width) (s .args .p .now)) (dec (s .args .width) (s .args .q .now)) (dec (s .args .width) (s .args .r .now)) (dec (s .args .width) (s .args .s .now)) (s .pre .1 .1) (b .product .result) (few-a·mul-lead t d)) .fit) .good)
 
-few-a·mul-cross : (t : ℕ) (c : mul-cross-lts.After-u (mul-by-pop-below t, mul-by-pop.Post, make-pow-reads.Asked, make-pow-reads.Learnt) (mul-cross-at t) mul-cross.Post) → ((c .before .before .before .before .before .mul-by-pop) .result) ≤ 3073
-few-a·mul-cross t c = omega (arith, (c .before .before .before .before .before .mul-by-pop) .ensures .size, fit-prod (((c .before .before .before .before .before .before .before .before .before .before .before .before .before .before) .pre .1 .1) .fit) .words)
+abbrev After-out·add-cross : ℕ → Type 0
+After-out·add-cross t = add-cross-lts.After-out (mul-cross-below t, mul-cross.Post, sum-back-reads.Asked, sum-back-reads.Learnt) (add-cross-at t) add-cross.Post
 
-a-size·mul-cross : (t : ℕ) (c : mul-cross-lts.After-u (mul-by-pop-below t, mul-by-pop.Post, make-pow-reads.Asked, make-pow-reads.Learnt) (mul-cross-at t) mul-cross.Post) → (1 + ((c .before .before .before .before .before .mul-by-pop) .result)) < length (putMid 1 (length ((c .before .before .before .before .before .before .before .before .before .before .before .before .before .before) .args .out .now) - 1) ((c .before .before .before .before .before .before .before .before .before .before .before .before .before .before) .args .out .now) ((c .before .before .before .before .before .mul-by-pop) .last .1 .1 .1 .0))
-a-size·mul-cross t c = omega (arith, few-a·mul-cross t c, (c .before .before .before .before .out) .given .1, ((c .before .before .before .before .before .before .before .before .before .before .before .before .before .before) .pre .1 .1) .tables, ((c .before .before .before .before .before .before .before .before .before .before .before .before .before .before) .pre .1 .1) .pos)
+kept·add-cross : (t : ℕ) (c : After-out·add-cross t) →
+    let s = c .before .before .before .before .before .before .before .before .before .before .before .before in
+    Codes (s .args .width) (dec (s .args .width) (take (s .args .a) (s .args .out .now)))
+    (take (s .args .a) (putMid (s .args .a) (length (s .args .out .now) - (s .args .a)) (s .args .out .now) (c .before .before .before .mul-cross .last .1 .1 .1 .1 .1 .0)))
+kept·add-cross t c =
+    let s = c .before .before .before .before .before .before .before .before .before .before .before .before in
+    front-codes (s .args .a) (s .args .out .now) (c .before .before .before .mul-cross .last .1 .1 .1 .1 .1 .0) (length (s .args .out .now) - (s .args .a))
+    (omega (arith, s .pre .1 .1 .1 .0 .tables)) (s .pre .1 .1 .0 .1)
 
-codes-a·mul-cross : (t : ℕ) (c : mul-cross-lts.After-u (mul-by-pop-below t, mul-by-pop.Post, make-pow-reads.Asked, make-pow-reads.Learnt) (mul-cross-at t) mul-cross.Post) → Codes ((c .before .before .before .before .before .before .before .before .before .before .before .before .before .before) .args .width) (prodOf ((c .before .before .before .before .before .before .before .before .before .before .before .before .before .before) .args .width) (dec ((c .before .before .before .before .before .before .before .before .before .before .before .before .before .before) .args .width) ((c .before .before .before .before .before .before .before .before .before .before .before .before .before .before) .args .p .now)) (popOf ((c .before .before .before .before .before .before .before .before .before .before .before .before .before .before) .args .width) 1 (dec ((c .before .before .before .before .before .before .before .before .before .before .before .before .before .before) .args .width) ((c .before .before .before .before .before .before .before .before .before .before .before .before .before .before) .args .s .now)))) (take ((c .before .before .before .before .before .mul-by-pop) .result) (drop 1 (set (putMid 1 (length ((c .before .before .before .before .before .before .before .before .before .before .before .before .before .before) .args .out .now) - 1) ((c .before .before .before .before .before .before .before .before .before .before .before .before .before .before) .args .out .now) ((c .before .before .before .before .before .mul-by-pop) .last .1 .1 .1 .0)) (1 + ((c .before .before .before .before .before .mul-by-pop) .result)) 0)))
-codes-a·mul-cross t c = stored-before 1 ((c .before .before .before .before .before .mul-by-pop) .result) (1 + ((c .before .before .before .before .before .mul-by-pop) .result)) 0 (putMid 1 (length ((c .before .before .before .before .before .before .before .before .before .before .before .before .before .before) .args .out .now) - 1) ((c .before .before .before .before .before .before .before .before .before .before .before .before .before .before) .args .out .now) ((c .before .before .before .before .before .mul-by-pop) .last .1 .1 .1 .0)) (omega arith) (made-codes 1 ((c .before .before .before .before .before .before .before .before .before .before .before .before .before .before) .args .out .now) ((c .before .before .before .before .before .mul-by-pop) .last .1 .1 .1 .0) ((c .before .before .before .before .before .mul-by-pop) .result) (omega (arith, ((c .before .before .before .before .before .before .before .before .before .before .before .before .before .before) .pre .1 .1) .tables)) ((c .before .before .before .before .before .mul-by-pop) .ensures) (fit-prod (((c .before .before .before .before .before .before .before .before .before .before .before .before .before .before) .pre .1 .1) .fit) .good))
+made·add-cross : (t : ℕ) (c : After-out·add-cross t) →
+    let s = c .before .before .before .before .before .before .before .before .before .before .before .before in
+    let b = c .before .before .before in
+    Codes (s .args .width) (crossOf (s .args .width) (s .args .i) (dec (s .args .width) (s .args .p .now)) (dec (s .args .width) (s .args .s .now)))
+    (take (b .mul-cross .result) (b .mul-cross .last .1 .1 .1 .1 .0))
+made·add-cross t c =
+    let s = c .before .before .before in
+    made-front (s .mul-cross .result) (s .mul-cross .last .1 .1 .1 .1 .0) (s .mul-cross .ensures)
+    (c .before .before .before .before .before .before .before .before .before .before .before .before .pre .1 .1 .1 .0 .held .good)
 
-codes-0·mul-cross : (t : ℕ) (c : mul-cross-lts.After-u (mul-by-pop-below t, mul-by-pop.Post, make-pow-reads.Asked, make-pow-reads.Learnt) (mul-cross-at t) mul-cross.Post) → Codes ((c .before .before .before .before .before .before .before .before .before .before .before .before .before .before) .args .width) (zeroOf ((c .before .before .before .before .before .before .before .before .before .before .before .before .before .before) .args .width)) (take 1 (drop (1 + ((c .before .before .before .before .before .mul-by-pop) .result)) (set (putMid 1 (length ((c .before .before .before .before .before .before .before .before .before .before .before .before .before .before) .args .out .now) - 1) ((c .before .before .before .before .before .before .before .before .before .before .before .before .before .before) .args .out .now) ((c .before .before .before .before .before .mul-by-pop) .last .1 .1 .1 .0)) (1 + ((c .before .before .before .before .before .mul-by-pop) .result)) 0)))
-codes-0·mul-cross t c = stored-zero ((c .before .before .before .before .before .before .before .before .before .before .before .before .before .before) .args .width) (1 + ((c .before .before .before .before .before .mul-by-pop) .result)) (putMid 1 (length ((c .before .before .before .before .before .before .before .before .before .before .before .before .before .before) .args .out .now) - 1) ((c .before .before .before .before .before .before .before .before .before .before .before .before .before .before) .args .out .now) ((c .before .before .before .before .before .mul-by-pop) .last .1 .1 .1 .0)) (a-size·mul-cross t c)
+sum-is·add-cross : (t : ℕ) (c : After-out·add-cross t) →
+    let s = c .before .before .before .before .before .before .before .before .before .before .before .before in
+    let b = c .before .before .before in
+    enc (s .args .width)
+    (sumOf (s .args .width) (dec (s .args .width) (take (s .args .a) (putMid (s .args .a) (length (s .args .out .now) - (s .args .a)) (s .args .out .now) (b .mul-cross .last .1 .1 .1 .1 .1 .0)))) (dec (s .args .width) (take (b .mul-cross .result) (b .mul-cross .last .1 .1 .1 .1 .0))))
+    ≡ enc (s .args .width)
+    (sumOf (s .args .width) (dec (s .args .width) (take (s .args .a) (s .args .out .now))) (crossOf (s .args .width) (s .args .i) (dec (s .args .width) (s .args .p .now)) (dec (s .args .width) (s .args .s .now))))
+sum-is·add-cross t c =
+    let s = c .before .before .before .before .before .before .before .before .before .before .before .before in
+    let b = c .before .before .before in
+    ap (λ h. enc (s .args .width) (sumOf (s .args .width) h (dec (s .args .width) (take (b .mul-cross .result) (b .mul-cross .last .1 .1 .1 .1 .0)))))
+    (dec-enc (kept·add-cross t c))
+    ∙ ap (λ h. enc (s .args .width) (sumOf (s .args .width) (dec (s .args .width) (take (s .args .a) (s .args .out .now))) h)) (dec-enc (made·add-cross t c))
 
-is-pop·mul-by-pop : (t : ℕ) (c : mul-by-pop-lts.Then2 (scale-reads.Asked, scale-reads.Learnt, mul-any-pop-below t, mul-any-pop.Post) (mul-by-pop-at t) mul-by-pop.Post) → IsPop ((c .before .before .before .before .before .before .before .before) .args .width) (dec ((c .before .before .before .before .before .before .before .before) .args .width) ((c .before .before .before .before .before .before .before .before) .args .s .now)) ((c .before .before .before .before .before .before .before .before) .args .s .now)
-is-pop·mul-by-pop t c = pop-view ((c .before .before .before .before .before .before .before .before) .pre .1 .0 .1) ((c .before .if1) .left) ((c .if2) .taken)
+abbrev After-u·mul-cross : ℕ → Type 0
+After-u·mul-cross t = mul-cross-lts.After-u (mul-by-pop-below t, mul-by-pop.Post, make-pow-reads.Asked, make-pow-reads.Learnt) (mul-cross-at t) mul-cross.Post
 
-inner·mul-by-pop : (t : ℕ) (c : mul-by-pop-lts.Then2 (scale-reads.Asked, scale-reads.Learnt, mul-any-pop-below t, mul-any-pop.Post) (mul-by-pop-at t) mul-by-pop.Post) → Codes ((c .before .before .before .before .before .before .before .before) .args .width) (is-pop·mul-by-pop t c .p) (take (length ((c .before .before .before .before .before .before .before .before) .args .s .now) - 1) (drop 1 ((c .before .before .before .before .before .before .before .before) .args .s .now)))
-inner·mul-by-pop t c = pop-part (is-pop·mul-by-pop t c)
+few-a·mul-cross : (t : ℕ) (c : After-u·mul-cross t) → (c .before .before .before .before .before .mul-by-pop .result) ≤ 3073
+few-a·mul-cross t c =
+    omega (arith, c .before .before .before .before .before .mul-by-pop .ensures .size, fit-prod (c .before .before .before .before .before .before .before .before .before .before .before .before .before .before .pre .1 .1 .fit) .words)
 
-is-pow·mul-by-pop : (t : ℕ) (c : mul-by-pop-lts.Else2 (scale-reads.Asked, scale-reads.Learnt, mul-any-pop-below t, mul-any-pop.Post) (mul-by-pop-at t) mul-by-pop.Post) → IsPow ((c .before .before .before .before .before .before .before .before) .args .width) (dec ((c .before .before .before .before .before .before .before .before) .args .width) ((c .before .before .before .before .before .before .before .before) .args .s .now)) ((c .before .before .before .before .before .before .before .before) .args .s .now)
-is-pow·mul-by-pop t c = pow-view ((c .before .before .before .before .before .before .before .before) .pre .1 .0 .1) ((c .before .if1) .left) ((c .if2) .left)
+a-size·mul-cross : (t : ℕ) (c : After-u·mul-cross t) →
+    let s = c .before .before .before .before .before in
+    (1 + (s .mul-by-pop .result)) < length
+    (one-put (c .before .before .before .before .before .before .before .before .before .before .before .before .before .before .args .out .now) (s .mul-by-pop .last .1 .1 .1 .0))
+a-size·mul-cross t c =
+    let s = c .before .before .before .before .before .before .before .before .before .before .before .before .before .before in
+    omega (arith, few-a·mul-cross t c, c .before .before .before .before .out .given .1, s .pre .1 .1 .tables, s .pre .1 .1 .pos)
 
-up-1·mul-by-pop : (t : ℕ) (c : mul-by-pop-lts.Then2 (scale-reads.Asked, scale-reads.Learnt, mul-any-pop-below t, mul-any-pop.Post) (mul-by-pop-at t) mul-by-pop.Post) → popOf ((c .before .before .before .before .before .before .before .before) .args .width) 1 (dec ((c .before .before .before .before .before .before .before .before) .args .width) ((c .before .before .before .before .before .before .before .before) .args .s .now)) ≡ pop (1 + (getD ((c .before .before .before .before .before .before .before .before) .args .s .now) 0 0) % 64) (dec ((c .before .before .before .before .before .before .before .before) .args .width) (take (length ((c .before .before .before .before .before .before .before .before) .args .s .now) - 1) (drop 1 ((c .before .before .before .before .before .before .before .before) .args .s .now))))
-up-1·mul-by-pop t c = up-pop (is-pop·mul-by-pop t c) (dec-enc (inner·mul-by-pop t c))
+codes-a·mul-cross : (t : ℕ) (c : After-u·mul-cross t) →
+    let s = c .before .before .before .before .before .before .before .before .before .before .before .before .before .before in
+    let b = c .before .before .before .before .before in
+    Codes (s .args .width)
+    (prodOf (s .args .width) (dec (s .args .width) (s .args .p .now)) (popOf (s .args .width) 1 (dec (s .args .width) (s .args .s .now))))
+    (take (b .mul-by-pop .result) (drop 1 (set (one-put (s .args .out .now) (b .mul-by-pop .last .1 .1 .1 .0)) (1 + (b .mul-by-pop .result)) 0)))
+codes-a·mul-cross t c =
+    let s = c .before .before .before .before .before .before .before .before .before .before .before .before .before .before in
+    let b = c .before .before .before .before .before in
+    stored-before 1 (b .mul-by-pop .result) (1 + (b .mul-by-pop .result)) 0 (one-put (s .args .out .now) (b .mul-by-pop .last .1 .1 .1 .0)) (omega arith)
+    (made-codes 1 (s .args .out .now) (b .mul-by-pop .last .1 .1 .1 .0) (b .mul-by-pop .result) (omega (arith, s .pre .1 .1 .tables)) (b .mul-by-pop .ensures) (fit-prod (s .pre .1 .1 .fit) .good))
 
-up-2·mul-by-pop : (t : ℕ) (c : mul-by-pop-lts.Else2 (scale-reads.Asked, scale-reads.Learnt, mul-any-pop-below t, mul-any-pop.Post) (mul-by-pop-at t) mul-by-pop.Post) → popOf ((c .before .before .before .before .before .before .before .before) .args .width) 1 (dec ((c .before .before .before .before .before .before .before .before) .args .width) ((c .before .before .before .before .before .before .before .before) .args .s .now)) ≡ pop 1 (dec ((c .before .before .before .before .before .before .before .before) .args .width) ((c .before .before .before .before .before .before .before .before) .args .s .now))
+codes-0·mul-cross : (t : ℕ) (c : After-u·mul-cross t) →
+    let s = c .before .before .before .before .before .before .before .before .before .before .before .before .before .before in
+    let b = c .before .before .before .before .before in
+    Codes (s .args .width) (zeroOf (s .args .width))
+    (take 1 (drop (1 + (b .mul-by-pop .result)) (set (one-put (s .args .out .now) (b .mul-by-pop .last .1 .1 .1 .0)) (1 + (b .mul-by-pop .result)) 0)))
+codes-0·mul-cross t c =
+    let s = c .before .before .before .before .before .before .before .before .before .before .before .before .before .before in
+    let b = c .before .before .before .before .before in
+    stored-zero (s .args .width) (1 + (b .mul-by-pop .result)) (one-put (s .args .out .now) (b .mul-by-pop .last .1 .1 .1 .0)) (a-size·mul-cross t c)
+
+abbrev Then2·mul-by-pop : ℕ → Type 0
+Then2·mul-by-pop t = mul-by-pop-lts.Then2 (scale-reads.Asked, scale-reads.Learnt, mul-any-pop-below t, mul-any-pop.Post) (mul-by-pop-at t) mul-by-pop.Post
+
+is-pop·mul-by-pop : (t : ℕ) (c : Then2·mul-by-pop t) →
+    let s = c .before .before .before .before .before .before .before .before in
+    PopAt (s .args .width) (s .args .s .now)
+is-pop·mul-by-pop t c = pop-at (c .before .before .before .before .before .before .before .before .pre .1 .0 .1) (c .before .if1 .left) (c .if2 .taken)
+
+abbrev Else2·mul-by-pop : ℕ → Type 0
+Else2·mul-by-pop t = mul-by-pop-lts.Else2 (scale-reads.Asked, scale-reads.Learnt, mul-any-pop-below t, mul-any-pop.Post) (mul-by-pop-at t) mul-by-pop.Post
+
+is-pow·mul-by-pop : (t : ℕ) (c : Else2·mul-by-pop t) →
+    let s = c .before .before .before .before .before .before .before .before in
+    PowAt (s .args .width) (s .args .s .now)
+is-pow·mul-by-pop t c = pow-at (c .before .before .before .before .before .before .before .before .pre .1 .0 .1) (c .before .if1 .left) (c .if2 .left)
+
+up-1·mul-by-pop : (t : ℕ) (c : Then2·mul-by-pop t) →
+    let s = c .before .before .before .before .before .before .before .before in
+    popOf (s .args .width) 1 (dec (s .args .width) (s .args .s .now)) ≡ pop (1 + (getD (s .args .s .now) 0 0) % 64)
+    (dec (s .args .width) (inner (s .args .s .now)))
+up-1·mul-by-pop t c = up-pop (is-pop·mul-by-pop t c)
+
+up-2·mul-by-pop : (t : ℕ) (c : Else2·mul-by-pop t) →
+    let s = c .before .before .before .before .before .before .before .before in
+    popOf (s .args .width) 1 (dec (s .args .width) (s .args .s .now)) ≡ pop 1 (dec (s .args .width) (s .args .s .now))
 up-2·mul-by-pop t c = up-pow (is-pow·mul-by-pop t c)
 
--- src/lib.rt:297:42
-add-cross-mul-mul-cross : (t : ℕ) → add-cross-lts.Need-mul-mul-cross (mul-cross-below t, mul-cross.Post, sum-back-reads.Asked, sum-back-reads.Learnt) (add-cross-at t) add-cross.Post
-add-cross-mul-mul-cross t c = omega (arith, ((c .before .before .before .before .before .before) .pre .1 .1 .0 .0))
-
--- src/lib.rt:297:42
-add-cross-sub-mul-cross : (t : ℕ) → add-cross-lts.Need-sub-mul-cross (mul-cross-below t, mul-cross.Post, sum-back-reads.Asked, sum-back-reads.Learnt) (add-cross-at t) add-cross.Post
-add-cross-sub-mul-cross t c = omega (arith, ((c .before .before .before .before .before .before) .pre .1 .1 .1 .0) .tables)
-
--- src/lib.rt:297:42
-add-cross-part-mul-cross-start : (t : ℕ) → add-cross-lts.Need-part-mul-cross-start (mul-cross-below t, mul-cross.Post, sum-back-reads.Asked, sum-back-reads.Learnt) (add-cross-at t) add-cross.Post
-add-cross-part-mul-cross-start t c = omega (arith, ((c .before .before .before .before .before .before) .pre .1 .1 .1 .0) .tables)
-
--- src/lib.rt:297:42
-add-cross-part-mul-cross-end : (t : ℕ) → add-cross-lts.Need-part-mul-cross-end (mul-cross-below t, mul-cross.Post, sum-back-reads.Asked, sum-back-reads.Learnt) (add-cross-at t) add-cross.Post
-add-cross-part-mul-cross-end t c = search needs
-
--- src/lib.rt:297:9
-add-cross-mul-cross-requires : (t : ℕ) → add-cross-lts.Need-mul-cross-requires (mul-cross-below t, mul-cross.Post, sum-back-reads.Asked, sum-back-reads.Learnt) (add-cross-at t) add-cross.Post
-add-cross-mul-cross-requires t c κs = (omega (arith, ((c .before .before .before .before .before .before .before .before) .pre .0)), (((c .before .before .before .before .before .before .before .before) .pre .1 .0), cross-at refl (sym (length-tail-part ((c .before .before .before .before .before .before .before .before) .args .a) ((c .before .before .before .before .before .before .before .before) .args .out .now))) refl ((c .before .before .before .before .before .before .before .before) .pre .1 .1 .1 .0)))
-
--- src/lib.rt:298:29
-add-cross-slice-reshare-prefix-sum-back : (t : ℕ) → add-cross-lts.Need-slice-reshare-prefix-sum-back (mul-cross-below t, mul-cross.Post, sum-back-reads.Asked, sum-back-reads.Learnt) (add-cross-at t) add-cross.Post
-add-cross-slice-reshare-prefix-sum-back t c = begins-le ((c .before .before .before .before .before .before .before .mul-cross) .ensures)
-
--- src/lib.rt:298:29
-add-cross-slice-aggregate-sum-back : (t : ℕ) → add-cross-lts.Need-slice-aggregate-sum-back (mul-cross-below t, mul-cross.Post, sum-back-reads.Asked, sum-back-reads.Learnt) (add-cross-at t) add-cross.Post
-add-cross-slice-aggregate-sum-back t c = sym (length-take-le ((c .before .before .before .before .before .before .before .before .mul-cross) .result) ((c .before .before .before .before .before .before .before .before .mul-cross) .last .1 .1 .1 .1 .0) (begins-le ((c .before .before .before .before .before .before .before .before .mul-cross) .ensures)))
-
--- src/lib.rt:298:5
-add-cross-sum-back-requires : (t : ℕ) → add-cross-lts.Need-sum-back-requires (mul-cross-below t, mul-cross.Post, sum-back-reads.Asked, sum-back-reads.Learnt) (add-cross-at t) add-cross.Post
-add-cross-sum-back-requires t c κs = (
-  omega (arith, (c .before .before .before .before .before .before .out) .given .1, ((c .before .before .before .before .before .before .before .before .before .before .before .before .before .before .before .before .before .before) .pre .1 .1 .1 .0) .tables),
-  (
-    (coded (kept·add-cross t (c .before .before .before .before .before .before)), coded (made·add-cross t (c .before .before .before .before .before .before))),
-    (
-      omega (arith, ap length (sum-is·add-cross t (c .before .before .before .before .before .before)), ((c .before .before .before .before .before .before .before .before .before .before .before .before .before .before .before .before .before .before) .pre .1 .1 .1 .1) .words, (c .before .before .before .before .before .before .out) .given .1, ((c .before .before .before .before .before .before .before .before .before .before .before .before .before .before .before .before .before .before) .pre .1 .1 .1 .0) .tables),
-      omega (arith, length-take-le ((c .before .before .before .before .before .before .before .before .before .mul-cross) .result) ((c .before .before .before .before .before .before .before .before .before .mul-cross) .last .1 .1 .1 .1 .0) (begins-le ((c .before .before .before .before .before .before .before .before .before .mul-cross) .ensures)), (c .before .before .before .before .before .before .before .before .before .mul-cross) .ensures .size, ((c .before .before .before .before .before .before .before .before .before .before .before .before .before .before .before .before .before .before) .pre .1 .1 .1 .0) .held .words, ((c .before .before .before .before .before .before .before .before .before .before .before .before .before .before .before .before .before .before) .pre .1 .1 .0 .0), (c .before .before .before .before .before .before .before .before .before .mul-cross) .kept .1 .1 .1 .1 .1 .1 .0, ((c .before .before .before .before .before .before .before .before .before .before .before .before .before .before .before .before .before .before) .pre .1 .1 .1 .0) .tables),
-    ),
-  ),
-)
-
--- src/lib.rt:281:1
-add-cross-same-length : (t : ℕ) → add-cross-lts.Need-same-length (mul-cross-below t, mul-cross.Post, sum-back-reads.Asked, sum-back-reads.Learnt) (add-cross-at t) add-cross.Post
-add-cross-same-length t c = search needs
-
--- src/lib.rt:281:1
-add-cross-same-length-2 : (t : ℕ) → add-cross-lts.Need-same-length-2 (mul-cross-below t, mul-cross.Post, sum-back-reads.Asked, sum-back-reads.Learnt) (add-cross-at t) add-cross.Post
-add-cross-same-length-2 t c = search needs
-
--- src/lib.rt:281:1
-add-cross-same-length-3 : (t : ℕ) → add-cross-lts.Need-same-length-3 (mul-cross-below t, mul-cross.Post, sum-back-reads.Asked, sum-back-reads.Learnt) (add-cross-at t) add-cross.Post
-add-cross-same-length-3 t c = search needs
-
--- src/lib.rt:281:1
-add-cross-returns : (t : ℕ) → add-cross-lts.Need-returns (mul-cross-below t, mul-cross.Post, sum-back-reads.Asked, sum-back-reads.Learnt) (add-cross-at t) add-cross.Post
-add-cross-returns t c = begins-as ((c .before .before .before .before .sum-back) .ensures) (sum-is·add-cross t (c .before .before .before .before .before .before .before .before .before .before .before))
-
--- src/lib.rt:101:13
-mul-any-pop-shared-slice-read-w : (t : ℕ) → mul-any-pop-lts.Need-shared-slice-read-w (scale-pop-reads.Asked, scale-pop-reads.Learnt, mul-pops-below t, mul-pops.Post, mul-pop-pow-below t, mul-pop-pow.Post) (mul-any-pop-at t) mul-any-pop.Post
-mul-any-pop-shared-slice-read-w t c = omega (arith, some ((c .before .before .before .before .before .before) .pre .1 .0 .0))
-
--- src/lib.rt:103:9
-mul-any-pop-scale-pop-requires : (t : ℕ) → mul-any-pop-lts.Need-scale-pop-requires (scale-pop-reads.Asked, scale-pop-reads.Learnt, mul-pops-below t, mul-pops.Post, mul-pop-pow-below t, mul-pop-pow.Post) (mul-any-pop-at t) mul-any-pop.Post
-mul-any-pop-scale-pop-requires t c κs =
-    ((int-view ((c .before .before .before .before .before .before .before .before) .pre .1 .0 .0) ((c .before .if1) .taken)) .below, (((c .before .before .before .before .before .before .before .before) .pre .1 .0 .1), (fit-y (((c .before .before .before .before .before .before .before .before) .pre .1 .1) .fit) .good, omega (arith, ((c .before .before .before .before .before .before .before .before) .pre .1 .1) .tables, codes-length ((c .before .before .before .before .before .before .before .before) .pre .1 .0 .1), fit-pop-words ((c .before .before .before .before .before .before .before .before) .args .i) (dec ((c .before .before .before .before .before .before .before .before) .args .width) ((c .before .before .before .before .before .before .before .before) .args .p .now)) (fit-sym (((c .before .before .before .before .before .before .before .before) .pre .1 .1) .fit))))))
-
--- src/lib.rt:103:9
-mul-any-pop-same-length : (t : ℕ) → mul-any-pop-lts.Need-same-length (scale-pop-reads.Asked, scale-pop-reads.Learnt, mul-pops-below t, mul-pops.Post, mul-pop-pow-below t, mul-pop-pow.Post) (mul-any-pop-at t) mul-any-pop.Post
-mul-any-pop-same-length t c = search needs
-
--- src/lib.rt:103:9
-mul-any-pop-returns : (t : ℕ) → mul-any-pop-lts.Need-returns (scale-pop-reads.Asked, scale-pop-reads.Learnt, mul-pops-below t, mul-pops.Post, mul-pop-pow-below t, mul-pop-pow.Post) (mul-any-pop-at t) mul-any-pop.Post
-mul-any-pop-returns t c = begins-as ((c .before .before .scale-pop) .ensures) (int-times (int-view ((c .before .before .before .before .before .before .before .before .before .before .before) .pre .1 .0 .0) ((c .before .before .before .before .if1) .taken)) (pop ((c .before .before .before .before .before .before .before .before .before .before .before) .args .i) (dec ((c .before .before .before .before .before .before .before .before .before .before .before) .args .width) ((c .before .before .before .before .before .before .before .before .before .before .before) .args .p .now))))
-
--- src/lib.rt:105:13
-mul-any-pop-cast-k : (t : ℕ) → mul-any-pop-lts.Need-cast-k (scale-pop-reads.Asked, scale-pop-reads.Learnt, mul-pops-below t, mul-pops.Post, mul-pop-pow-below t, mul-pop-pow.Post) (mul-any-pop-at t) mul-any-pop.Post
-mul-any-pop-cast-k t c = omega (arith, (c .before .shared-slice-known3) .given 0)
-
--- src/lib.rt:107:40
-mul-any-pop-sub-mul-pops : (t : ℕ) → mul-any-pop-lts.Need-sub-mul-pops (scale-pop-reads.Asked, scale-pop-reads.Learnt, mul-pops-below t, mul-pops.Post, mul-pop-pow-below t, mul-pop-pow.Post) (mul-any-pop-at t) mul-any-pop.Post
-mul-any-pop-sub-mul-pops t c = omega (arith, is-pop·mul-any-pop t c)
-
--- src/lib.rt:107:40
-mul-any-pop-part-mul-pops-start : (t : ℕ) → mul-any-pop-lts.Need-part-mul-pops-start (scale-pop-reads.Asked, scale-pop-reads.Learnt, mul-pops-below t, mul-pops.Post, mul-pop-pow-below t, mul-pop-pow.Post) (mul-any-pop-at t) mul-any-pop.Post
-mul-any-pop-part-mul-pops-start t c = omega (arith, is-pop·mul-any-pop t c)
-
--- src/lib.rt:107:40
-mul-any-pop-part-mul-pops-end : (t : ℕ) → mul-any-pop-lts.Need-part-mul-pops-end (scale-pop-reads.Asked, scale-pop-reads.Learnt, mul-pops-below t, mul-pops.Post, mul-pop-pow-below t, mul-pop-pow.Post) (mul-any-pop-at t) mul-any-pop.Post
-mul-any-pop-part-mul-pops-end t c = search needs
-
--- src/lib.rt:107:9
-mul-any-pop-mul-pops-requires : (t : ℕ) → mul-any-pop-lts.Need-mul-pops-requires (scale-pop-reads.Asked, scale-pop-reads.Learnt, mul-pops-below t, mul-pops.Post, mul-pop-pow-below t, mul-pop-pow.Post) (mul-any-pop-at t) mul-any-pop.Post
-mul-any-pop-mul-pops-requires t c κs = (
-  omega (arith, codes-length (inner·mul-any-pop t (c .before .before .before .before)), is-pop·mul-any-pop t (c .before .before .before .before), ((c .before .before .before .before .before .before .before .before .before .before .before .before) .pre .0)),
-  ((coded (inner·mul-any-pop t (c .before .before .before .before)), ((c .before .before .before .before .before .before .before .before .before .before .before .before) .pre .1 .0 .1)), subst (λ h. PopSpace ((c .before .before .before .before .before .before .before .before .before .before .before .before) .args .width) h (pop ((c .before .before .before .before .before .before .before .before .before .before .before .before) .args .i) (dec ((c .before .before .before .before .before .before .before .before .before .before .before .before) .args .width) ((c .before .before .before .before .before .before .before .before .before .before .before .before) .args .p .now))) (length ((c .before .before .before .before .before .before .before .before .before .before .before .before) .args .out .now)) (length ((c .before .before .before .before .before .before .before .before .before .before .before .before) .args .t .now)) (length ((c .before .before .before .before .before .before .before .before .before .before .before .before) .args .u .now))) (sym (pop-is (is-pop·mul-any-pop t (c .before .before .before .before)) _ (dec-enc (inner·mul-any-pop t (c .before .before .before .before))))) ((c .before .before .before .before .before .before .before .before .before .before .before .before) .pre .1 .1)),
-)
-
--- src/lib.rt:107:9
-mul-any-pop-same-length-2 : (t : ℕ) → mul-any-pop-lts.Need-same-length-2 (scale-pop-reads.Asked, scale-pop-reads.Learnt, mul-pops-below t, mul-pops.Post, mul-pop-pow-below t, mul-pop-pow.Post) (mul-any-pop-at t) mul-any-pop.Post
-mul-any-pop-same-length-2 t c = search needs
-
--- src/lib.rt:107:9
-mul-any-pop-same-length-3 : (t : ℕ) → mul-any-pop-lts.Need-same-length-3 (scale-pop-reads.Asked, scale-pop-reads.Learnt, mul-pops-below t, mul-pops.Post, mul-pop-pow-below t, mul-pop-pow.Post) (mul-any-pop-at t) mul-any-pop.Post
-mul-any-pop-same-length-3 t c = search needs
-
--- src/lib.rt:107:9
-mul-any-pop-same-length-4 : (t : ℕ) → mul-any-pop-lts.Need-same-length-4 (scale-pop-reads.Asked, scale-pop-reads.Learnt, mul-pops-below t, mul-pops.Post, mul-pop-pow-below t, mul-pop-pow.Post) (mul-any-pop-at t) mul-any-pop.Post
-mul-any-pop-same-length-4 t c = search needs
-
--- src/lib.rt:107:9
-mul-any-pop-returns-2 : (t : ℕ) → mul-any-pop-lts.Need-returns-2 (scale-pop-reads.Asked, scale-pop-reads.Learnt, mul-pops-below t, mul-pops.Post, mul-pop-pow-below t, mul-pop-pow.Post) (mul-any-pop-at t) mul-any-pop.Post
-mul-any-pop-returns-2 t c = begins-as ((c .before .before .before .before .before .before .mul-pops) .ensures) (ap (λ h. enc ((c .before .before .before .before .before .before .before .before .before .before .before .before .before .before .before .before .before .before .before) .args .width) (prodOf ((c .before .before .before .before .before .before .before .before .before .before .before .before .before .before .before .before .before .before .before) .args .width) h (pop ((c .before .before .before .before .before .before .before .before .before .before .before .before .before .before .before .before .before .before .before) .args .i) (dec ((c .before .before .before .before .before .before .before .before .before .before .before .before .before .before .before .before .before .before .before) .args .width) ((c .before .before .before .before .before .before .before .before .before .before .before .before .before .before .before .before .before .before .before) .args .p .now))))) (pop-is (is-pop·mul-any-pop t (c .before .before .before .before .before .before .before .before .before .before .before)) _ (dec-enc (inner·mul-any-pop t (c .before .before .before .before .before .before .before .before .before .before .before)))))
-
--- src/lib.rt:109:5
-mul-any-pop-mul-pop-pow-requires : (t : ℕ) → mul-any-pop-lts.Need-mul-pop-pow-requires (scale-pop-reads.Asked, scale-pop-reads.Learnt, mul-pops-below t, mul-pops.Post, mul-pop-pow-below t, mul-pop-pow.Post) (mul-any-pop-at t) mul-any-pop.Post
-mul-any-pop-mul-pop-pow-requires t c κs = (omega (arith, ((c .before .before .before .before .before .before .before .before .before .before .before) .pre .0)), ((((c .before .before .before .before .before .before .before .before .before .before .before) .pre .1 .0 .1), ((c .before .before .before .before .before .before .before .before .before .before .before) .pre .1 .0 .0)), (pop-space-sym ((c .before .before .before .before .before .before .before .before .before .before .before) .pre .1 .1), record { node = (c .before .before .before .before .if1) .left; sized = (c .before .before .before .if2) .left })))
-
--- src/lib.rt:88:1
-mul-any-pop-same-length-5 : (t : ℕ) → mul-any-pop-lts.Need-same-length-5 (scale-pop-reads.Asked, scale-pop-reads.Learnt, mul-pops-below t, mul-pops.Post, mul-pop-pow-below t, mul-pop-pow.Post) (mul-any-pop-at t) mul-any-pop.Post
-mul-any-pop-same-length-5 t c = search needs
-
--- src/lib.rt:88:1
-mul-any-pop-same-length-6 : (t : ℕ) → mul-any-pop-lts.Need-same-length-6 (scale-pop-reads.Asked, scale-pop-reads.Learnt, mul-pops-below t, mul-pops.Post, mul-pop-pow-below t, mul-pop-pow.Post) (mul-any-pop-at t) mul-any-pop.Post
-mul-any-pop-same-length-6 t c = search needs
-
--- src/lib.rt:88:1
-mul-any-pop-same-length-7 : (t : ℕ) → mul-any-pop-lts.Need-same-length-7 (scale-pop-reads.Asked, scale-pop-reads.Learnt, mul-pops-below t, mul-pops.Post, mul-pop-pow-below t, mul-pop-pow.Post) (mul-any-pop-at t) mul-any-pop.Post
-mul-any-pop-same-length-7 t c = search needs
-
--- src/lib.rt:88:1
-mul-any-pop-returns-3 : (t : ℕ) → mul-any-pop-lts.Need-returns-3 (scale-pop-reads.Asked, scale-pop-reads.Learnt, mul-pops-below t, mul-pops.Post, mul-pop-pow-below t, mul-pop-pow.Post) (mul-any-pop-at t) mul-any-pop.Post
-mul-any-pop-returns-3 t c = begins-as ((c .before .before .before .before .before .before .mul-pop-pow) .ensures) (ap (enc ((c .before .before .before .before .before .before .before .before .before .before .before .before .before .before .before .before .before .before) .args .width)) (times-swap (is-pow·mul-any-pop t (c .before .before .before .before .before .before .before .before .before .before)) ((c .before .before .before .before .before .before .before .before .before .before .before .before .before .before .before .before .before .before) .args .i) (dec ((c .before .before .before .before .before .before .before .before .before .before .before .before .before .before .before .before .before .before) .args .width) ((c .before .before .before .before .before .before .before .before .before .before .before .before .before .before .before .before .before .before) .args .p .now)) (good-pop ((c .before .before .before .before .before .before .before .before .before .before .before .before .before .before .before .before .before .before) .args .width) ((c .before .before .before .before .before .before .before .before .before .before .before .before .before .before .before .before .before .before) .args .i) (dec ((c .before .before .before .before .before .before .before .before .before .before .before .before .before .before .before .before .before .before) .args .width) ((c .before .before .before .before .before .before .before .before .before .before .before .before .before .before .before .before .before .before) .args .p .now)) (fit-y (((c .before .before .before .before .before .before .before .before .before .before .before .before .before .before .before .before .before .before) .pre .1 .1) .fit) .good) .0)))
-
--- src/lib.rt:334:13
-mul-by-pop-shared-slice-read-w : (t : ℕ) → mul-by-pop-lts.Need-shared-slice-read-w (scale-reads.Asked, scale-reads.Learnt, mul-any-pop-below t, mul-any-pop.Post) (mul-by-pop-at t) mul-by-pop.Post
-mul-by-pop-shared-slice-read-w t c = omega (arith, some ((c .before .before .before .before .before .before) .pre .1 .0 .1))
-
--- src/lib.rt:336:9
-mul-by-pop-scale-requires : (t : ℕ) → mul-by-pop-lts.Need-scale-requires (scale-reads.Asked, scale-reads.Learnt, mul-any-pop-below t, mul-any-pop.Post) (mul-by-pop-at t) mul-by-pop.Post
-mul-by-pop-scale-requires t c κs = ((int-view ((c .before .before .before .before .before .before .before .before) .pre .1 .0 .1) ((c .before .if1) .taken)) .below, (((c .before .before .before .before .before .before .before .before) .pre .1 .0 .0), omega (arith, ((c .before .before .before .before .before .before .before .before) .pre .1 .1) .tables, codes-length ((c .before .before .before .before .before .before .before .before) .pre .1 .0 .0), fit-x (((c .before .before .before .before .before .before .before .before) .pre .1 .1) .fit) .words)))
-
--- src/lib.rt:336:9
-mul-by-pop-same-length : (t : ℕ) → mul-by-pop-lts.Need-same-length (scale-reads.Asked, scale-reads.Learnt, mul-any-pop-below t, mul-any-pop.Post) (mul-by-pop-at t) mul-by-pop.Post
-mul-by-pop-same-length t c = search needs
-
--- src/lib.rt:336:9
-mul-by-pop-returns : (t : ℕ) → mul-by-pop-lts.Need-returns (scale-reads.Asked, scale-reads.Learnt, mul-any-pop-below t, mul-any-pop.Post) (mul-by-pop-at t) mul-by-pop.Post
-mul-by-pop-returns t c = begins-as ((c .before .before .scale) .ensures) (times-int (int-view ((c .before .before .before .before .before .before .before .before .before .before .before) .pre .1 .0 .1) ((c .before .before .before .before .if1) .taken)) (dec ((c .before .before .before .before .before .before .before .before .before .before .before) .args .width) ((c .before .before .before .before .before .before .before .before .before .before .before) .args .p .now)) ∙ ap (λ h. enc ((c .before .before .before .before .before .before .before .before .before .before .before) .args .width) (prodOf ((c .before .before .before .before .before .before .before .before .before .before .before) .args .width) (dec ((c .before .before .before .before .before .before .before .before .before .before .before) .args .width) ((c .before .before .before .before .before .before .before .before .before .before .before) .args .p .now)) h)) (sym (up-int (int-view ((c .before .before .before .before .before .before .before .before .before .before .before) .pre .1 .0 .1) ((c .before .before .before .before .if1) .taken)))))
-
--- src/lib.rt:338:13
-mul-by-pop-cast-k : (t : ℕ) → mul-by-pop-lts.Need-cast-k (scale-reads.Asked, scale-reads.Learnt, mul-any-pop-below t, mul-any-pop.Post) (mul-by-pop-at t) mul-by-pop.Post
-mul-by-pop-cast-k t c = omega (arith, (c .before .shared-slice-known3) .given 0)
-
--- src/lib.rt:340:38
-mul-by-pop-add-mul-any-pop : (t : ℕ) → mul-by-pop-lts.Need-add-mul-any-pop (scale-reads.Asked, scale-reads.Learnt, mul-any-pop-below t, mul-any-pop.Post) (mul-by-pop-at t) mul-by-pop.Post
-mul-by-pop-add-mul-any-pop t c = omega arith
-
--- src/lib.rt:340:50
-mul-by-pop-sub-mul-any-pop : (t : ℕ) → mul-by-pop-lts.Need-sub-mul-any-pop (scale-reads.Asked, scale-reads.Learnt, mul-any-pop-below t, mul-any-pop.Post) (mul-by-pop-at t) mul-by-pop.Post
-mul-by-pop-sub-mul-any-pop t c = omega (arith, is-pop·mul-by-pop t c)
-
--- src/lib.rt:340:50
-mul-by-pop-part-mul-any-pop-start : (t : ℕ) → mul-by-pop-lts.Need-part-mul-any-pop-start (scale-reads.Asked, scale-reads.Learnt, mul-any-pop-below t, mul-any-pop.Post) (mul-by-pop-at t) mul-by-pop.Post
-mul-by-pop-part-mul-any-pop-start t c = omega (arith, is-pop·mul-by-pop t c)
-
--- src/lib.rt:340:50
-mul-by-pop-part-mul-any-pop-end : (t : ℕ) → mul-by-pop-lts.Need-part-mul-any-pop-end (scale-reads.Asked, scale-reads.Learnt, mul-any-pop-below t, mul-any-pop.Post) (mul-by-pop-at t) mul-by-pop.Post
-mul-by-pop-part-mul-any-pop-end t c = search needs
-
--- src/lib.rt:340:9
-mul-by-pop-mul-any-pop-requires : (t : ℕ) → mul-by-pop-lts.Need-mul-any-pop-requires (scale-reads.Asked, scale-reads.Learnt, mul-any-pop-below t, mul-any-pop.Post) (mul-by-pop-at t) mul-by-pop.Post
-mul-by-pop-mul-any-pop-requires t c κs = (
-  omega (arith, codes-length (inner·mul-by-pop t (c .before .before .before .before)), is-pop·mul-by-pop t (c .before .before .before .before), ((c .before .before .before .before .before .before .before .before .before .before .before .before) .pre .0)),
-  ((((c .before .before .before .before .before .before .before .before .before .before .before .before) .pre .1 .0 .0), coded (inner·mul-by-pop t (c .before .before .before .before))), subst (λ h. PopSpace ((c .before .before .before .before .before .before .before .before .before .before .before .before) .args .width) (dec ((c .before .before .before .before .before .before .before .before .before .before .before .before) .args .width) ((c .before .before .before .before .before .before .before .before .before .before .before .before) .args .p .now)) h (length ((c .before .before .before .before .before .before .before .before .before .before .before .before) .args .out .now)) (length ((c .before .before .before .before .before .before .before .before .before .before .before .before) .args .t .now)) (length ((c .before .before .before .before .before .before .before .before .before .before .before .before) .args .u .now))) (up-1·mul-by-pop t (c .before .before .before .before)) ((c .before .before .before .before .before .before .before .before .before .before .before .before) .pre .1 .1)),
-)
-
--- src/lib.rt:340:9
-mul-by-pop-same-length-2 : (t : ℕ) → mul-by-pop-lts.Need-same-length-2 (scale-reads.Asked, scale-reads.Learnt, mul-any-pop-below t, mul-any-pop.Post) (mul-by-pop-at t) mul-by-pop.Post
-mul-by-pop-same-length-2 t c = search needs
-
--- src/lib.rt:340:9
-mul-by-pop-same-length-3 : (t : ℕ) → mul-by-pop-lts.Need-same-length-3 (scale-reads.Asked, scale-reads.Learnt, mul-any-pop-below t, mul-any-pop.Post) (mul-by-pop-at t) mul-by-pop.Post
-mul-by-pop-same-length-3 t c = search needs
-
--- src/lib.rt:340:9
-mul-by-pop-same-length-4 : (t : ℕ) → mul-by-pop-lts.Need-same-length-4 (scale-reads.Asked, scale-reads.Learnt, mul-any-pop-below t, mul-any-pop.Post) (mul-by-pop-at t) mul-by-pop.Post
-mul-by-pop-same-length-4 t c = search needs
-
--- src/lib.rt:340:9
-mul-by-pop-returns-2 : (t : ℕ) → mul-by-pop-lts.Need-returns-2 (scale-reads.Asked, scale-reads.Learnt, mul-any-pop-below t, mul-any-pop.Post) (mul-by-pop-at t) mul-by-pop.Post
-mul-by-pop-returns-2 t c = begins-as ((c .before .before .before .before .before .before .mul-any-pop) .ensures) (ap (λ h. enc ((c .before .before .before .before .before .before .before .before .before .before .before .before .before .before .before .before .before .before .before) .args .width) (prodOf ((c .before .before .before .before .before .before .before .before .before .before .before .before .before .before .before .before .before .before .before) .args .width) (dec ((c .before .before .before .before .before .before .before .before .before .before .before .before .before .before .before .before .before .before .before) .args .width) ((c .before .before .before .before .before .before .before .before .before .before .before .before .before .before .before .before .before .before .before) .args .p .now)) h)) (sym (up-1·mul-by-pop t (c .before .before .before .before .before .before .before .before .before .before .before))))
-
--- src/lib.rt:342:5
-mul-by-pop-mul-any-pop-requires-2 : (t : ℕ) → mul-by-pop-lts.Need-mul-any-pop-requires-2 (scale-reads.Asked, scale-reads.Learnt, mul-any-pop-below t, mul-any-pop.Post) (mul-by-pop-at t) mul-by-pop.Post
-mul-by-pop-mul-any-pop-requires-2 t c κs = (omega (arith, ((c .before .before .before .before .before .before .before .before .before .before .before) .pre .0)), ((((c .before .before .before .before .before .before .before .before .before .before .before) .pre .1 .0 .0), ((c .before .before .before .before .before .before .before .before .before .before .before) .pre .1 .0 .1)), subst (λ h. PopSpace ((c .before .before .before .before .before .before .before .before .before .before .before) .args .width) (dec ((c .before .before .before .before .before .before .before .before .before .before .before) .args .width) ((c .before .before .before .before .before .before .before .before .before .before .before) .args .p .now)) h (length ((c .before .before .before .before .before .before .before .before .before .before .before) .args .out .now)) (length ((c .before .before .before .before .before .before .before .before .before .before .before) .args .t .now)) (length ((c .before .before .before .before .before .before .before .before .before .before .before) .args .u .now))) (up-2·mul-by-pop t (c .before .before .before)) ((c .before .before .before .before .before .before .before .before .before .before .before) .pre .1 .1)))
-
--- src/lib.rt:322:1
-mul-by-pop-same-length-5 : (t : ℕ) → mul-by-pop-lts.Need-same-length-5 (scale-reads.Asked, scale-reads.Learnt, mul-any-pop-below t, mul-any-pop.Post) (mul-by-pop-at t) mul-by-pop.Post
-mul-by-pop-same-length-5 t c = search needs
-
--- src/lib.rt:322:1
-mul-by-pop-same-length-6 : (t : ℕ) → mul-by-pop-lts.Need-same-length-6 (scale-reads.Asked, scale-reads.Learnt, mul-any-pop-below t, mul-any-pop.Post) (mul-by-pop-at t) mul-by-pop.Post
-mul-by-pop-same-length-6 t c = search needs
-
--- src/lib.rt:322:1
-mul-by-pop-same-length-7 : (t : ℕ) → mul-by-pop-lts.Need-same-length-7 (scale-reads.Asked, scale-reads.Learnt, mul-any-pop-below t, mul-any-pop.Post) (mul-by-pop-at t) mul-by-pop.Post
-mul-by-pop-same-length-7 t c = search needs
-
--- src/lib.rt:322:1
-mul-by-pop-returns-3 : (t : ℕ) → mul-by-pop-lts.Need-returns-3 (scale-reads.Asked, scale-reads.Learnt, mul-any-pop-below t, mul-any-pop.Post) (mul-by-pop-at t) mul-by-pop.Post
-mul-by-pop-returns-3 t c = begins-as ((c .before .before .before .before .before .before .mul-any-pop2) .ensures) (ap (λ h. enc ((c .before .before .before .before .before .before .before .before .before .before .before .before .before .before .before .before .before .before) .args .width) (prodOf ((c .before .before .before .before .before .before .before .before .before .before .before .before .before .before .before .before .before .before) .args .width) (dec ((c .before .before .before .before .before .before .before .before .before .before .before .before .before .before .before .before .before .before) .args .width) ((c .before .before .before .before .before .before .before .before .before .before .before .before .before .before .before .before .before .before) .args .p .now)) h)) (sym (up-2·mul-by-pop t (c .before .before .before .before .before .before .before .before .before .before))))
-
--- src/lib.rt:315:37
-mul-cross-sub-mul-by-pop : (t : ℕ) → mul-cross-lts.Need-sub-mul-by-pop (mul-by-pop-below t, mul-by-pop.Post, make-pow-reads.Asked, make-pow-reads.Learnt) (mul-cross-at t) mul-cross.Post
-mul-cross-sub-mul-by-pop t c = omega (arith, ((c .before .before .before .before .before) .pre .1 .1) .tables)
-
--- src/lib.rt:315:37
-mul-cross-part-mul-by-pop-start : (t : ℕ) → mul-cross-lts.Need-part-mul-by-pop-start (mul-by-pop-below t, mul-by-pop.Post, make-pow-reads.Asked, make-pow-reads.Learnt) (mul-cross-at t) mul-cross.Post
-mul-cross-part-mul-by-pop-start t c = omega (arith, ((c .before .before .before .before .before) .pre .1 .1) .tables)
-
--- src/lib.rt:315:37
-mul-cross-part-mul-by-pop-end : (t : ℕ) → mul-cross-lts.Need-part-mul-by-pop-end (mul-by-pop-below t, mul-by-pop.Post, make-pow-reads.Asked, make-pow-reads.Learnt) (mul-cross-at t) mul-cross.Post
-mul-cross-part-mul-by-pop-end t c = search needs
-
--- src/lib.rt:315:9
-mul-cross-mul-by-pop-requires : (t : ℕ) → mul-cross-lts.Need-mul-by-pop-requires (mul-by-pop-below t, mul-by-pop.Post, make-pow-reads.Asked, make-pow-reads.Learnt) (mul-cross-at t) mul-cross.Post
-mul-cross-mul-by-pop-requires t c κs = (omega (arith, ((c .before .before .before .before .before .before .before .before) .pre .0)), (((c .before .before .before .before .before .before .before .before) .pre .1 .0), pop-space-at (sym (length-tail-part 1 ((c .before .before .before .before .before .before .before .before) .args .out .now))) refl refl (cross-pop ((c .before .before .before .before .before .before .before .before) .pre .1 .1))))
-
--- src/lib.rt:316:13
-mul-cross-add-f : (t : ℕ) → mul-cross-lts.Need-add-f (mul-by-pop-below t, mul-by-pop.Post, make-pow-reads.Asked, make-pow-reads.Learnt) (mul-cross-at t) mul-cross.Post
-mul-cross-add-f t c = omega (arith, few-a·mul-cross t (c .before))
-
--- src/lib.rt:317:5
-mul-cross-mul-out : (t : ℕ) → mul-cross-lts.Need-mul-out (mul-by-pop-below t, mul-by-pop.Post, make-pow-reads.Asked, make-pow-reads.Learnt) (mul-cross-at t) mul-cross.Post
-mul-cross-mul-out t c = omega (arith, few-a·mul-cross t (c .before))
-
--- src/lib.rt:317:5
-mul-cross-slice-write-out : (t : ℕ) → mul-cross-lts.Need-slice-write-out (mul-by-pop-below t, mul-by-pop.Post, make-pow-reads.Asked, make-pow-reads.Learnt) (mul-cross-at t) mul-cross.Post
-mul-cross-slice-write-out t c = a-size·mul-cross t (c .before)
-
--- src/lib.rt:318:5
-mul-cross-make-pow-requires : (t : ℕ) → mul-cross-lts.Need-make-pow-requires (mul-by-pop-below t, mul-by-pop.Post, make-pow-reads.Asked, make-pow-reads.Learnt) (mul-cross-at t) mul-cross.Post
-mul-cross-make-pow-requires t c κs = (
-  (simp length-set (omega (arith, a-size·mul-cross t (c .before .before))), simp length-set (omega (arith, ((c .before .before .before .before .before .before .before .before .before .before .before .before .before .before .before .before) .pre .1 .1) .tables, (c .before .before .before .before .before .before .out) .given .1))),
-  ((coded (codes-a·mul-cross t (c .before .before)), coded (codes-0·mul-cross t (c .before .before))), (((c .before .before .before .before .before .before .before .before .before .before .before .before .before .before .before .before) .pre .1 .1) .pos-i, mkpow-good (codes-a·mul-cross t (c .before .before)) (codes-0·mul-cross t (c .before .before)) ((c .before .before .before .before .before .before .before .before .before .before .before .before .before .before .before .before) .args .i) (((c .before .before .before .before .before .before .before .before .before .before .before .before .before .before .before .before) .pre .1 .1) .held .good))),
-)
-
--- src/lib.rt:302:1
-mul-cross-same-length : (t : ℕ) → mul-cross-lts.Need-same-length (mul-by-pop-below t, mul-by-pop.Post, make-pow-reads.Asked, make-pow-reads.Learnt) (mul-cross-at t) mul-cross.Post
-mul-cross-same-length t c = (c .before .before .make-pow) .kept .1 .0 ∙ length-set (putMid 1 (length ((c .before .before .before .before .before .before .before .before .before .before .before .before .before .before .before .before .before .before .before) .args .out .now) - 1) ((c .before .before .before .before .before .before .before .before .before .before .before .before .before .before .before .before .before .before .before) .args .out .now) ((c .before .before .before .before .before .before .before .before .before .before .mul-by-pop) .last .1 .1 .1 .0)) (1 + ((c .before .before .before .before .before .before .before .before .before .before .mul-by-pop) .result)) 0 ∙ (c .before .before .before .before .before .before .before .before .before .out) .given .1
-
--- src/lib.rt:302:1
-mul-cross-same-length-2 : (t : ℕ) → mul-cross-lts.Need-same-length-2 (mul-by-pop-below t, mul-by-pop.Post, make-pow-reads.Asked, make-pow-reads.Learnt) (mul-cross-at t) mul-cross.Post
-mul-cross-same-length-2 t c = search needs
-
--- src/lib.rt:302:1
-mul-cross-same-length-3 : (t : ℕ) → mul-cross-lts.Need-same-length-3 (mul-by-pop-below t, mul-by-pop.Post, make-pow-reads.Asked, make-pow-reads.Learnt) (mul-cross-at t) mul-cross.Post
-mul-cross-same-length-3 t c = search needs
-
--- src/lib.rt:302:1
-mul-cross-returns : (t : ℕ) → mul-cross-lts.Need-returns (mul-by-pop-below t, mul-by-pop.Post, make-pow-reads.Asked, make-pow-reads.Learnt) (mul-cross-at t) mul-cross.Post
-mul-cross-returns t c = begins-as ((c .before .before .make-pow) .ensures) (mkpow-enc (codes-a·mul-cross t (c .before .before .before .before .before)) (codes-0·mul-cross t (c .before .before .before .before .before)) ((c .before .before .before .before .before .before .before .before .before .before .before .before .before .before .before .before .before .before .before) .args .i))
-
--- src/lib.rt:274:34
-mul-lead-sub-product : (t : ℕ) → mul-lead-lts.Need-sub-product (product-below t, product.Post, make-pow-reads.Asked, make-pow-reads.Learnt) (mul-lead-at t) mul-lead.Post
-mul-lead-sub-product t c = omega (arith, ((c .before .before .before .before .before .before .before) .pre .1 .1) .tables)
-
--- src/lib.rt:274:34
-mul-lead-part-product-start : (t : ℕ) → mul-lead-lts.Need-part-product-start (product-below t, product.Post, make-pow-reads.Asked, make-pow-reads.Learnt) (mul-lead-at t) mul-lead.Post
-mul-lead-part-product-start t c = omega (arith, ((c .before .before .before .before .before .before .before) .pre .1 .1) .tables)
-
--- src/lib.rt:274:34
-mul-lead-part-product-end : (t : ℕ) → mul-lead-lts.Need-part-product-end (product-below t, product.Post, make-pow-reads.Asked, make-pow-reads.Learnt) (mul-lead-at t) mul-lead.Post
-mul-lead-part-product-end t c = search needs
-
--- src/lib.rt:274:9
-mul-lead-product-requires : (t : ℕ) → mul-lead-lts.Need-product-requires (product-below t, product.Post, make-pow-reads.Asked, make-pow-reads.Learnt) (mul-lead-at t) mul-lead.Post
-mul-lead-product-requires t c κs = (omega (arith, ((c .before .before .before .before .before .before .before .before .before .before) .pre .0)), ((((c .before .before .before .before .before .before .before .before .before .before) .pre .1 .0 .0 .0), ((c .before .before .before .before .before .before .before .before .before .before) .pre .1 .0 .1 .0)), space-at (sym (length-tail-part 1 ((c .before .before .before .before .before .before .before .before .before .before) .args .out .now))) refl refl (space-leads ((c .before .before .before .before .before .before .before .before .before .before) .args .i) ((c .before .before .before .before .before .before .before .before .before .before) .args .j) (dec ((c .before .before .before .before .before .before .before .before .before .before) .args .width) ((c .before .before .before .before .before .before .before .before .before .before) .args .p .now)) (dec ((c .before .before .before .before .before .before .before .before .before .before) .args .width) ((c .before .before .before .before .before .before .before .before .before .before) .args .q .now)) (dec ((c .before .before .before .before .before .before .before .before .before .before) .args .width) ((c .before .before .before .before .before .before .before .before .before .before) .args .r .now)) (dec ((c .before .before .before .before .before .before .before .before .before .before) .args .width) ((c .before .before .before .before .before .before .before .before .before .before) .args .s .now)) ((c .before .before .before .before .before .before .before .before .before .before) .pre .1 .1))))
-
--- src/lib.rt:275:13
-mul-lead-add-f : (t : ℕ) → mul-lead-lts.Need-add-f (product-below t, product.Post, make-pow-reads.Asked, make-pow-reads.Learnt) (mul-lead-at t) mul-lead.Post
-mul-lead-add-f t c = omega (arith, few-a·mul-lead t (c .before))
-
--- src/lib.rt:276:34
-mul-lead-mul-product : (t : ℕ) → mul-lead-lts.Need-mul-product (product-below t, product.Post, make-pow-reads.Asked, make-pow-reads.Learnt) (mul-lead-at t) mul-lead.Post
-mul-lead-mul-product t c = omega (arith, few-a·mul-lead t (c .before))
-
--- src/lib.rt:276:34
-mul-lead-sub-product-2 : (t : ℕ) → mul-lead-lts.Need-sub-product-2 (product-below t, product.Post, make-pow-reads.Asked, make-pow-reads.Learnt) (mul-lead-at t) mul-lead.Post
-mul-lead-sub-product-2 t c = a-size·mul-lead t (c .before)
-
--- src/lib.rt:276:34
-mul-lead-part-product-start-2 : (t : ℕ) → mul-lead-lts.Need-part-product-start-2 (product-below t, product.Post, make-pow-reads.Asked, make-pow-reads.Learnt) (mul-lead-at t) mul-lead.Post
-mul-lead-part-product-start-2 t c = a-size·mul-lead t (c .before)
-
--- src/lib.rt:276:34
-mul-lead-part-product-end-2 : (t : ℕ) → mul-lead-lts.Need-part-product-end-2 (product-below t, product.Post, make-pow-reads.Asked, make-pow-reads.Learnt) (mul-lead-at t) mul-lead.Post
-mul-lead-part-product-end-2 t c = search needs
-
--- src/lib.rt:276:9
-mul-lead-product-requires-2 : (t : ℕ) → mul-lead-lts.Need-product-requires-2 (product-below t, product.Post, make-pow-reads.Asked, make-pow-reads.Learnt) (mul-lead-at t) mul-lead.Post
-mul-lead-product-requires-2 t c κs =
-    (omega (arith, ((c .before .before .before .before .before .before .before .before .before .before .before .before .before .before .before .before .before .before .before .before) .pre .0)), ((((c .before .before .before .before .before .before .before .before .before .before .before .before .before .before .before .before .before .before .before .before) .pre .1 .0 .0 .1), ((c .before .before .before .before .before .before .before .before .before .before .before .before .before .before .before .before .before .before .before .before) .pre .1 .0 .1 .1)), space-at (rest·mul-lead t (c .before .before .before .before)) (sym ((c .before .before .before .before .before .before .before .before .before .product) .kept .1 .1 .1 .1 .0)) (sym ((c .before .before .before .before .before .before .before .before .before .product) .kept .1 .1 .1 .1 .1 .0)) (space-rests ((c .before .before .before .before .before .before .before .before .before .before .before .before .before .before .before .before .before .before .before .before) .args .i) ((c .before .before .before .before .before .before .before .before .before .before .before .before .before .before .before .before .before .before .before .before) .args .j) (dec ((c .before .before .before .before .before .before .before .before .before .before .before .before .before .before .before .before .before .before .before .before) .args .width) ((c .before .before .before .before .before .before .before .before .before .before .before .before .before .before .before .before .before .before .before .before) .args .p .now)) (dec ((c .before .before .before .before .before .before .before .before .before .before .before .before .before .before .before .before .before .before .before .before) .args .width) ((c .before .before .before .before .before .before .before .before .before .before .before .before .before .before .before .before .before .before .before .before) .args .q .now)) (dec ((c .before .before .before .before .before .before .before .before .before .before .before .before .before .before .before .before .before .before .before .before) .args .width) ((c .before .before .before .before .before .before .before .before .before .before .before .before .before .before .before .before .before .before .before .before) .args .r .now)) (dec ((c .before .before .before .before .before .before .before .before .before .before .before .before .before .before .before .before .before .before .before .before) .args .width) ((c .before .before .before .before .before .before .before .before .before .before .before .before .before .before .before .before .before .before .before .before) .args .s .now)) ((c .before .before .before .before .before .before .before .before .before .before .before .before .before .before .before .before .before .before .before .before) .pre .1 .1) ((c .before .before .before .before .before .before .before .before .before .product) .result) (few-a·mul-lead t (c .before .before .before .before)))))
-
--- src/lib.rt:277:33
-mul-lead-add-make-pow : (t : ℕ) → mul-lead-lts.Need-add-make-pow (product-below t, product.Post, make-pow-reads.Asked, make-pow-reads.Learnt) (mul-lead-at t) mul-lead.Post
-mul-lead-add-make-pow t c = omega (arith, (good-pow ((c .before .before .before .before .before .before .before .before .before .before .before .before .before .before .before .before .before .before .before .before .before .before .before .before .before .before .before .before) .args .width) ((c .before .before .before .before .before .before .before .before .before .before .before .before .before .before .before .before .before .before .before .before .before .before .before .before .before .before .before .before) .args .i) (dec ((c .before .before .before .before .before .before .before .before .before .before .before .before .before .before .before .before .before .before .before .before .before .before .before .before .before .before .before .before) .args .width) ((c .before .before .before .before .before .before .before .before .before .before .before .before .before .before .before .before .before .before .before .before .before .before .before .before .before .before .before .before) .args .p .now)) (dec ((c .before .before .before .before .before .before .before .before .before .before .before .before .before .before .before .before .before .before .before .before .before .before .before .before .before .before .before .before) .args .width) ((c .before .before .before .before .before .before .before .before .before .before .before .before .before .before .before .before .before .before .before .before .before .before .before .before .before .before .before .before) .args .q .now)) (fit-x (((c .before .before .before .before .before .before .before .before .before .before .before .before .before .before .before .before .before .before .before .before .before .before .before .before .before .before .before .before) .pre .1 .1) .fit) .good)) .1 .0, (good-pow ((c .before .before .before .before .before .before .before .before .before .before .before .before .before .before .before .before .before .before .before .before .before .before .before .before .before .before .before .before) .args .width) ((c .before .before .before .before .before .before .before .before .before .before .before .before .before .before .before .before .before .before .before .before .before .before .before .before .before .before .before .before) .args .j) (dec ((c .before .before .before .before .before .before .before .before .before .before .before .before .before .before .before .before .before .before .before .before .before .before .before .before .before .before .before .before) .args .width) ((c .before .before .before .before .before .before .before .before .before .before .before .before .before .before .before .before .before .before .before .before .before .before .before .before .before .before .before .before) .args .r .now)) (dec ((c .before .before .before .before .before .before .before .before .before .before .before .before .before .before .before .before .before .before .before .before .before .before .before .before .before .before .before .before) .args .width) ((c .before .before .before .before .before .before .before .before .before .before .before .before .before .before .before .before .before .before .before .before .before .before .before .before .before .before .before .before) .args .s .now)) (fit-y (((c .before .before .before .before .before .before .before .before .before .before .before .before .before .before .before .before .before .before .before .before .before .before .before .before .before .before .before .before) .pre .1 .1) .fit) .good)) .1 .0)
-
--- src/lib.rt:277:5
-mul-lead-make-pow-requires : (t : ℕ) → mul-lead-lts.Need-make-pow-requires (product-below t, product.Post, make-pow-reads.Asked, make-pow-reads.Learnt) (mul-lead-at t) mul-lead.Post
-mul-lead-make-pow-requires t c κs = (
-  (
-    omega (arith, begins-le ((c .before .before .before .before .before .before .before .product2) .ensures), (c .before .before .before .before .before .before .before .product2) .kept .1 .1 .1 .0, length-tail-part (1 + ((c .before .before .before .before .before .before .before .before .before .before .before .before .before .before .before .before .before .product) .result)) (putMid 1 (length ((c .before .before .before .before .before .before .before .before .before .before .before .before .before .before .before .before .before .before .before .before .before .before .before .before .before .before .before .before) .args .out .now) - 1) ((c .before .before .before .before .before .before .before .before .before .before .before .before .before .before .before .before .before .before .before .before .before .before .before .before .before .before .before .before) .args .out .now) ((c .before .before .before .before .before .before .before .before .before .before .before .before .before .before .before .before .before .product) .last .1 .1 .1 .0)), a-size·mul-lead t (c .before .before .before .before .before .before .before .before .before .before .before .before), (c .before .before .before .before .before .before .out2) .given .1),
-    omega (arith, ((c .before .before .before .before .before .before .before .before .before .before .before .before .before .before .before .before .before .before .before .before .before .before .before .before .before .before .before .before) .pre .1 .1) .tables, (c .before .before .before .before .before .before .before .before .before .before .before .before .before .before .before .before .out) .given .1, (c .before .before .before .before .before .before .out2) .given .1),
-  ),
-  (
-    (coded (kept-a·mul-lead t (c .before .before)), coded (made-b·mul-lead t (c .before .before))),
-    (omega (arith, (good-pow ((c .before .before .before .before .before .before .before .before .before .before .before .before .before .before .before .before .before .before .before .before .before .before .before .before .before .before .before .before) .args .width) ((c .before .before .before .before .before .before .before .before .before .before .before .before .before .before .before .before .before .before .before .before .before .before .before .before .before .before .before .before) .args .i) (dec ((c .before .before .before .before .before .before .before .before .before .before .before .before .before .before .before .before .before .before .before .before .before .before .before .before .before .before .before .before) .args .width) ((c .before .before .before .before .before .before .before .before .before .before .before .before .before .before .before .before .before .before .before .before .before .before .before .before .before .before .before .before) .args .p .now)) (dec ((c .before .before .before .before .before .before .before .before .before .before .before .before .before .before .before .before .before .before .before .before .before .before .before .before .before .before .before .before) .args .width) ((c .before .before .before .before .before .before .before .before .before .before .before .before .before .before .before .before .before .before .before .before .before .before .before .before .before .before .before .before) .args .q .now)) (fit-x (((c .before .before .before .before .before .before .before .before .before .before .before .before .before .before .before .before .before .before .before .before .before .before .before .before .before .before .before .before) .pre .1 .1) .fit) .good)) .0), mkpow-good (kept-a·mul-lead t (c .before .before)) (made-b·mul-lead t (c .before .before)) (((c .before .before .before .before .before .before .before .before .before .before .before .before .before .before .before .before .before .before .before .before .before .before .before .before .before .before .before .before) .args .i) + ((c .before .before .before .before .before .before .before .before .before .before .before .before .before .before .before .before .before .before .before .before .before .before .before .before .before .before .before .before) .args .j)) (lead-held ((c .before .before .before .before .before .before .before .before .before .before .before .before .before .before .before .before .before .before .before .before .before .before .before .before .before .before .before .before) .args .i) ((c .before .before .before .before .before .before .before .before .before .before .before .before .before .before .before .before .before .before .before .before .before .before .before .before .before .before .before .before) .args .j) (dec ((c .before .before .before .before .before .before .before .before .before .before .before .before .before .before .before .before .before .before .before .before .before .before .before .before .before .before .before .before) .args .width) ((c .before .before .before .before .before .before .before .before .before .before .before .before .before .before .before .before .before .before .before .before .before .before .before .before .before .before .before .before) .args .p .now)) (dec ((c .before .before .before .before .before .before .before .before .before .before .before .before .before .before .before .before .before .before .before .before .before .before .before .before .before .before .before .before) .args .width) ((c .before .before .before .before .before .before .before .before .before .before .before .before .before .before .before .before .before .before .before .before .before .before .before .before .before .before .before .before) .args .q .now)) (dec ((c .before .before .before .before .before .before .before .before .before .before .before .before .before .before .before .before .before .before .before .before .before .before .before .before .before .before .before .before) .args .width) ((c .before .before .before .before .before .before .before .before .before .before .before .before .before .before .before .before .before .before .before .before .before .before .before .before .before .before .before .before) .args .r .now)) (dec ((c .before .before .before .before .before .before .before .before .before .before .before .before .before .before .before .before .before .before .before .before .before .before .before .before .before .before .before .before) .args .width) ((c .before .before .before .before .before .before .before .before .before .before .before .before .before .before .before .before .before .before .before .before .before .before .before .before .before .before .before .before) .args .s .now)) (((c .before .before .before .before .before .before .before .before .before .before .before .before .before .before .before .before .before .before .before .before .before .before .before .before .before .before .before .before) .pre .1 .1) .fit) .good)),
-  ),
-)
-
--- src/lib.rt:258:1
-mul-lead-same-length : (t : ℕ) → mul-lead-lts.Need-same-length (product-below t, product.Post, make-pow-reads.Asked, make-pow-reads.Learnt) (mul-lead-at t) mul-lead.Post
-mul-lead-same-length t c = search needs
-
--- src/lib.rt:258:1
-mul-lead-same-length-2 : (t : ℕ) → mul-lead-lts.Need-same-length-2 (product-below t, product.Post, make-pow-reads.Asked, make-pow-reads.Learnt) (mul-lead-at t) mul-lead.Post
-mul-lead-same-length-2 t c = search needs
-
--- src/lib.rt:258:1
-mul-lead-same-length-3 : (t : ℕ) → mul-lead-lts.Need-same-length-3 (product-below t, product.Post, make-pow-reads.Asked, make-pow-reads.Learnt) (mul-lead-at t) mul-lead.Post
-mul-lead-same-length-3 t c = search needs
-
--- src/lib.rt:258:1
-mul-lead-returns : (t : ℕ) → mul-lead-lts.Need-returns (product-below t, product.Post, make-pow-reads.Asked, make-pow-reads.Learnt) (mul-lead-at t) mul-lead.Post
-mul-lead-returns t c = begins-as ((c .before .before .make-pow) .ensures) (mkpow-enc (kept-a·mul-lead t (c .before .before .before .before .before)) (made-b·mul-lead t (c .before .before .before .before .before)) (((c .before .before .before .before .before .before .before .before .before .before .before .before .before .before .before .before .before .before .before .before .before .before .before .before .before .before .before .before .before .before .before) .args .i) + ((c .before .before .before .before .before .before .before .before .before .before .before .before .before .before .before .before .before .before .before .before .before .before .before .before .before .before .before .before .before .before .before) .args .j)))
-
--- src/lib.rt:197:9
-mul-less-product-requires : (t : ℕ) → mul-less-lts.Need-product-requires (product-below t, product.Post, mul-pop-below t, mul-pop.Post) (mul-less-at t) mul-less.Post
-mul-less-product-requires t c κs = (omega (arith, ((c .before .before .before .before .before .before .before .before .before) .pre .0)), (((c .before .before .before .before .before .before .before .before .before) .pre .1 .0), subst (λ h. Space ((c .before .before .before .before .before .before .before .before .before) .args .width) h (dec ((c .before .before .before .before .before .before .before .before .before) .args .width) ((c .before .before .before .before .before .before .before .before .before) .args .r .now)) (length ((c .before .before .before .before .before .before .before .before .before) .args .out .now)) (length ((c .before .before .before .before .before .before .before .before .before) .args .t .now)) (length ((c .before .before .before .before .before .before .before .before .before) .args .u .now))) (lower-1 ((c .before .before .before .before .before .before .before .before .before) .args .width) ((c .before .before .before .before .before .before .before .before .before) .args .i) (dec ((c .before .before .before .before .before .before .before .before .before) .args .width) ((c .before .before .before .before .before .before .before .before .before) .args .p .now)) ((c .before .before .before .if1) .taken)) ((c .before .before .before .before .before .before .before .before .before) .pre .1 .1 .1)))
-
--- src/lib.rt:197:9
-mul-less-same-length : (t : ℕ) → mul-less-lts.Need-same-length (product-below t, product.Post, mul-pop-below t, mul-pop.Post) (mul-less-at t) mul-less.Post
-mul-less-same-length t c = search needs
-
--- src/lib.rt:197:9
-mul-less-same-length-2 : (t : ℕ) → mul-less-lts.Need-same-length-2 (product-below t, product.Post, mul-pop-below t, mul-pop.Post) (mul-less-at t) mul-less.Post
-mul-less-same-length-2 t c = search needs
-
--- src/lib.rt:197:9
-mul-less-same-length-3 : (t : ℕ) → mul-less-lts.Need-same-length-3 (product-below t, product.Post, mul-pop-below t, mul-pop.Post) (mul-less-at t) mul-less.Post
-mul-less-same-length-3 t c = search needs
-
--- src/lib.rt:197:9
-mul-less-returns : (t : ℕ) → mul-less-lts.Need-returns (product-below t, product.Post, mul-pop-below t, mul-pop.Post) (mul-less-at t) mul-less.Post
-mul-less-returns t c = begins-as ((c .before .before .before .before .before .before .product) .ensures) (ap (λ h. enc ((c .before .before .before .before .before .before .before .before .before .before .before .before .before .before .before .before) .args .width) (prodOf ((c .before .before .before .before .before .before .before .before .before .before .before .before .before .before .before .before) .args .width) h (dec ((c .before .before .before .before .before .before .before .before .before .before .before .before .before .before .before .before) .args .width) ((c .before .before .before .before .before .before .before .before .before .before .before .before .before .before .before .before) .args .r .now)))) (sym (lower-1 ((c .before .before .before .before .before .before .before .before .before .before .before .before .before .before .before .before) .args .width) ((c .before .before .before .before .before .before .before .before .before .before .before .before .before .before .before .before) .args .i) (dec ((c .before .before .before .before .before .before .before .before .before .before .before .before .before .before .before .before) .args .width) ((c .before .before .before .before .before .before .before .before .before .before .before .before .before .before .before .before) .args .p .now)) ((c .before .before .before .before .before .before .before .before .before .before .if1) .taken))))
-
--- src/lib.rt:199:20
-mul-less-sub-mul-pop : (t : ℕ) → mul-less-lts.Need-sub-mul-pop (product-below t, product.Post, mul-pop-below t, mul-pop.Post) (mul-less-at t) mul-less.Post
-mul-less-sub-mul-pop t c = ((c .before .before .before .before .before .before) .pre .1 .1 .0)
-
--- src/lib.rt:199:5
-mul-less-mul-pop-requires : (t : ℕ) → mul-less-lts.Need-mul-pop-requires (product-below t, product.Post, mul-pop-below t, mul-pop.Post) (mul-less-at t) mul-less.Post
-mul-less-mul-pop-requires t c κs =
-    (omega (arith, ((c .before .before .before .before .before .before .before .before .before) .pre .0)), (((c .before .before .before .before .before .before .before .before .before) .pre .1 .0), pop-space (((c .before .before .before .before .before .before .before .before .before) .args .i) - 1) (dec ((c .before .before .before .before .before .before .before .before .before) .args .width) ((c .before .before .before .before .before .before .before .before .before) .args .p .now)) (subst (λ h. Space ((c .before .before .before .before .before .before .before .before .before) .args .width) h (dec ((c .before .before .before .before .before .before .before .before .before) .args .width) ((c .before .before .before .before .before .before .before .before .before) .args .r .now)) (length ((c .before .before .before .before .before .before .before .before .before) .args .out .now)) (length ((c .before .before .before .before .before .before .before .before .before) .args .t .now)) (length ((c .before .before .before .before .before .before .before .before .before) .args .u .now))) (lower-more ((c .before .before .before .before .before .before .before .before .before) .args .width) ((c .before .before .before .before .before .before .before .before .before) .args .i) (dec ((c .before .before .before .before .before .before .before .before .before) .args .width) ((c .before .before .before .before .before .before .before .before .before) .args .p .now)) ((c .before .before .before .before .before .before .before .before .before) .pre .1 .1 .0) ((c .before .before .before .if1) .left)) ((c .before .before .before .before .before .before .before .before .before) .pre .1 .1 .1))))
-
--- src/lib.rt:182:1
-mul-less-same-length-4 : (t : ℕ) → mul-less-lts.Need-same-length-4 (product-below t, product.Post, mul-pop-below t, mul-pop.Post) (mul-less-at t) mul-less.Post
-mul-less-same-length-4 t c = search needs
-
--- src/lib.rt:182:1
-mul-less-same-length-5 : (t : ℕ) → mul-less-lts.Need-same-length-5 (product-below t, product.Post, mul-pop-below t, mul-pop.Post) (mul-less-at t) mul-less.Post
-mul-less-same-length-5 t c = search needs
-
--- src/lib.rt:182:1
-mul-less-same-length-6 : (t : ℕ) → mul-less-lts.Need-same-length-6 (product-below t, product.Post, mul-pop-below t, mul-pop.Post) (mul-less-at t) mul-less.Post
-mul-less-same-length-6 t c = search needs
-
--- src/lib.rt:182:1
-mul-less-returns-2 : (t : ℕ) → mul-less-lts.Need-returns-2 (product-below t, product.Post, mul-pop-below t, mul-pop.Post) (mul-less-at t) mul-less.Post
-mul-less-returns-2 t c = begins-as ((c .before .before .before .before .before .before .mul-pop) .ensures) (ap (λ h. enc ((c .before .before .before .before .before .before .before .before .before .before .before .before .before .before .before .before) .args .width) (prodOf ((c .before .before .before .before .before .before .before .before .before .before .before .before .before .before .before .before) .args .width) h (dec ((c .before .before .before .before .before .before .before .before .before .before .before .before .before .before .before .before) .args .width) ((c .before .before .before .before .before .before .before .before .before .before .before .before .before .before .before .before) .args .r .now)))) (sym (lower-more ((c .before .before .before .before .before .before .before .before .before .before .before .before .before .before .before .before) .args .width) ((c .before .before .before .before .before .before .before .before .before .before .before .before .before .before .before .before) .args .i) (dec ((c .before .before .before .before .before .before .before .before .before .before .before .before .before .before .before .before) .args .width) ((c .before .before .before .before .before .before .before .before .before .before .before .before .before .before .before .before) .args .p .now)) ((c .before .before .before .before .before .before .before .before .before .before .before .before .before .before .before .before) .pre .1 .1 .0) ((c .before .before .before .before .before .before .before .before .before .before .if1) .left))))
-
--- src/lib.rt:76:13
-mul-pop-shared-slice-read-w : (t : ℕ) → mul-pop-lts.Need-shared-slice-read-w (scale-pop-reads.Asked, scale-pop-reads.Learnt, mul-pops-below t, mul-pops.Post, mul-pop-pow-below t, mul-pop-pow.Post) (mul-pop-at t) mul-pop.Post
-mul-pop-shared-slice-read-w t c = omega (arith, some ((c .before .before .before .before .before .before) .pre .1 .0 .1))
-
--- src/lib.rt:78:9
-mul-pop-scale-pop-requires : (t : ℕ) → mul-pop-lts.Need-scale-pop-requires (scale-pop-reads.Asked, scale-pop-reads.Learnt, mul-pops-below t, mul-pops.Post, mul-pop-pow-below t, mul-pop-pow.Post) (mul-pop-at t) mul-pop.Post
-mul-pop-scale-pop-requires t c κs =
-    ((int-view ((c .before .before .before .before .before .before .before .before) .pre .1 .0 .1) ((c .before .if1) .taken)) .below, (((c .before .before .before .before .before .before .before .before) .pre .1 .0 .0), (fit-x (((c .before .before .before .before .before .before .before .before) .pre .1 .1) .fit) .good, omega (arith, ((c .before .before .before .before .before .before .before .before) .pre .1 .1) .tables, codes-length ((c .before .before .before .before .before .before .before .before) .pre .1 .0 .0), fit-pop-words ((c .before .before .before .before .before .before .before .before) .args .i) (dec ((c .before .before .before .before .before .before .before .before) .args .width) ((c .before .before .before .before .before .before .before .before) .args .p .now)) (((c .before .before .before .before .before .before .before .before) .pre .1 .1) .fit)))))
-
--- src/lib.rt:78:9
-mul-pop-same-length : (t : ℕ) → mul-pop-lts.Need-same-length (scale-pop-reads.Asked, scale-pop-reads.Learnt, mul-pops-below t, mul-pops.Post, mul-pop-pow-below t, mul-pop-pow.Post) (mul-pop-at t) mul-pop.Post
-mul-pop-same-length t c = search needs
-
--- src/lib.rt:78:9
-mul-pop-returns : (t : ℕ) → mul-pop-lts.Need-returns (scale-pop-reads.Asked, scale-pop-reads.Learnt, mul-pops-below t, mul-pops.Post, mul-pop-pow-below t, mul-pop-pow.Post) (mul-pop-at t) mul-pop.Post
-mul-pop-returns t c = begins-as ((c .before .before .scale-pop) .ensures) (times-int (int-view ((c .before .before .before .before .before .before .before .before .before .before .before) .pre .1 .0 .1) ((c .before .before .before .before .if1) .taken)) (pop ((c .before .before .before .before .before .before .before .before .before .before .before) .args .i) (dec ((c .before .before .before .before .before .before .before .before .before .before .before) .args .width) ((c .before .before .before .before .before .before .before .before .before .before .before) .args .p .now))))
-
--- src/lib.rt:80:13
-mul-pop-cast-k : (t : ℕ) → mul-pop-lts.Need-cast-k (scale-pop-reads.Asked, scale-pop-reads.Learnt, mul-pops-below t, mul-pops.Post, mul-pop-pow-below t, mul-pop-pow.Post) (mul-pop-at t) mul-pop.Post
-mul-pop-cast-k t c = omega (arith, (c .before .shared-slice-known3) .given 0)
-
--- src/lib.rt:82:46
-mul-pop-sub-mul-pops : (t : ℕ) → mul-pop-lts.Need-sub-mul-pops (scale-pop-reads.Asked, scale-pop-reads.Learnt, mul-pops-below t, mul-pops.Post, mul-pop-pow-below t, mul-pop-pow.Post) (mul-pop-at t) mul-pop.Post
-mul-pop-sub-mul-pops t c = omega (arith, is-pop·mul-pop t c)
-
--- src/lib.rt:82:46
-mul-pop-part-mul-pops-start : (t : ℕ) → mul-pop-lts.Need-part-mul-pops-start (scale-pop-reads.Asked, scale-pop-reads.Learnt, mul-pops-below t, mul-pops.Post, mul-pop-pow-below t, mul-pop-pow.Post) (mul-pop-at t) mul-pop.Post
-mul-pop-part-mul-pops-start t c = omega (arith, is-pop·mul-pop t c)
-
--- src/lib.rt:82:46
-mul-pop-part-mul-pops-end : (t : ℕ) → mul-pop-lts.Need-part-mul-pops-end (scale-pop-reads.Asked, scale-pop-reads.Learnt, mul-pops-below t, mul-pops.Post, mul-pop-pow-below t, mul-pop-pow.Post) (mul-pop-at t) mul-pop.Post
-mul-pop-part-mul-pops-end t c = search needs
-
--- src/lib.rt:82:9
-mul-pop-mul-pops-requires : (t : ℕ) → mul-pop-lts.Need-mul-pops-requires (scale-pop-reads.Asked, scale-pop-reads.Learnt, mul-pops-below t, mul-pops.Post, mul-pop-pow-below t, mul-pop-pow.Post) (mul-pop-at t) mul-pop.Post
-mul-pop-mul-pops-requires t c κs = (
-  omega (arith, codes-length (inner·mul-pop t (c .before .before .before .before)), is-pop·mul-pop t (c .before .before .before .before), ((c .before .before .before .before .before .before .before .before .before .before .before .before) .pre .0)),
-  ((((c .before .before .before .before .before .before .before .before .before .before .before .before) .pre .1 .0 .0), coded (inner·mul-pop t (c .before .before .before .before))), subst (λ h. PopSpace ((c .before .before .before .before .before .before .before .before .before .before .before .before) .args .width) (pop ((c .before .before .before .before .before .before .before .before .before .before .before .before) .args .i) (dec ((c .before .before .before .before .before .before .before .before .before .before .before .before) .args .width) ((c .before .before .before .before .before .before .before .before .before .before .before .before) .args .p .now))) h (length ((c .before .before .before .before .before .before .before .before .before .before .before .before) .args .out .now)) (length ((c .before .before .before .before .before .before .before .before .before .before .before .before) .args .t .now)) (length ((c .before .before .before .before .before .before .before .before .before .before .before .before) .args .u .now))) (sym (pop-is (is-pop·mul-pop t (c .before .before .before .before)) _ (dec-enc (inner·mul-pop t (c .before .before .before .before))))) ((c .before .before .before .before .before .before .before .before .before .before .before .before) .pre .1 .1)),
-)
-
--- src/lib.rt:82:9
-mul-pop-same-length-2 : (t : ℕ) → mul-pop-lts.Need-same-length-2 (scale-pop-reads.Asked, scale-pop-reads.Learnt, mul-pops-below t, mul-pops.Post, mul-pop-pow-below t, mul-pop-pow.Post) (mul-pop-at t) mul-pop.Post
-mul-pop-same-length-2 t c = search needs
-
--- src/lib.rt:82:9
-mul-pop-same-length-3 : (t : ℕ) → mul-pop-lts.Need-same-length-3 (scale-pop-reads.Asked, scale-pop-reads.Learnt, mul-pops-below t, mul-pops.Post, mul-pop-pow-below t, mul-pop-pow.Post) (mul-pop-at t) mul-pop.Post
-mul-pop-same-length-3 t c = search needs
-
--- src/lib.rt:82:9
-mul-pop-same-length-4 : (t : ℕ) → mul-pop-lts.Need-same-length-4 (scale-pop-reads.Asked, scale-pop-reads.Learnt, mul-pops-below t, mul-pops.Post, mul-pop-pow-below t, mul-pop-pow.Post) (mul-pop-at t) mul-pop.Post
-mul-pop-same-length-4 t c = search needs
-
--- src/lib.rt:82:9
-mul-pop-returns-2 : (t : ℕ) → mul-pop-lts.Need-returns-2 (scale-pop-reads.Asked, scale-pop-reads.Learnt, mul-pops-below t, mul-pops.Post, mul-pop-pow-below t, mul-pop-pow.Post) (mul-pop-at t) mul-pop.Post
-mul-pop-returns-2 t c = begins-as ((c .before .before .before .before .before .before .mul-pops) .ensures) (ap (λ h. enc ((c .before .before .before .before .before .before .before .before .before .before .before .before .before .before .before .before .before .before .before) .args .width) (prodOf ((c .before .before .before .before .before .before .before .before .before .before .before .before .before .before .before .before .before .before .before) .args .width) (pop ((c .before .before .before .before .before .before .before .before .before .before .before .before .before .before .before .before .before .before .before) .args .i) (dec ((c .before .before .before .before .before .before .before .before .before .before .before .before .before .before .before .before .before .before .before) .args .width) ((c .before .before .before .before .before .before .before .before .before .before .before .before .before .before .before .before .before .before .before) .args .p .now))) h)) (pop-is (is-pop·mul-pop t (c .before .before .before .before .before .before .before .before .before .before .before)) _ (dec-enc (inner·mul-pop t (c .before .before .before .before .before .before .before .before .before .before .before)))))
-
--- src/lib.rt:84:5
-mul-pop-mul-pop-pow-requires : (t : ℕ) → mul-pop-lts.Need-mul-pop-pow-requires (scale-pop-reads.Asked, scale-pop-reads.Learnt, mul-pops-below t, mul-pops.Post, mul-pop-pow-below t, mul-pop-pow.Post) (mul-pop-at t) mul-pop.Post
-mul-pop-mul-pop-pow-requires t c κs = (omega (arith, ((c .before .before .before .before .before .before .before .before .before .before .before) .pre .0)), ((((c .before .before .before .before .before .before .before .before .before .before .before) .pre .1 .0 .0), ((c .before .before .before .before .before .before .before .before .before .before .before) .pre .1 .0 .1)), (((c .before .before .before .before .before .before .before .before .before .before .before) .pre .1 .1), record { node = (c .before .before .before .before .if1) .left; sized = (c .before .before .before .if2) .left })))
-
--- src/lib.rt:63:1
-mul-pop-same-length-5 : (t : ℕ) → mul-pop-lts.Need-same-length-5 (scale-pop-reads.Asked, scale-pop-reads.Learnt, mul-pops-below t, mul-pops.Post, mul-pop-pow-below t, mul-pop-pow.Post) (mul-pop-at t) mul-pop.Post
-mul-pop-same-length-5 t c = search needs
-
--- src/lib.rt:63:1
-mul-pop-same-length-6 : (t : ℕ) → mul-pop-lts.Need-same-length-6 (scale-pop-reads.Asked, scale-pop-reads.Learnt, mul-pops-below t, mul-pops.Post, mul-pop-pow-below t, mul-pop-pow.Post) (mul-pop-at t) mul-pop.Post
-mul-pop-same-length-6 t c = search needs
-
--- src/lib.rt:63:1
-mul-pop-same-length-7 : (t : ℕ) → mul-pop-lts.Need-same-length-7 (scale-pop-reads.Asked, scale-pop-reads.Learnt, mul-pops-below t, mul-pops.Post, mul-pop-pow-below t, mul-pop-pow.Post) (mul-pop-at t) mul-pop.Post
-mul-pop-same-length-7 t c = search needs
-
--- src/lib.rt:63:1
-mul-pop-returns-3 : (t : ℕ) → mul-pop-lts.Need-returns-3 (scale-pop-reads.Asked, scale-pop-reads.Learnt, mul-pops-below t, mul-pops.Post, mul-pop-pow-below t, mul-pop-pow.Post) (mul-pop-at t) mul-pop.Post
-mul-pop-returns-3 t c = (c .before .before .before .before .before .before .mul-pop-pow) .ensures
-
--- src/lib.rt:172:13
-mul-pop-pow-shared-slice-read-w : (t : ℕ) → mul-pop-pow-lts.Need-shared-slice-read-w (mul-pop-below t, mul-pop.Post, mul-less-below t, mul-less.Post, make-pow-reads.Asked, make-pow-reads.Learnt) (mul-pop-pow-at t) mul-pop-pow.Post
-mul-pop-pow-shared-slice-read-w t c = omega (arith, some ((c .before .before .before .before .before .before) .pre .1 .0 .1))
-
--- src/lib.rt:173:15
-mul-pop-pow-sub-k : (t : ℕ) → mul-pop-pow-lts.Need-sub-k (mul-pop-below t, mul-pop.Post, mul-less-below t, mul-less.Post, make-pow-reads.Asked, make-pow-reads.Learnt) (mul-pop-pow-at t) mul-pop-pow.Post
-mul-pop-pow-sub-k t c = ((c .before .before .before .before .before .before) .pre .1 .1 .1) .node
-
--- src/lib.rt:173:13
-mul-pop-pow-cast-k : (t : ℕ) → mul-pop-pow-lts.Need-cast-k (mul-pop-below t, mul-pop.Post, mul-less-below t, mul-less.Post, make-pow-reads.Asked, make-pow-reads.Learnt) (mul-pop-pow-at t) mul-pop-pow.Post
-mul-pop-pow-cast-k t c = omega (arith, (c .shared-slice-known3) .given 0)
-
--- src/lib.rt:174:13
-mul-pop-pow-add-e : (t : ℕ) → mul-pop-pow-lts.Need-add-e (mul-pop-below t, mul-pop.Post, mul-less-below t, mul-less.Post, make-pow-reads.Asked, make-pow-reads.Learnt) (mul-pop-pow-at t) mul-pop-pow.Post
-mul-pop-pow-add-e t c = omega (arith, (is-pow·mul-pop-pow t (c .before .before .before .before .before .before)))
-
--- src/lib.rt:175:34
-mul-pop-pow-sub-mul-pop : (t : ℕ) → mul-pop-pow-lts.Need-sub-mul-pop (mul-pop-below t, mul-pop.Post, mul-less-below t, mul-less.Post, make-pow-reads.Asked, make-pow-reads.Learnt) (mul-pop-pow-at t) mul-pop-pow.Post
-mul-pop-pow-sub-mul-pop t c = search needs
-
--- src/lib.rt:175:34
-mul-pop-pow-part-mul-pop-start : (t : ℕ) → mul-pop-pow-lts.Need-part-mul-pop-start (mul-pop-below t, mul-pop.Post, mul-less-below t, mul-less.Post, make-pow-reads.Asked, make-pow-reads.Learnt) (mul-pop-pow-at t) mul-pop-pow.Post
-mul-pop-pow-part-mul-pop-start t c = search needs
-
--- src/lib.rt:175:34
-mul-pop-pow-part-mul-pop-end : (t : ℕ) → mul-pop-pow-lts.Need-part-mul-pop-end (mul-pop-below t, mul-pop.Post, mul-less-below t, mul-less.Post, make-pow-reads.Asked, make-pow-reads.Learnt) (mul-pop-pow-at t) mul-pop-pow.Post
-mul-pop-pow-part-mul-pop-end t c = omega (arith, (is-pow·mul-pop-pow t (c .before .before .before .before .before .before)))
-
--- src/lib.rt:175:44
-mul-pop-pow-sub-mul-pop-2 : (t : ℕ) → mul-pop-pow-lts.Need-sub-mul-pop-2 (mul-pop-below t, mul-pop.Post, mul-less-below t, mul-less.Post, make-pow-reads.Asked, make-pow-reads.Learnt) (mul-pop-pow-at t) mul-pop-pow.Post
-mul-pop-pow-sub-mul-pop-2 t c = omega (arith, ((c .before .before .before .before .before .before .before) .pre .1 .1 .0) .tables)
-
--- src/lib.rt:175:44
-mul-pop-pow-part-mul-pop-start-2 : (t : ℕ) → mul-pop-pow-lts.Need-part-mul-pop-start-2 (mul-pop-below t, mul-pop.Post, mul-less-below t, mul-less.Post, make-pow-reads.Asked, make-pow-reads.Learnt) (mul-pop-pow-at t) mul-pop-pow.Post
-mul-pop-pow-part-mul-pop-start-2 t c = omega (arith, ((c .before .before .before .before .before .before .before) .pre .1 .1 .0) .tables)
-
--- src/lib.rt:175:44
-mul-pop-pow-part-mul-pop-end-2 : (t : ℕ) → mul-pop-pow-lts.Need-part-mul-pop-end-2 (mul-pop-below t, mul-pop.Post, mul-less-below t, mul-less.Post, make-pow-reads.Asked, make-pow-reads.Learnt) (mul-pop-pow-at t) mul-pop-pow.Post
-mul-pop-pow-part-mul-pop-end-2 t c = search needs
-
--- src/lib.rt:175:9
-mul-pop-pow-mul-pop-requires : (t : ℕ) → mul-pop-pow-lts.Need-mul-pop-requires (mul-pop-below t, mul-pop.Post, mul-less-below t, mul-less.Post, make-pow-reads.Asked, make-pow-reads.Learnt) (mul-pop-pow-at t) mul-pop-pow.Post
-mul-pop-pow-mul-pop-requires t c κs = (
-  omega (arith, codes-length (left·mul-pop-pow t (c .before .before .before .before .before .before .before .before .before .before)), (is-pow·mul-pop-pow t (c .before .before .before .before .before .before .before .before .before .before)), ((c .before .before .before .before .before .before .before .before .before .before) .pre .0)),
-  (
-    (((c .before .before .before .before .before .before .before .before .before .before) .pre .1 .0 .0), coded (left·mul-pop-pow t (c .before .before .before .before .before .before .before .before .before .before))),
-    subst (λ h. PopSpace ((c .before .before .before .before .before .before .before .before .before .before) .args .width) (pop ((c .before .before .before .before .before .before .before .before .before .before) .args .i) (dec ((c .before .before .before .before .before .before .before .before .before .before) .args .width) ((c .before .before .before .before .before .before .before .before .before .before) .args .p .now))) h (length (take (length ((c .before .before .before .before .before .before .before .before .before .before) .args .out .now) - 1) (drop 1 ((c .before .before .before .before .before .before .before .before .before .before) .args .out .now)))) (length ((c .before .before .before .before .before .before .before .before .before .before) .args .t .now)) (length ((c .before .before .before .before .before .before .before .before .before .before) .args .u .now))) (sym (dec-enc (left·mul-pop-pow t (c .before .before .before .before .before .before .before .before .before .before))))
-        (pop-space-at (sym (length-tail-part 1 ((c .before .before .before .before .before .before .before .before .before .before) .args .out .now))) refl refl (pop-space-pow ((c .before .before .before .before .before .before .before .before .before .before) .args .i) ((is-pow·mul-pop-pow t (c .before .before .before .before .before .before .before .before .before .before)) .i) (dec ((c .before .before .before .before .before .before .before .before .before .before) .args .width) ((c .before .before .before .before .before .before .before .before .before .before) .args .p .now)) ((is-pow·mul-pop-pow t (c .before .before .before .before .before .before .before .before .before .before)) .p) ((is-pow·mul-pop-pow t (c .before .before .before .before .before .before .before .before .before .before)) .q) (space-pow·mul-pop-pow t (c .before .before .before .before .before .before .before .before .before .before)))),
-  ),
-)
-
--- src/lib.rt:176:13
-mul-pop-pow-add-f : (t : ℕ) → mul-pop-pow-lts.Need-add-f (mul-pop-below t, mul-pop.Post, mul-less-below t, mul-less.Post, make-pow-reads.Asked, make-pow-reads.Learnt) (mul-pop-pow-at t) mul-pop-pow.Post
-mul-pop-pow-add-f t c = omega (arith, few-a·mul-pop-pow t (c .before))
-
--- src/lib.rt:177:35
-mul-pop-pow-mul-mul-less : (t : ℕ) → mul-pop-pow-lts.Need-mul-mul-less (mul-pop-below t, mul-pop.Post, mul-less-below t, mul-less.Post, make-pow-reads.Asked, make-pow-reads.Learnt) (mul-pop-pow-at t) mul-pop-pow.Post
-mul-pop-pow-mul-mul-less t c = omega (arith, (is-pow·mul-pop-pow t (c .before .before .before .before .before .before .before .before .before .before .before .before .before .before .before .before .before)), (c .before .before .before .before .before .before .before .before .before .before .before .before .before .before .before .before .before) .good .1 .1 .1 .0)
-
--- src/lib.rt:177:35
-mul-pop-pow-sub-mul-less : (t : ℕ) → mul-pop-pow-lts.Need-sub-mul-less (mul-pop-below t, mul-pop.Post, mul-less-below t, mul-less.Post, make-pow-reads.Asked, make-pow-reads.Learnt) (mul-pop-pow-at t) mul-pop-pow.Post
-mul-pop-pow-sub-mul-less t c = omega (arith, (is-pow·mul-pop-pow t (c .before .before .before .before .before .before .before .before .before .before .before .before .before .before .before .before .before)))
-
--- src/lib.rt:177:35
-mul-pop-pow-part-mul-less-start : (t : ℕ) → mul-pop-pow-lts.Need-part-mul-less-start (mul-pop-below t, mul-pop.Post, mul-less-below t, mul-less.Post, make-pow-reads.Asked, make-pow-reads.Learnt) (mul-pop-pow-at t) mul-pop-pow.Post
-mul-pop-pow-part-mul-less-start t c = omega (arith, (is-pow·mul-pop-pow t (c .before .before .before .before .before .before .before .before .before .before .before .before .before .before .before .before .before)))
-
--- src/lib.rt:177:35
-mul-pop-pow-part-mul-less-end : (t : ℕ) → mul-pop-pow-lts.Need-part-mul-less-end (mul-pop-below t, mul-pop.Post, mul-less-below t, mul-less.Post, make-pow-reads.Asked, make-pow-reads.Learnt) (mul-pop-pow-at t) mul-pop-pow.Post
-mul-pop-pow-part-mul-less-end t c = search needs
-
--- src/lib.rt:177:44
-mul-pop-pow-mul-mul-less-2 : (t : ℕ) → mul-pop-pow-lts.Need-mul-mul-less-2 (mul-pop-below t, mul-pop.Post, mul-less-below t, mul-less.Post, make-pow-reads.Asked, make-pow-reads.Learnt) (mul-pop-pow-at t) mul-pop-pow.Post
-mul-pop-pow-mul-mul-less-2 t c = omega (arith, few-a·mul-pop-pow t (c .before .before))
-
--- src/lib.rt:177:44
-mul-pop-pow-sub-mul-less-2 : (t : ℕ) → mul-pop-pow-lts.Need-sub-mul-less-2 (mul-pop-below t, mul-pop.Post, mul-less-below t, mul-less.Post, make-pow-reads.Asked, make-pow-reads.Learnt) (mul-pop-pow-at t) mul-pop-pow.Post
-mul-pop-pow-sub-mul-less-2 t c = a-size·mul-pop-pow t (c .before .before)
-
--- src/lib.rt:177:44
-mul-pop-pow-part-mul-less-start-2 : (t : ℕ) → mul-pop-pow-lts.Need-part-mul-less-start-2 (mul-pop-below t, mul-pop.Post, mul-less-below t, mul-less.Post, make-pow-reads.Asked, make-pow-reads.Learnt) (mul-pop-pow-at t) mul-pop-pow.Post
-mul-pop-pow-part-mul-less-start-2 t c = a-size·mul-pop-pow t (c .before .before)
-
--- src/lib.rt:177:44
-mul-pop-pow-part-mul-less-end-2 : (t : ℕ) → mul-pop-pow-lts.Need-part-mul-less-end-2 (mul-pop-below t, mul-pop.Post, mul-less-below t, mul-less.Post, make-pow-reads.Asked, make-pow-reads.Learnt) (mul-pop-pow-at t) mul-pop-pow.Post
-mul-pop-pow-part-mul-less-end-2 t c = search needs
-
--- src/lib.rt:177:9
-mul-pop-pow-mul-less-requires : (t : ℕ) → mul-pop-pow-lts.Need-mul-less-requires (mul-pop-below t, mul-pop.Post, mul-less-below t, mul-less.Post, make-pow-reads.Asked, make-pow-reads.Learnt) (mul-pop-pow-at t) mul-pop-pow.Post
-mul-pop-pow-mul-less-requires t c κs = (
-  omega (arith, codes-length (right·mul-pop-pow t (c .before .before .before .before .before .before .before .before .before .before .before .before .before .before .before .before .before .before .before .before .before)), (is-pow·mul-pop-pow t (c .before .before .before .before .before .before .before .before .before .before .before .before .before .before .before .before .before .before .before .before .before)), ((c .before .before .before .before .before .before .before .before .before .before .before .before .before .before .before .before .before .before .before .before .before) .pre .0)),
-  (
-    (((c .before .before .before .before .before .before .before .before .before .before .before .before .before .before .before .before .before .before .before .before .before) .pre .1 .0 .0), coded (right·mul-pop-pow t (c .before .before .before .before .before .before .before .before .before .before .before .before .before .before .before .before .before .before .before .before .before))),
-    (
-      (good-pop ((c .before .before .before .before .before .before .before .before .before .before .before .before .before .before .before .before .before .before .before .before .before) .args .width) ((c .before .before .before .before .before .before .before .before .before .before .before .before .before .before .before .before .before .before .before .before .before) .args .i) (dec ((c .before .before .before .before .before .before .before .before .before .before .before .before .before .before .before .before .before .before .before .before .before) .args .width) ((c .before .before .before .before .before .before .before .before .before .before .before .before .before .before .before .before .before .before .before .before .before) .args .p .now)) (fit-x (((c .before .before .before .before .before .before .before .before .before .before .before .before .before .before .before .before .before .before .before .before .before) .pre .1 .1 .0) .fit) .good) .0),
-      subst (λ h. Space ((c .before .before .before .before .before .before .before .before .before .before .before .before .before .before .before .before .before .before .before .before .before) .args .width) (lower (((c .before .before .before .before .before .before .before .before .before .before .before .before .before .before .before .before .before .before .before .before .before) .args .i) - 1) (dec ((c .before .before .before .before .before .before .before .before .before .before .before .before .before .before .before .before .before .before .before .before .before) .args .width) ((c .before .before .before .before .before .before .before .before .before .before .before .before .before .before .before .before .before .before .before .before .before) .args .p .now))) h (length (take (length (putMid 1 (length ((c .before .before .before .before .before .before .before .before .before .before .before .before .before .before .before .before .before .before .before .before .before) .args .out .now) - 1) ((c .before .before .before .before .before .before .before .before .before .before .before .before .before .before .before .before .before .before .before .before .before) .args .out .now) ((c .before .before .before .before .before .before .before .before .before .before .mul-pop) .last .1 .1 .1 .1 .0)) - (1 + ((c .before .before .before .before .before .before .before .before .before .before .mul-pop) .result))) (drop (1 + ((c .before .before .before .before .before .before .before .before .before .before .mul-pop) .result)) (putMid 1 (length ((c .before .before .before .before .before .before .before .before .before .before .before .before .before .before .before .before .before .before .before .before .before) .args .out .now) - 1) ((c .before .before .before .before .before .before .before .before .before .before .before .before .before .before .before .before .before .before .before .before .before) .args .out .now) ((c .before .before .before .before .before .before .before .before .before .before .mul-pop) .last .1 .1 .1 .1 .0))))) (length ((c .before .before .before .before .before .before .before .before .before .before .mul-pop) .last .1 .1 .1 .1 .1 .0)) (length ((c .before .before .before .before .before .before .before .before .before .before .mul-pop) .last .1 .1 .1 .1 .1 .1 .0))) (sym (dec-enc (right·mul-pop-pow t (c .before .before .before .before .before .before .before .before .before .before .before .before .before .before .before .before .before .before .before .before .before))))
-          (space-at (rest·mul-pop-pow t (c .before .before .before .before .before)) (sym ((c .before .before .before .before .before .before .before .before .before .before .mul-pop) .kept .1 .1 .1 .1 .1 .0)) (sym ((c .before .before .before .before .before .before .before .before .before .before .mul-pop) .kept .1 .1 .1 .1 .1 .1 .0)) (space-lower ((c .before .before .before .before .before .before .before .before .before .before .before .before .before .before .before .before .before .before .before .before .before) .args .i) ((is-pow·mul-pop-pow t (c .before .before .before .before .before .before .before .before .before .before .before .before .before .before .before .before .before .before .before .before .before)) .i) (dec ((c .before .before .before .before .before .before .before .before .before .before .before .before .before .before .before .before .before .before .before .before .before) .args .width) ((c .before .before .before .before .before .before .before .before .before .before .before .before .before .before .before .before .before .before .before .before .before) .args .p .now)) ((is-pow·mul-pop-pow t (c .before .before .before .before .before .before .before .before .before .before .before .before .before .before .before .before .before .before .before .before .before)) .p) ((is-pow·mul-pop-pow t (c .before .before .before .before .before .before .before .before .before .before .before .before .before .before .before .before .before .before .before .before .before)) .q) (space-pow·mul-pop-pow t (c .before .before .before .before .before .before .before .before .before .before .before .before .before .before .before .before .before .before .before .before .before)) ((c .before .before .before .before .before .before .before .before .before .before .mul-pop) .result) (few-a·mul-pop-pow t (c .before .before .before .before .before)))),
-    ),
-  ),
-)
-
--- src/lib.rt:178:5
-mul-pop-pow-make-pow-requires : (t : ℕ) → mul-pop-pow-lts.Need-make-pow-requires (mul-pop-below t, mul-pop.Post, mul-less-below t, mul-less.Post, make-pow-reads.Asked, make-pow-reads.Learnt) (mul-pop-pow-at t) mul-pop-pow.Post
-mul-pop-pow-make-pow-requires t c κs = (
-  (
-    omega (arith, begins-le (ens2·mul-pop-pow t (c .before .before)), (c .before .before .before .before .before .before .before .mul-less) .kept .1 .1 .1 .1 .0, length-tail-part (1 + ((c .before .before .before .before .before .before .before .before .before .before .before .before .before .before .before .before .before .before .mul-pop) .result)) (putMid 1 (length ((c .before .before .before .before .before .before .before .before .before .before .before .before .before .before .before .before .before .before .before .before .before .before .before .before .before .before .before .before .before) .args .out .now) - 1) ((c .before .before .before .before .before .before .before .before .before .before .before .before .before .before .before .before .before .before .before .before .before .before .before .before .before .before .before .before .before) .args .out .now) ((c .before .before .before .before .before .before .before .before .before .before .before .before .before .before .before .before .before .before .mul-pop) .last .1 .1 .1 .1 .0)), a-size·mul-pop-pow t (c .before .before .before .before .before .before .before .before .before .before .before .before .before), (c .before .before .before .before .before .before .out2) .given .1),
-    omega (arith, ((c .before .before .before .before .before .before .before .before .before .before .before .before .before .before .before .before .before .before .before .before .before .before .before .before .before .before .before .before .before) .pre .1 .1 .0) .tables, (c .before .before .before .before .before .before .before .before .before .before .before .before .before .before .before .before .before .out) .given .1, (c .before .before .before .before .before .before .out2) .given .1),
-  ),
-  (
-    (coded (kept-a·mul-pop-pow t (c .before .before)), coded (made-b·mul-pop-pow t (c .before .before))),
-    (omega (arith, (is-pow·mul-pop-pow t (c .before .before .before .before .before .before .before .before .before .before .before .before .before .before .before .before .before .before .before .before .before .before .before .before .before .before .before .before .before))), mkpow-good (kept-a·mul-pop-pow t (c .before .before)) (made-b·mul-pop-pow t (c .before .before)) ((getD ((c .before .before .before .before .before .before .before .before .before .before .before .before .before .before .before .before .before .before .before .before .before .before .before .before .before .before .before .before .before) .args .y .now) 0 0) % 64) (subst (Good ((c .before .before .before .before .before .before .before .before .before .before .before .before .before .before .before .before .before .before .before .before .before .before .before .before .before .before .before .before .before) .args .width)) (times-is·mul-pop-pow t (c .before .before .before .before .before .before .before .before .before .before .before .before .before .before .before .before .before .before .before .before .before .before .before .before .before .before .before .before .before)) (fit-prod (((c .before .before .before .before .before .before .before .before .before .before .before .before .before .before .before .before .before .before .before .before .before .before .before .before .before .before .before .before .before) .pre .1 .1 .0) .fit) .good))),
-  ),
-)
-
--- src/lib.rt:158:1
-mul-pop-pow-same-length : (t : ℕ) → mul-pop-pow-lts.Need-same-length (mul-pop-below t, mul-pop.Post, mul-less-below t, mul-less.Post, make-pow-reads.Asked, make-pow-reads.Learnt) (mul-pop-pow-at t) mul-pop-pow.Post
-mul-pop-pow-same-length t c = search needs
-
--- src/lib.rt:158:1
-mul-pop-pow-same-length-2 : (t : ℕ) → mul-pop-pow-lts.Need-same-length-2 (mul-pop-below t, mul-pop.Post, mul-less-below t, mul-less.Post, make-pow-reads.Asked, make-pow-reads.Learnt) (mul-pop-pow-at t) mul-pop-pow.Post
-mul-pop-pow-same-length-2 t c = search needs
-
--- src/lib.rt:158:1
-mul-pop-pow-same-length-3 : (t : ℕ) → mul-pop-pow-lts.Need-same-length-3 (mul-pop-below t, mul-pop.Post, mul-less-below t, mul-less.Post, make-pow-reads.Asked, make-pow-reads.Learnt) (mul-pop-pow-at t) mul-pop-pow.Post
-mul-pop-pow-same-length-3 t c = search needs
-
--- src/lib.rt:158:1
-mul-pop-pow-returns : (t : ℕ) → mul-pop-pow-lts.Need-returns (mul-pop-below t, mul-pop.Post, mul-less-below t, mul-less.Post, make-pow-reads.Asked, make-pow-reads.Learnt) (mul-pop-pow-at t) mul-pop-pow.Post
-mul-pop-pow-returns t c = begins-as ((c .before .before .make-pow) .ensures) (mkpow-enc (kept-a·mul-pop-pow t (c .before .before .before .before .before)) (made-b·mul-pop-pow t (c .before .before .before .before .before)) ((getD ((c .before .before .before .before .before .before .before .before .before .before .before .before .before .before .before .before .before .before .before .before .before .before .before .before .before .before .before .before .before .before .before .before) .args .y .now) 0 0) % 64) ∙ ap (enc ((c .before .before .before .before .before .before .before .before .before .before .before .before .before .before .before .before .before .before .before .before .before .before .before .before .before .before .before .before .before .before .before .before) .args .width)) (sym (times-is·mul-pop-pow t (c .before .before .before .before .before .before .before .before .before .before .before .before .before .before .before .before .before .before .before .before .before .before .before .before .before .before .before .before .before .before .before .before))))
-
--- src/lib.rt:128:38
-mul-pops-sub-product : (t : ℕ) → mul-pops-lts.Need-sub-product (product-below t, product.Post, make-pop-reads.Asked, make-pop-reads.Learnt, mul-pops-gt-below t, mul-pops-gt.Post) (mul-pops-at t) mul-pops.Post
-mul-pops-sub-product t c = omega (arith, ((c .before .before .before .before .before .before) .pre .1 .1) .tables)
-
--- src/lib.rt:128:38
-mul-pops-part-product-start : (t : ℕ) → mul-pops-lts.Need-part-product-start (product-below t, product.Post, make-pop-reads.Asked, make-pop-reads.Learnt, mul-pops-gt-below t, mul-pops-gt.Post) (mul-pops-at t) mul-pops.Post
-mul-pops-part-product-start t c = omega (arith, ((c .before .before .before .before .before .before) .pre .1 .1) .tables)
-
--- src/lib.rt:128:38
-mul-pops-part-product-end : (t : ℕ) → mul-pops-lts.Need-part-product-end (product-below t, product.Post, make-pop-reads.Asked, make-pop-reads.Learnt, mul-pops-gt-below t, mul-pops-gt.Post) (mul-pops-at t) mul-pops.Post
-mul-pops-part-product-end t c = search needs
-
--- src/lib.rt:128:13
-mul-pops-product-requires : (t : ℕ) → mul-pops-lts.Need-product-requires (product-below t, product.Post, make-pop-reads.Asked, make-pop-reads.Learnt, mul-pops-gt-below t, mul-pops-gt.Post) (mul-pops-at t) mul-pops.Post
-mul-pops-product-requires t c κs = (omega (arith, ((c .before .before .before .before .before .before .before .before .before) .pre .0)), ((((c .before .before .before .before .before .before .before .before .before) .pre .1 .0 .0), ((c .before .before .before .before .before .before .before .before .before) .pre .1 .0 .1)), space-at (sym (length-tail-part 1 ((c .before .before .before .before .before .before .before .before .before) .args .out .now))) refl refl (space-pops ((c .before .before .before .before .before .before .before .before .before) .args .i) ((c .before .before .before .before .before .before .before .before .before) .args .j) (dec ((c .before .before .before .before .before .before .before .before .before) .args .width) ((c .before .before .before .before .before .before .before .before .before) .args .p .now)) (dec ((c .before .before .before .before .before .before .before .before .before) .args .width) ((c .before .before .before .before .before .before .before .before .before) .args .q .now)) ((c .before .before .before .before .before .before .before .before .before) .pre .1 .1) ((c .before .before .before .if1) .taken))))
-
--- src/lib.rt:129:9
-mul-pops-make-pop-requires : (t : ℕ) → mul-pops-lts.Need-make-pop-requires (product-below t, product.Post, make-pop-reads.Asked, make-pop-reads.Learnt, mul-pops-gt-below t, mul-pops-gt.Post) (mul-pops-at t) mul-pops.Post
-mul-pops-make-pop-requires t c κs = (
-  omega (arith, begins-le ((c .before .before .before .before .before .before .before .product) .ensures), (c .before .before .before .before .before .before .before .product) .kept .1 .1 .1 .0, length-tail-part 1 ((c .before .before .before .before .before .before .before .before .before .before .before .before .before .before .before .before .before) .args .out .now), (c .before .before .before .before .before .before .out) .given .1, ((c .before .before .before .before .before .before .before .before .before .before .before .before .before .before .before .before .before) .pre .1 .1) .tables),
-  (
-    coded (made·mul-pops t (c .before .before .before .before .before .before)),
-    (good-pop ((c .before .before .before .before .before .before .before .before .before .before .before .before .before .before .before .before .before) .args .width) ((c .before .before .before .before .before .before .before .before .before .before .before .before .before .before .before .before .before) .args .i) (dec ((c .before .before .before .before .before .before .before .before .before .before .before .before .before .before .before .before .before) .args .width) ((c .before .before .before .before .before .before .before .before .before .before .before .before .before .before .before .before .before) .args .p .now)) (fit-x (((c .before .before .before .before .before .before .before .before .before .before .before .before .before .before .before .before .before) .pre .1 .1) .fit) .good) .0, mkpop-good (made·mul-pops t (c .before .before .before .before .before .before)) ((c .before .before .before .before .before .before .before .before .before .before .before .before .before .before .before .before .before) .args .i) (subst (Good ((c .before .before .before .before .before .before .before .before .before .before .before .before .before .before .before .before .before) .args .width)) (pops-eq ((c .before .before .before .before .before .before .before .before .before .before .before .before .before .before .before .before .before) .args .width) ((c .before .before .before .before .before .before .before .before .before .before .before .before .before .before .before .before .before) .args .i) ((c .before .before .before .before .before .before .before .before .before .before .before .before .before .before .before .before .before) .args .j) (dec ((c .before .before .before .before .before .before .before .before .before .before .before .before .before .before .before .before .before) .args .width) ((c .before .before .before .before .before .before .before .before .before .before .before .before .before .before .before .before .before) .args .p .now)) (dec ((c .before .before .before .before .before .before .before .before .before .before .before .before .before .before .before .before .before) .args .width) ((c .before .before .before .before .before .before .before .before .before .before .before .before .before .before .before .before .before) .args .q .now)) ((c .before .before .before .before .before .before .before .before .before .before .before .if1) .taken)) (fit-prod (((c .before .before .before .before .before .before .before .before .before .before .before .before .before .before .before .before .before) .pre .1 .1) .fit) .good))),
-  ),
-)
-
--- src/lib.rt:129:9
-mul-pops-same-length : (t : ℕ) → mul-pops-lts.Need-same-length (product-below t, product.Post, make-pop-reads.Asked, make-pop-reads.Learnt, mul-pops-gt-below t, mul-pops-gt.Post) (mul-pops-at t) mul-pops.Post
-mul-pops-same-length t c = search needs
-
--- src/lib.rt:129:9
-mul-pops-same-length-2 : (t : ℕ) → mul-pops-lts.Need-same-length-2 (product-below t, product.Post, make-pop-reads.Asked, make-pop-reads.Learnt, mul-pops-gt-below t, mul-pops-gt.Post) (mul-pops-at t) mul-pops.Post
-mul-pops-same-length-2 t c = search needs
-
--- src/lib.rt:129:9
-mul-pops-same-length-3 : (t : ℕ) → mul-pops-lts.Need-same-length-3 (product-below t, product.Post, make-pop-reads.Asked, make-pop-reads.Learnt, mul-pops-gt-below t, mul-pops-gt.Post) (mul-pops-at t) mul-pops.Post
-mul-pops-same-length-3 t c = search needs
-
--- src/lib.rt:129:9
-mul-pops-returns : (t : ℕ) → mul-pops-lts.Need-returns (product-below t, product.Post, make-pop-reads.Asked, make-pop-reads.Learnt, mul-pops-gt-below t, mul-pops-gt.Post) (mul-pops-at t) mul-pops.Post
-mul-pops-returns t c = begins-as ((c .before .before .make-pop) .ensures) (mkpop-enc (made·mul-pops t (c .before .before .before .before .before .before .before .before .before)) ((c .before .before .before .before .before .before .before .before .before .before .before .before .before .before .before .before .before .before .before .before) .args .i) ∙ ap (enc ((c .before .before .before .before .before .before .before .before .before .before .before .before .before .before .before .before .before .before .before .before) .args .width)) (sym (pops-eq ((c .before .before .before .before .before .before .before .before .before .before .before .before .before .before .before .before .before .before .before .before) .args .width) ((c .before .before .before .before .before .before .before .before .before .before .before .before .before .before .before .before .before .before .before .before) .args .i) ((c .before .before .before .before .before .before .before .before .before .before .before .before .before .before .before .before .before .before .before .before) .args .j) (dec ((c .before .before .before .before .before .before .before .before .before .before .before .before .before .before .before .before .before .before .before .before) .args .width) ((c .before .before .before .before .before .before .before .before .before .before .before .before .before .before .before .before .before .before .before .before) .args .p .now)) (dec ((c .before .before .before .before .before .before .before .before .before .before .before .before .before .before .before .before .before .before .before .before) .args .width) ((c .before .before .before .before .before .before .before .before .before .before .before .before .before .before .before .before .before .before .before .before) .args .q .now)) ((c .before .before .before .before .before .before .before .before .before .before .before .before .before .before .if1) .taken))))
-
--- src/lib.rt:132:9
-mul-pops-mul-pops-gt-requires : (t : ℕ) → mul-pops-lts.Need-mul-pops-gt-requires (product-below t, product.Post, make-pop-reads.Asked, make-pop-reads.Learnt, mul-pops-gt-below t, mul-pops-gt.Post) (mul-pops-at t) mul-pops.Post
-mul-pops-mul-pops-gt-requires t c κs = (omega (arith, ((c .before .before .before .before .before .before .before .before .before .before) .pre .0)), ((((c .before .before .before .before .before .before .before .before .before .before) .pre .1 .0 .0), ((c .before .before .before .before .before .before .before .before .before .before) .pre .1 .0 .1)), (((c .before .before .before .before .before .before .before .before .before .before) .pre .1 .1), (c .before .before .before .if2) .taken)))
-
--- src/lib.rt:132:9
-mul-pops-same-length-4 : (t : ℕ) → mul-pops-lts.Need-same-length-4 (product-below t, product.Post, make-pop-reads.Asked, make-pop-reads.Learnt, mul-pops-gt-below t, mul-pops-gt.Post) (mul-pops-at t) mul-pops.Post
-mul-pops-same-length-4 t c = search needs
-
--- src/lib.rt:132:9
-mul-pops-same-length-5 : (t : ℕ) → mul-pops-lts.Need-same-length-5 (product-below t, product.Post, make-pop-reads.Asked, make-pop-reads.Learnt, mul-pops-gt-below t, mul-pops-gt.Post) (mul-pops-at t) mul-pops.Post
-mul-pops-same-length-5 t c = search needs
-
--- src/lib.rt:132:9
-mul-pops-same-length-6 : (t : ℕ) → mul-pops-lts.Need-same-length-6 (product-below t, product.Post, make-pop-reads.Asked, make-pop-reads.Learnt, mul-pops-gt-below t, mul-pops-gt.Post) (mul-pops-at t) mul-pops.Post
-mul-pops-same-length-6 t c = search needs
-
--- src/lib.rt:132:9
-mul-pops-returns-2 : (t : ℕ) → mul-pops-lts.Need-returns-2 (product-below t, product.Post, make-pop-reads.Asked, make-pop-reads.Learnt, mul-pops-gt-below t, mul-pops-gt.Post) (mul-pops-at t) mul-pops.Post
-mul-pops-returns-2 t c = (c .before .before .before .before .before .before .mul-pops-gt) .ensures
-
--- src/lib.rt:134:5
-mul-pops-mul-pops-gt-requires-2 : (t : ℕ) → mul-pops-lts.Need-mul-pops-gt-requires-2 (product-below t, product.Post, make-pop-reads.Asked, make-pop-reads.Learnt, mul-pops-gt-below t, mul-pops-gt.Post) (mul-pops-at t) mul-pops.Post
-mul-pops-mul-pops-gt-requires-2 t c κs = (omega (arith, ((c .before .before .before .before .before .before .before .before .before .before) .pre .0)), ((((c .before .before .before .before .before .before .before .before .before .before) .pre .1 .0 .1), ((c .before .before .before .before .before .before .before .before .before .before) .pre .1 .0 .0)), (pop-space-sym ((c .before .before .before .before .before .before .before .before .before .before) .pre .1 .1), omega (arith, (c .before .before .before .before .if1) .left, (c .before .before .before .if2) .left))))
-
--- src/lib.rt:113:1
-mul-pops-same-length-7 : (t : ℕ) → mul-pops-lts.Need-same-length-7 (product-below t, product.Post, make-pop-reads.Asked, make-pop-reads.Learnt, mul-pops-gt-below t, mul-pops-gt.Post) (mul-pops-at t) mul-pops.Post
-mul-pops-same-length-7 t c = search needs
-
--- src/lib.rt:113:1
-mul-pops-same-length-8 : (t : ℕ) → mul-pops-lts.Need-same-length-8 (product-below t, product.Post, make-pop-reads.Asked, make-pop-reads.Learnt, mul-pops-gt-below t, mul-pops-gt.Post) (mul-pops-at t) mul-pops.Post
-mul-pops-same-length-8 t c = search needs
-
--- src/lib.rt:113:1
-mul-pops-same-length-9 : (t : ℕ) → mul-pops-lts.Need-same-length-9 (product-below t, product.Post, make-pop-reads.Asked, make-pop-reads.Learnt, mul-pops-gt-below t, mul-pops-gt.Post) (mul-pops-at t) mul-pops.Post
-mul-pops-same-length-9 t c = search needs
-
--- src/lib.rt:113:1
-mul-pops-returns-3 : (t : ℕ) → mul-pops-lts.Need-returns-3 (product-below t, product.Post, make-pop-reads.Asked, make-pop-reads.Learnt, mul-pops-gt-below t, mul-pops-gt.Post) (mul-pops-at t) mul-pops.Post
-mul-pops-returns-3 t c =
-    let k : ((c .before .before .before .before .before .before .before .before .before .before .before .before .before .before .before .before .before) .args .i) < ((c .before .before .before .before .before .before .before .before .before .before .before .before .before .before .before .before .before) .args .j) = omega (arith, (c .before .before .before .before .before .before .before .before .before .before .before .if1) .left, (c .before .before .before .before .before .before .before .before .before .before .if2) .left) in
-    begins-as ((c .before .before .before .before .before .before .mul-pops-gt2) .ensures) (ap (enc ((c .before .before .before .before .before .before .before .before .before .before .before .before .before .before .before .before .before) .args .width)) (pops-gt ((c .before .before .before .before .before .before .before .before .before .before .before .before .before .before .before .before .before) .args .width) ((c .before .before .before .before .before .before .before .before .before .before .before .before .before .before .before .before .before) .args .j) ((c .before .before .before .before .before .before .before .before .before .before .before .before .before .before .before .before .before) .args .i) (dec ((c .before .before .before .before .before .before .before .before .before .before .before .before .before .before .before .before .before) .args .width) ((c .before .before .before .before .before .before .before .before .before .before .before .before .before .before .before .before .before) .args .q .now)) (dec ((c .before .before .before .before .before .before .before .before .before .before .before .before .before .before .before .before .before) .args .width) ((c .before .before .before .before .before .before .before .before .before .before .before .before .before .before .before .before .before) .args .p .now)) k ∙ sym (pops-lt ((c .before .before .before .before .before .before .before .before .before .before .before .before .before .before .before .before .before) .args .width) ((c .before .before .before .before .before .before .before .before .before .before .before .before .before .before .before .before .before) .args .i) ((c .before .before .before .before .before .before .before .before .before .before .before .before .before .before .before .before .before) .args .j) (dec ((c .before .before .before .before .before .before .before .before .before .before .before .before .before .before .before .before .before) .args .width) ((c .before .before .before .before .before .before .before .before .before .before .before .before .before .before .before .before .before) .args .p .now)) (dec ((c .before .before .before .before .before .before .before .before .before .before .before .before .before .before .before .before .before) .args .width) ((c .before .before .before .before .before .before .before .before .before .before .before .before .before .before .before .before .before) .args .q .now)) k)))
-
--- src/lib.rt:153:28
-mul-pops-gt-sub-mul-pop : (t : ℕ) → mul-pops-gt-lts.Need-sub-mul-pop (mul-pop-below t, mul-pop.Post, make-pop-reads.Asked, make-pop-reads.Learnt) (mul-pops-gt-at t) mul-pops-gt.Post
-mul-pops-gt-sub-mul-pop t c = omega (arith, ((c .before .before .before .before .before) .pre .1 .1 .1))
-
--- src/lib.rt:153:41
-mul-pops-gt-sub-mul-pop-2 : (t : ℕ) → mul-pops-gt-lts.Need-sub-mul-pop-2 (mul-pop-below t, mul-pop.Post, make-pop-reads.Asked, make-pop-reads.Learnt) (mul-pops-gt-at t) mul-pops-gt.Post
-mul-pops-gt-sub-mul-pop-2 t c = omega (arith, ((c .before .before .before .before .before) .pre .1 .1 .0) .tables)
-
--- src/lib.rt:153:41
-mul-pops-gt-part-mul-pop-start : (t : ℕ) → mul-pops-gt-lts.Need-part-mul-pop-start (mul-pop-below t, mul-pop.Post, make-pop-reads.Asked, make-pop-reads.Learnt) (mul-pops-gt-at t) mul-pops-gt.Post
-mul-pops-gt-part-mul-pop-start t c = omega (arith, ((c .before .before .before .before .before) .pre .1 .1 .0) .tables)
-
--- src/lib.rt:153:41
-mul-pops-gt-part-mul-pop-end : (t : ℕ) → mul-pops-gt-lts.Need-part-mul-pop-end (mul-pop-below t, mul-pop.Post, make-pop-reads.Asked, make-pop-reads.Learnt) (mul-pops-gt-at t) mul-pops-gt.Post
-mul-pops-gt-part-mul-pop-end t c = search needs
-
--- src/lib.rt:153:9
-mul-pops-gt-mul-pop-requires : (t : ℕ) → mul-pops-gt-lts.Need-mul-pop-requires (mul-pop-below t, mul-pop.Post, make-pop-reads.Asked, make-pop-reads.Learnt) (mul-pops-gt-at t) mul-pops-gt.Post
-mul-pops-gt-mul-pop-requires t c κs = (omega (arith, ((c .before .before .before .before .before .before .before .before) .pre .0)), ((((c .before .before .before .before .before .before .before .before) .pre .1 .0 .0), ((c .before .before .before .before .before .before .before .before) .pre .1 .0 .1)), pop-space-at (sym (length-tail-part 1 ((c .before .before .before .before .before .before .before .before) .args .out .now))) refl refl (space-pops-gt ((c .before .before .before .before .before .before .before .before) .args .i) ((c .before .before .before .before .before .before .before .before) .args .j) (dec ((c .before .before .before .before .before .before .before .before) .args .width) ((c .before .before .before .before .before .before .before .before) .args .p .now)) (dec ((c .before .before .before .before .before .before .before .before) .args .width) ((c .before .before .before .before .before .before .before .before) .args .q .now)) ((c .before .before .before .before .before .before .before .before) .pre .1 .1 .0) ((c .before .before .before .before .before .before .before .before) .pre .1 .1 .1))))
-
--- src/lib.rt:154:5
-mul-pops-gt-make-pop-requires : (t : ℕ) → mul-pops-gt-lts.Need-make-pop-requires (mul-pop-below t, mul-pop.Post, make-pop-reads.Asked, make-pop-reads.Learnt) (mul-pops-gt-at t) mul-pops-gt.Post
-mul-pops-gt-make-pop-requires t c κs = (
-  omega (arith, begins-le ((c .before .before .before .before .before .before .before .mul-pop) .ensures), (c .before .before .before .before .before .before .before .mul-pop) .kept .1 .1 .1 .1 .0, length-tail-part 1 ((c .before .before .before .before .before .before .before .before .before .before .before .before .before .before .before .before) .args .out .now), (c .before .before .before .before .before .before .out) .given .1, ((c .before .before .before .before .before .before .before .before .before .before .before .before .before .before .before .before) .pre .1 .1 .0) .tables),
-  (
-    coded (made·mul-pops-gt t (c .before .before .before .before .before .before)),
-    (good-pop ((c .before .before .before .before .before .before .before .before .before .before .before .before .before .before .before .before) .args .width) ((c .before .before .before .before .before .before .before .before .before .before .before .before .before .before .before .before) .args .j) (dec ((c .before .before .before .before .before .before .before .before .before .before .before .before .before .before .before .before) .args .width) ((c .before .before .before .before .before .before .before .before .before .before .before .before .before .before .before .before) .args .q .now)) (fit-y (((c .before .before .before .before .before .before .before .before .before .before .before .before .before .before .before .before) .pre .1 .1 .0) .fit) .good) .0, mkpop-good (made·mul-pops-gt t (c .before .before .before .before .before .before)) ((c .before .before .before .before .before .before .before .before .before .before .before .before .before .before .before .before) .args .j) (subst (Good ((c .before .before .before .before .before .before .before .before .before .before .before .before .before .before .before .before) .args .width)) (pops-gt ((c .before .before .before .before .before .before .before .before .before .before .before .before .before .before .before .before) .args .width) ((c .before .before .before .before .before .before .before .before .before .before .before .before .before .before .before .before) .args .i) ((c .before .before .before .before .before .before .before .before .before .before .before .before .before .before .before .before) .args .j) (dec ((c .before .before .before .before .before .before .before .before .before .before .before .before .before .before .before .before) .args .width) ((c .before .before .before .before .before .before .before .before .before .before .before .before .before .before .before .before) .args .p .now)) (dec ((c .before .before .before .before .before .before .before .before .before .before .before .before .before .before .before .before) .args .width) ((c .before .before .before .before .before .before .before .before .before .before .before .before .before .before .before .before) .args .q .now)) ((c .before .before .before .before .before .before .before .before .before .before .before .before .before .before .before .before) .pre .1 .1 .1)) (fit-prod (((c .before .before .before .before .before .before .before .before .before .before .before .before .before .before .before .before) .pre .1 .1 .0) .fit) .good))),
-  ),
-)
-
--- src/lib.rt:138:1
-mul-pops-gt-same-length : (t : ℕ) → mul-pops-gt-lts.Need-same-length (mul-pop-below t, mul-pop.Post, make-pop-reads.Asked, make-pop-reads.Learnt) (mul-pops-gt-at t) mul-pops-gt.Post
-mul-pops-gt-same-length t c = search needs
-
--- src/lib.rt:138:1
-mul-pops-gt-same-length-2 : (t : ℕ) → mul-pops-gt-lts.Need-same-length-2 (mul-pop-below t, mul-pop.Post, make-pop-reads.Asked, make-pop-reads.Learnt) (mul-pops-gt-at t) mul-pops-gt.Post
-mul-pops-gt-same-length-2 t c = search needs
-
--- src/lib.rt:138:1
-mul-pops-gt-same-length-3 : (t : ℕ) → mul-pops-gt-lts.Need-same-length-3 (mul-pop-below t, mul-pop.Post, make-pop-reads.Asked, make-pop-reads.Learnt) (mul-pops-gt-at t) mul-pops-gt.Post
-mul-pops-gt-same-length-3 t c = search needs
-
--- src/lib.rt:138:1
-mul-pops-gt-returns : (t : ℕ) → mul-pops-gt-lts.Need-returns (mul-pop-below t, mul-pop.Post, make-pop-reads.Asked, make-pop-reads.Learnt) (mul-pops-gt-at t) mul-pops-gt.Post
-mul-pops-gt-returns t c = begins-as ((c .before .before .make-pop) .ensures) (mkpop-enc (made·mul-pops-gt t (c .before .before .before .before .before .before .before .before .before)) ((c .before .before .before .before .before .before .before .before .before .before .before .before .before .before .before .before .before .before .before) .args .j) ∙ ap (enc ((c .before .before .before .before .before .before .before .before .before .before .before .before .before .before .before .before .before .before .before) .args .width)) (sym (pops-gt ((c .before .before .before .before .before .before .before .before .before .before .before .before .before .before .before .before .before .before .before) .args .width) ((c .before .before .before .before .before .before .before .before .before .before .before .before .before .before .before .before .before .before .before) .args .i) ((c .before .before .before .before .before .before .before .before .before .before .before .before .before .before .before .before .before .before .before) .args .j) (dec ((c .before .before .before .before .before .before .before .before .before .before .before .before .before .before .before .before .before .before .before) .args .width) ((c .before .before .before .before .before .before .before .before .before .before .before .before .before .before .before .before .before .before .before) .args .p .now)) (dec ((c .before .before .before .before .before .before .before .before .before .before .before .before .before .before .before .before .before .before .before) .args .width) ((c .before .before .before .before .before .before .before .before .before .before .before .before .before .before .before .before .before .before .before) .args .q .now)) ((c .before .before .before .before .before .before .before .before .before .before .before .before .before .before .before .before .before .before .before) .pre .1 .1 .1))))
-
--- src/lib.rt:209:13
-mul-pow-shared-slice-read-w : (t : ℕ) → mul-pow-lts.Need-shared-slice-read-w (scale-reads.Asked, scale-reads.Learnt, mul-pop-pow-below t, mul-pop-pow.Post, mul-pows-below t, mul-pows.Post) (mul-pow-at t) mul-pow.Post
-mul-pow-shared-slice-read-w t c = omega (arith, some ((c .before .before .before .before .before .before) .pre .1 .0 .1))
-
--- src/lib.rt:211:9
-mul-pow-scale-requires : (t : ℕ) → mul-pow-lts.Need-scale-requires (scale-reads.Asked, scale-reads.Learnt, mul-pop-pow-below t, mul-pop-pow.Post, mul-pows-below t, mul-pows.Post) (mul-pow-at t) mul-pow.Post
-mul-pow-scale-requires t c κs = ((int-view ((c .before .before .before .before .before .before .before .before) .pre .1 .0 .1) ((c .before .if1) .taken)) .below, (((c .before .before .before .before .before .before .before .before) .pre .1 .0 .0), omega (arith, ((c .before .before .before .before .before .before .before .before) .pre .1 .1 .0) .tables, codes-length ((c .before .before .before .before .before .before .before .before) .pre .1 .0 .0), fit-x (((c .before .before .before .before .before .before .before .before) .pre .1 .1 .0) .fit) .words)))
-
--- src/lib.rt:211:9
-mul-pow-same-length : (t : ℕ) → mul-pow-lts.Need-same-length (scale-reads.Asked, scale-reads.Learnt, mul-pop-pow-below t, mul-pop-pow.Post, mul-pows-below t, mul-pows.Post) (mul-pow-at t) mul-pow.Post
-mul-pow-same-length t c = search needs
-
--- src/lib.rt:211:9
-mul-pow-returns : (t : ℕ) → mul-pow-lts.Need-returns (scale-reads.Asked, scale-reads.Learnt, mul-pop-pow-below t, mul-pop-pow.Post, mul-pows-below t, mul-pows.Post) (mul-pow-at t) mul-pow.Post
-mul-pow-returns t c = begins-as ((c .before .before .scale) .ensures) (times-int (int-view ((c .before .before .before .before .before .before .before .before .before .before .before) .pre .1 .0 .1) ((c .before .before .before .before .if1) .taken)) (dec ((c .before .before .before .before .before .before .before .before .before .before .before) .args .width) ((c .before .before .before .before .before .before .before .before .before .before .before) .args .x .now)))
-
--- src/lib.rt:213:13
-mul-pow-cast-k : (t : ℕ) → mul-pow-lts.Need-cast-k (scale-reads.Asked, scale-reads.Learnt, mul-pop-pow-below t, mul-pop-pow.Post, mul-pows-below t, mul-pows.Post) (mul-pow-at t) mul-pow.Post
-mul-pow-cast-k t c = omega (arith, (c .before .shared-slice-known3) .given 0)
-
--- src/lib.rt:215:43
-mul-pow-sub-mul-pop-pow : (t : ℕ) → mul-pow-lts.Need-sub-mul-pop-pow (scale-reads.Asked, scale-reads.Learnt, mul-pop-pow-below t, mul-pop-pow.Post, mul-pows-below t, mul-pows.Post) (mul-pow-at t) mul-pow.Post
-mul-pow-sub-mul-pop-pow t c = omega (arith, is-pop·mul-pow t c)
-
--- src/lib.rt:215:43
-mul-pow-part-mul-pop-pow-start : (t : ℕ) → mul-pow-lts.Need-part-mul-pop-pow-start (scale-reads.Asked, scale-reads.Learnt, mul-pop-pow-below t, mul-pop-pow.Post, mul-pows-below t, mul-pows.Post) (mul-pow-at t) mul-pow.Post
-mul-pow-part-mul-pop-pow-start t c = omega (arith, is-pop·mul-pow t c)
-
--- src/lib.rt:215:43
-mul-pow-part-mul-pop-pow-end : (t : ℕ) → mul-pow-lts.Need-part-mul-pop-pow-end (scale-reads.Asked, scale-reads.Learnt, mul-pop-pow-below t, mul-pop-pow.Post, mul-pows-below t, mul-pows.Post) (mul-pow-at t) mul-pow.Post
-mul-pow-part-mul-pop-pow-end t c = search needs
-
--- src/lib.rt:215:9
-mul-pow-mul-pop-pow-requires : (t : ℕ) → mul-pow-lts.Need-mul-pop-pow-requires (scale-reads.Asked, scale-reads.Learnt, mul-pop-pow-below t, mul-pop-pow.Post, mul-pows-below t, mul-pows.Post) (mul-pow-at t) mul-pow.Post
-mul-pow-mul-pop-pow-requires t c κs = (
-  omega (arith, codes-length (inner·mul-pow t (c .before .before .before .before)), is-pop·mul-pow t (c .before .before .before .before), ((c .before .before .before .before .before .before .before .before .before .before .before .before) .pre .0)),
-  (
-    (coded (inner·mul-pow t (c .before .before .before .before)), ((c .before .before .before .before .before .before .before .before .before .before .before .before) .pre .1 .0 .0)),
-    (pop-space ((getD ((c .before .before .before .before .before .before .before .before .before .before .before .before) .args .y .now) 0 0) % 64) (dec ((c .before .before .before .before .before .before .before .before .before .before .before .before) .args .width) (take (length ((c .before .before .before .before .before .before .before .before .before .before .before .before) .args .y .now) - 1) (drop 1 ((c .before .before .before .before .before .before .before .before .before .before .before .before) .args .y .now)))) (subst (λ h. Space ((c .before .before .before .before .before .before .before .before .before .before .before .before) .args .width) h (dec ((c .before .before .before .before .before .before .before .before .before .before .before .before) .args .width) ((c .before .before .before .before .before .before .before .before .before .before .before .before) .args .x .now)) (length ((c .before .before .before .before .before .before .before .before .before .before .before .before) .args .out .now)) (length ((c .before .before .before .before .before .before .before .before .before .before .before .before) .args .t .now)) (length ((c .before .before .before .before .before .before .before .before .before .before .before .before) .args .u .now))) (sym (pop-is (is-pop·mul-pow t (c .before .before .before .before)) _ (dec-enc (inner·mul-pow t (c .before .before .before .before))))) (space-sym ((c .before .before .before .before .before .before .before .before .before .before .before .before) .pre .1 .1 .0))), ((c .before .before .before .before .before .before .before .before .before .before .before .before) .pre .1 .1 .1)),
-  ),
-)
-
--- src/lib.rt:215:9
-mul-pow-same-length-2 : (t : ℕ) → mul-pow-lts.Need-same-length-2 (scale-reads.Asked, scale-reads.Learnt, mul-pop-pow-below t, mul-pop-pow.Post, mul-pows-below t, mul-pows.Post) (mul-pow-at t) mul-pow.Post
-mul-pow-same-length-2 t c = search needs
-
--- src/lib.rt:215:9
-mul-pow-same-length-3 : (t : ℕ) → mul-pow-lts.Need-same-length-3 (scale-reads.Asked, scale-reads.Learnt, mul-pop-pow-below t, mul-pop-pow.Post, mul-pows-below t, mul-pows.Post) (mul-pow-at t) mul-pow.Post
-mul-pow-same-length-3 t c = search needs
-
--- src/lib.rt:215:9
-mul-pow-same-length-4 : (t : ℕ) → mul-pow-lts.Need-same-length-4 (scale-reads.Asked, scale-reads.Learnt, mul-pop-pow-below t, mul-pop-pow.Post, mul-pows-below t, mul-pows.Post) (mul-pow-at t) mul-pow.Post
-mul-pow-same-length-4 t c = search needs
-
--- src/lib.rt:215:9
-mul-pow-returns-2 : (t : ℕ) → mul-pow-lts.Need-returns-2 (scale-reads.Asked, scale-reads.Learnt, mul-pop-pow-below t, mul-pop-pow.Post, mul-pows-below t, mul-pows.Post) (mul-pow-at t) mul-pow.Post
-mul-pow-returns-2 t c =
-    begins-as ((c .before .before .before .before .before .before .mul-pop-pow) .ensures)
-    (ap (enc ((c .before .before .before .before .before .before .before .before .before .before .before .before .before .before .before .before .before .before .before) .args .width)) (times-swap (v-pow·mul-pow t (c .before .before .before .before .before .before .before .before .before .before .before .before .before .before .before .before .before .before .before)) ((getD ((c .before .before .before .before .before .before .before .before .before .before .before .before .before .before .before .before .before .before .before) .args .y .now) 0 0) % 64) (dec ((c .before .before .before .before .before .before .before .before .before .before .before .before .before .before .before .before .before .before .before) .args .width) (take (length ((c .before .before .before .before .before .before .before .before .before .before .before .before .before .before .before .before .before .before .before) .args .y .now) - 1) (drop 1 ((c .before .before .before .before .before .before .before .before .before .before .before .before .before .before .before .before .before .before .before) .args .y .now)))) (omega (arith, is-pop·mul-pow t (c .before .before .before .before .before .before .before .before .before .before .before)))) ∙ ap (λ h. enc ((c .before .before .before .before .before .before .before .before .before .before .before .before .before .before .before .before .before .before .before) .args .width) (prodOf ((c .before .before .before .before .before .before .before .before .before .before .before .before .before .before .before .before .before .before .before) .args .width) (dec ((c .before .before .before .before .before .before .before .before .before .before .before .before .before .before .before .before .before .before .before) .args .width) ((c .before .before .before .before .before .before .before .before .before .before .before .before .before .before .before .before .before .before .before) .args .x .now)) h)) (pop-is (is-pop·mul-pow t (c .before .before .before .before .before .before .before .before .before .before .before)) _ (dec-enc (inner·mul-pow t (c .before .before .before .before .before .before .before .before .before .before .before)))))
-
--- src/lib.rt:217:13
-mul-pow-add-f : (t : ℕ) → mul-pow-lts.Need-add-f (scale-reads.Asked, scale-reads.Learnt, mul-pop-pow-below t, mul-pop-pow.Post, mul-pows-below t, mul-pows.Post) (mul-pow-at t) mul-pow.Post
-mul-pow-add-f t c = omega (arith, is-pow·mul-pow t c)
-
--- src/lib.rt:218:13
-mul-pow-shared-slice-read-v : (t : ℕ) → mul-pow-lts.Need-shared-slice-read-v (scale-reads.Asked, scale-reads.Learnt, mul-pop-pow-below t, mul-pop-pow.Post, mul-pows-below t, mul-pows.Post) (mul-pow-at t) mul-pow.Post
-mul-pow-shared-slice-read-v t c = omega (arith, some ((c .before .before .before .before .before .before .before .before .before) .pre .1 .0 .0))
-
--- src/lib.rt:219:15
-mul-pow-sub-c : (t : ℕ) → mul-pow-lts.Need-sub-c (scale-reads.Asked, scale-reads.Learnt, mul-pop-pow-below t, mul-pop-pow.Post, mul-pows-below t, mul-pows.Post) (mul-pow-at t) mul-pow.Post
-mul-pow-sub-c t c = ((c .before .before .before .before .before .before .before .before .before) .pre .1 .1 .1) .node
-
--- src/lib.rt:219:13
-mul-pow-cast-c : (t : ℕ) → mul-pow-lts.Need-cast-c (scale-reads.Asked, scale-reads.Learnt, mul-pop-pow-below t, mul-pop-pow.Post, mul-pows-below t, mul-pows.Post) (mul-pow-at t) mul-pow.Post
-mul-pow-cast-c t c = omega (arith, (c .shared-slice-known4) .given 0)
-
--- src/lib.rt:220:13
-mul-pow-add-e : (t : ℕ) → mul-pow-lts.Need-add-e (scale-reads.Asked, scale-reads.Learnt, mul-pop-pow-below t, mul-pop-pow.Post, mul-pows-below t, mul-pows.Post) (mul-pow-at t) mul-pow.Post
-mul-pow-add-e t c = omega (arith, v-pow·mul-pow t (c .before .before .before .before .before .before .before .before .before))
-
--- src/lib.rt:224:9
-mul-pow-sub-mul-pows : (t : ℕ) → mul-pow-lts.Need-sub-mul-pows (scale-reads.Asked, scale-reads.Learnt, mul-pop-pow-below t, mul-pop-pow.Post, mul-pows-below t, mul-pows.Post) (mul-pow-at t) mul-pow.Post
-mul-pow-sub-mul-pows t c = search needs
-
--- src/lib.rt:224:9
-mul-pow-part-mul-pows-start : (t : ℕ) → mul-pow-lts.Need-part-mul-pows-start (scale-reads.Asked, scale-reads.Learnt, mul-pop-pow-below t, mul-pop-pow.Post, mul-pows-below t, mul-pows.Post) (mul-pow-at t) mul-pow.Post
-mul-pow-part-mul-pows-start t c = search needs
-
--- src/lib.rt:224:9
-mul-pow-part-mul-pows-end : (t : ℕ) → mul-pow-lts.Need-part-mul-pows-end (scale-reads.Asked, scale-reads.Learnt, mul-pop-pow-below t, mul-pop-pow.Post, mul-pows-below t, mul-pows.Post) (mul-pow-at t) mul-pow.Post
-mul-pow-part-mul-pows-end t c = omega (arith, v-pow·mul-pow t (c .before .before .before .before .before .before .before .before .before))
-
--- src/lib.rt:225:9
-mul-pow-mul-mul-pows : (t : ℕ) → mul-pow-lts.Need-mul-mul-pows (scale-reads.Asked, scale-reads.Learnt, mul-pop-pow-below t, mul-pop-pow.Post, mul-pows-below t, mul-pows.Post) (mul-pow-at t) mul-pow.Post
-mul-pow-mul-mul-pows t c = omega (arith, v-pow·mul-pow t (c .before .before .before .before .before .before .before .before .before .before), (c .before .before .before .before .before .before .before .before .before .before) .good .1 .0)
-
--- src/lib.rt:225:9
-mul-pow-sub-mul-pows-2 : (t : ℕ) → mul-pow-lts.Need-sub-mul-pows-2 (scale-reads.Asked, scale-reads.Learnt, mul-pop-pow-below t, mul-pop-pow.Post, mul-pows-below t, mul-pows.Post) (mul-pow-at t) mul-pow.Post
-mul-pow-sub-mul-pows-2 t c = omega (arith, v-pow·mul-pow t (c .before .before .before .before .before .before .before .before .before .before))
-
--- src/lib.rt:225:9
-mul-pow-part-mul-pows-start-2 : (t : ℕ) → mul-pow-lts.Need-part-mul-pows-start-2 (scale-reads.Asked, scale-reads.Learnt, mul-pop-pow-below t, mul-pop-pow.Post, mul-pows-below t, mul-pows.Post) (mul-pow-at t) mul-pow.Post
-mul-pow-part-mul-pows-start-2 t c = omega (arith, v-pow·mul-pow t (c .before .before .before .before .before .before .before .before .before .before))
-
--- src/lib.rt:225:9
-mul-pow-part-mul-pows-end-2 : (t : ℕ) → mul-pow-lts.Need-part-mul-pows-end-2 (scale-reads.Asked, scale-reads.Learnt, mul-pop-pow-below t, mul-pop-pow.Post, mul-pows-below t, mul-pows.Post) (mul-pow-at t) mul-pow.Post
-mul-pow-part-mul-pows-end-2 t c = search needs
-
--- src/lib.rt:227:9
-mul-pow-sub-mul-pows-3 : (t : ℕ) → mul-pow-lts.Need-sub-mul-pows-3 (scale-reads.Asked, scale-reads.Learnt, mul-pop-pow-below t, mul-pop-pow.Post, mul-pows-below t, mul-pows.Post) (mul-pow-at t) mul-pow.Post
-mul-pow-sub-mul-pows-3 t c = search needs
-
--- src/lib.rt:227:9
-mul-pow-part-mul-pows-start-3 : (t : ℕ) → mul-pow-lts.Need-part-mul-pows-start-3 (scale-reads.Asked, scale-reads.Learnt, mul-pop-pow-below t, mul-pop-pow.Post, mul-pows-below t, mul-pows.Post) (mul-pow-at t) mul-pow.Post
-mul-pow-part-mul-pows-start-3 t c = search needs
-
--- src/lib.rt:227:9
-mul-pow-part-mul-pows-end-3 : (t : ℕ) → mul-pow-lts.Need-part-mul-pows-end-3 (scale-reads.Asked, scale-reads.Learnt, mul-pop-pow-below t, mul-pop-pow.Post, mul-pows-below t, mul-pows.Post) (mul-pow-at t) mul-pow.Post
-mul-pow-part-mul-pows-end-3 t c = omega (arith, is-pow·mul-pow t (c .before .before .before))
-
--- src/lib.rt:228:9
-mul-pow-mul-mul-pows-2 : (t : ℕ) → mul-pow-lts.Need-mul-mul-pows-2 (scale-reads.Asked, scale-reads.Learnt, mul-pop-pow-below t, mul-pop-pow.Post, mul-pows-below t, mul-pows.Post) (mul-pow-at t) mul-pow.Post
-mul-pow-mul-mul-pows-2 t c = omega (arith, is-pow·mul-pow t (c .before .before .before .before), (c .before .before .before .before .before .before .before .before .before .before .before .before) .good .1 .1 .0)
-
--- src/lib.rt:228:9
-mul-pow-sub-mul-pows-4 : (t : ℕ) → mul-pow-lts.Need-sub-mul-pows-4 (scale-reads.Asked, scale-reads.Learnt, mul-pop-pow-below t, mul-pop-pow.Post, mul-pows-below t, mul-pows.Post) (mul-pow-at t) mul-pow.Post
-mul-pow-sub-mul-pows-4 t c = omega (arith, is-pow·mul-pow t (c .before .before .before .before))
-
--- src/lib.rt:228:9
-mul-pow-part-mul-pows-start-4 : (t : ℕ) → mul-pow-lts.Need-part-mul-pows-start-4 (scale-reads.Asked, scale-reads.Learnt, mul-pop-pow-below t, mul-pop-pow.Post, mul-pows-below t, mul-pows.Post) (mul-pow-at t) mul-pow.Post
-mul-pow-part-mul-pows-start-4 t c = omega (arith, is-pow·mul-pow t (c .before .before .before .before))
-
--- src/lib.rt:228:9
-mul-pow-part-mul-pows-end-4 : (t : ℕ) → mul-pow-lts.Need-part-mul-pows-end-4 (scale-reads.Asked, scale-reads.Learnt, mul-pop-pow-below t, mul-pop-pow.Post, mul-pows-below t, mul-pows.Post) (mul-pow-at t) mul-pow.Post
-mul-pow-part-mul-pows-end-4 t c = search needs
-
--- src/lib.rt:221:5
-mul-pow-mul-pows-requires : (t : ℕ) → mul-pow-lts.Need-mul-pows-requires (scale-reads.Asked, scale-reads.Learnt, mul-pop-pow-below t, mul-pop-pow.Post, mul-pows-below t, mul-pows.Post) (mul-pow-at t) mul-pow.Post
-mul-pow-mul-pows-requires t c κs = (
-  omega (arith, codes-length (v-left·mul-pow t (c .before .before .before .before .before .before .before .before .before .before .before .before .before .before .before .before)), codes-length (v-right·mul-pow t (c .before .before .before .before .before .before .before .before .before .before .before .before .before .before .before .before)), codes-length (left·mul-pow t (c .before .before .before .before .before .before .before .before)), codes-length (right·mul-pow t (c .before .before .before .before .before .before .before .before)), v-pow·mul-pow t (c .before .before .before .before .before .before .before .before .before .before .before .before .before .before .before .before), is-pow·mul-pow t (c .before .before .before .before .before .before .before .before), ((c .before .before .before .before .before .before .before .before .before .before .before .before .before .before .before .before) .pre .0)),
-  (
-    ((coded (v-left·mul-pow t (c .before .before .before .before .before .before .before .before .before .before .before .before .before .before .before .before)), coded (v-right·mul-pow t (c .before .before .before .before .before .before .before .before .before .before .before .before .before .before .before .before))), (coded (left·mul-pow t (c .before .before .before .before .before .before .before .before)), coded (right·mul-pow t (c .before .before .before .before .before .before .before .before)))),
-    subst (λ h. Space ((c .before .before .before .before .before .before .before .before .before .before .before .before .before .before .before .before) .args .width) h (pow ((getD ((c .before .before .before .before .before .before .before .before .before .before .before .before .before .before .before .before) .args .y .now) 0 0) % 64) (dec ((c .before .before .before .before .before .before .before .before .before .before .before .before .before .before .before .before) .args .width) (take ((1 + (((getD ((c .before .before .before .before .before .before .before .before .before .before .before .before .before .before .before .before) .args .y .now) 0 0) - 2147483648) / 64)) - 1) (drop 1 ((c .before .before .before .before .before .before .before .before .before .before .before .before .before .before .before .before) .args .y .now)))) (dec ((c .before .before .before .before .before .before .before .before .before .before .before .before .before .before .before .before) .args .width) (take (length ((c .before .before .before .before .before .before .before .before .before .before .before .before .before .before .before .before) .args .y .now) - (1 + (((getD ((c .before .before .before .before .before .before .before .before .before .before .before .before .before .before .before .before) .args .y .now) 0 0) - 2147483648) / 64))) (drop (1 + (((getD ((c .before .before .before .before .before .before .before .before .before .before .before .before .before .before .before .before) .args .y .now) 0 0) - 2147483648) / 64)) ((c .before .before .before .before .before .before .before .before .before .before .before .before .before .before .before .before) .args .y .now))))) (length ((c .before .before .before .before .before .before .before .before .before .before .before .before .before .before .before .before) .args .out .now)) (length ((c .before .before .before .before .before .before .before .before .before .before .before .before .before .before .before .before) .args .t .now)) (length ((c .before .before .before .before .before .before .before .before .before .before .before .before .before .before .before .before) .args .u .now))) (sym (v-is·mul-pow t (c .before .before .before .before .before .before .before .before))) (subst (λ h. Space ((c .before .before .before .before .before .before .before .before .before .before .before .before .before .before .before .before) .args .width) (dec ((c .before .before .before .before .before .before .before .before .before .before .before .before .before .before .before .before) .args .width) ((c .before .before .before .before .before .before .before .before .before .before .before .before .before .before .before .before) .args .x .now)) h (length ((c .before .before .before .before .before .before .before .before .before .before .before .before .before .before .before .before) .args .out .now)) (length ((c .before .before .before .before .before .before .before .before .before .before .before .before .before .before .before .before) .args .t .now)) (length ((c .before .before .before .before .before .before .before .before .before .before .before .before .before .before .before .before) .args .u .now))) (sym (y-is·mul-pow t (c .before .before .before .before .before .before .before .before))) ((c .before .before .before .before .before .before .before .before .before .before .before .before .before .before .before .before) .pre .1 .1 .0)),
-  ),
-)
-
--- src/lib.rt:203:1
-mul-pow-same-length-5 : (t : ℕ) → mul-pow-lts.Need-same-length-5 (scale-reads.Asked, scale-reads.Learnt, mul-pop-pow-below t, mul-pop-pow.Post, mul-pows-below t, mul-pows.Post) (mul-pow-at t) mul-pow.Post
-mul-pow-same-length-5 t c = search needs
-
--- src/lib.rt:203:1
-mul-pow-same-length-6 : (t : ℕ) → mul-pow-lts.Need-same-length-6 (scale-reads.Asked, scale-reads.Learnt, mul-pop-pow-below t, mul-pop-pow.Post, mul-pows-below t, mul-pows.Post) (mul-pow-at t) mul-pow.Post
-mul-pow-same-length-6 t c = search needs
-
--- src/lib.rt:203:1
-mul-pow-same-length-7 : (t : ℕ) → mul-pow-lts.Need-same-length-7 (scale-reads.Asked, scale-reads.Learnt, mul-pop-pow-below t, mul-pop-pow.Post, mul-pows-below t, mul-pows.Post) (mul-pow-at t) mul-pow.Post
-mul-pow-same-length-7 t c = search needs
-
--- src/lib.rt:203:1
-mul-pow-returns-3 : (t : ℕ) → mul-pow-lts.Need-returns-3 (scale-reads.Asked, scale-reads.Learnt, mul-pop-pow-below t, mul-pop-pow.Post, mul-pows-below t, mul-pows.Post) (mul-pow-at t) mul-pow.Post
-mul-pow-returns-3 t c = begins-as ((c .before .before .before .before .before .before .mul-pows) .ensures) (ap (λ h. enc ((c .before .before .before .before .before .before .before .before .before .before .before .before .before .before .before .before .before .before .before .before .before .before .before) .args .width) (prodOf ((c .before .before .before .before .before .before .before .before .before .before .before .before .before .before .before .before .before .before .before .before .before .before .before) .args .width) h (pow ((getD ((c .before .before .before .before .before .before .before .before .before .before .before .before .before .before .before .before .before .before .before .before .before .before .before) .args .y .now) 0 0) % 64) (dec ((c .before .before .before .before .before .before .before .before .before .before .before .before .before .before .before .before .before .before .before .before .before .before .before) .args .width) (take ((1 + (((getD ((c .before .before .before .before .before .before .before .before .before .before .before .before .before .before .before .before .before .before .before .before .before .before .before) .args .y .now) 0 0) - 2147483648) / 64)) - 1) (drop 1 ((c .before .before .before .before .before .before .before .before .before .before .before .before .before .before .before .before .before .before .before .before .before .before .before) .args .y .now)))) (dec ((c .before .before .before .before .before .before .before .before .before .before .before .before .before .before .before .before .before .before .before .before .before .before .before) .args .width) (take (length ((c .before .before .before .before .before .before .before .before .before .before .before .before .before .before .before .before .before .before .before .before .before .before .before) .args .y .now) - (1 + (((getD ((c .before .before .before .before .before .before .before .before .before .before .before .before .before .before .before .before .before .before .before .before .before .before .before) .args .y .now) 0 0) - 2147483648) / 64))) (drop (1 + (((getD ((c .before .before .before .before .before .before .before .before .before .before .before .before .before .before .before .before .before .before .before .before .before .before .before) .args .y .now) 0 0) - 2147483648) / 64)) ((c .before .before .before .before .before .before .before .before .before .before .before .before .before .before .before .before .before .before .before .before .before .before .before) .args .y .now))))))) (v-is·mul-pow t (c .before .before .before .before .before .before .before .before .before .before .before .before .before .before .before)) ∙ ap (λ h. enc ((c .before .before .before .before .before .before .before .before .before .before .before .before .before .before .before .before .before .before .before .before .before .before .before) .args .width) (prodOf ((c .before .before .before .before .before .before .before .before .before .before .before .before .before .before .before .before .before .before .before .before .before .before .before) .args .width) (dec ((c .before .before .before .before .before .before .before .before .before .before .before .before .before .before .before .before .before .before .before .before .before .before .before) .args .width) ((c .before .before .before .before .before .before .before .before .before .before .before .before .before .before .before .before .before .before .before .before .before .before .before) .args .x .now)) h)) (y-is·mul-pow t (c .before .before .before .before .before .before .before .before .before .before .before .before .before .before .before)))
-
--- src/lib.rt:252:9
-mul-pows-mul-lead-requires : (t : ℕ) → mul-pows-lts.Need-mul-lead-requires (mul-lead-below t, mul-lead.Post, add-cross-below t, add-cross.Post) (mul-pows-at t) mul-pows.Post
-mul-pows-mul-lead-requires t c κs = (omega (arith, ((c .before .before .before .before .before .before .before .before .before .before) .pre .0)), (((((c .before .before .before .before .before .before .before .before .before .before) .pre .1 .0 .0 .0), ((c .before .before .before .before .before .before .before .before .before .before) .pre .1 .0 .0 .1)), (((c .before .before .before .before .before .before .before .before .before .before) .pre .1 .0 .1 .0), ((c .before .before .before .before .before .before .before .before .before .before) .pre .1 .0 .1 .1))), ((c .before .before .before .before .before .before .before .before .before .before) .pre .1 .1)))
-
--- src/lib.rt:253:9
-mul-pows-add-cross-requires : (t : ℕ) → mul-pows-lts.Need-add-cross-requires (mul-lead-below t, mul-lead.Post, add-cross-below t, add-cross.Post) (mul-pows-at t) mul-pows.Post
-mul-pows-add-cross-requires t c κs = (
-  omega (arith, ((c .before .before .before .before .before .before .before .before .before .before .before .before .before .before .before .before .before .before .before .before) .pre .0), some ((c .before .before .before .before .before .before .before .before .before .before .before .before .before .before .before .before .before .before .before .before) .pre .1 .0 .0 .1), some ((c .before .before .before .before .before .before .before .before .before .before .before .before .before .before .before .before .before .before .before .before) .pre .1 .0 .1 .0)),
-  (
-    (((c .before .before .before .before .before .before .before .before .before .before .before .before .before .before .before .before .before .before .before .before) .pre .1 .0 .0 .0), ((c .before .before .before .before .before .before .before .before .before .before .before .before .before .before .before .before .before .before .before .before) .pre .1 .0 .1 .1)),
-    (
-      (few-a·mul-pows t (c .before .before .before .before .before .before .before .before .before), coded (one·mul-pows t (c .before .before .before .before .before .before .before .before .before))),
+add-cross-meets : {M : Type 1} (t : ℕ) →
+    add-cross-lts.Closed (mul-cross-below t, mul-cross.Post, sum-back-reads.Asked, sum-back-reads.Learnt) (add-cross-at t) add-cross.Post M
+add-cross-meets t =
+    add-cross-lts.spec (mul-cross-below t, mul-cross.Post, sum-back-reads.Asked, sum-back-reads.Learnt) (add-cross-at t) add-cross.Post
+    (λ c. omega (arith, c .before .before .before .before .before .before .pre .1 .1 .0 .0))
+    (λ c. omega (arith, c .before .before .before .before .before .before .pre .1 .1 .1 .0 .tables))
+    (λ c. omega (arith, c .before .before .before .before .before .before .pre .1 .1 .1 .0 .tables))
+    (λ c. search needs)
+    -- mul-cross-requires
+    (λ c κs.
+    let s = c .before .before .before .before .before .before .before .before in
+    (omega (arith, s .pre .0), (s .pre .1 .0, cross-at refl (sym (length-tail-part (s .args .a) (s .args .out .now))) refl (s .pre .1 .1 .1 .0))))
+    (λ c. begins-le (c .before .before .before .before .before .before .before .mul-cross .ensures))
+    -- slice-aggregate-sum-back
+    (λ c.
+    let s = c .before .before .before .before .before .before .before .before in
+    sym (length-take-le (s .mul-cross .result) (s .mul-cross .last .1 .1 .1 .1 .0) (begins-le (s .mul-cross .ensures))))
+    -- sum-back-requires
+    (λ c κs.
+    let s = c .before .before .before .before .before .before .before .before .before .before .before .before .before .before .before .before .before .before in
+    let b = c .before .before .before .before .before .before .before .before .before in
+    let d = c .before .before .before .before .before .before in (
+      omega (arith, d .out .given .1, s .pre .1 .1 .1 .0 .tables),
       (
-        cross-at (sym (((c .before .before .before .before .before .before .before .before .before .mul-lead) .kept .1 .1 .1 .1 .1 .1 .1) .1 .0)) (behind-one·mul-pows t (c .before .before .before .before .before .before .before .before .before)) (sym (((c .before .before .before .before .before .before .before .before .before .mul-lead) .kept .1 .1 .1 .1 .1 .1 .1) .1 .1 .0)) (space-cross ((c .before .before .before .before .before .before .before .before .before .before .before .before .before .before .before .before .before .before .before .before) .args .i) ((c .before .before .before .before .before .before .before .before .before .before .before .before .before .before .before .before .before .before .before .before) .args .j) (dec ((c .before .before .before .before .before .before .before .before .before .before .before .before .before .before .before .before .before .before .before .before) .args .width) ((c .before .before .before .before .before .before .before .before .before .before .before .before .before .before .before .before .before .before .before .before) .args .p .now)) (dec ((c .before .before .before .before .before .before .before .before .before .before .before .before .before .before .before .before .before .before .before .before) .args .width) ((c .before .before .before .before .before .before .before .before .before .before .before .before .before .before .before .before .before .before .before .before) .args .q .now)) (dec ((c .before .before .before .before .before .before .before .before .before .before .before .before .before .before .before .before .before .before .before .before) .args .width) ((c .before .before .before .before .before .before .before .before .before .before .before .before .before .before .before .before .before .before .before .before) .args .r .now)) (dec ((c .before .before .before .before .before .before .before .before .before .before .before .before .before .before .before .before .before .before .before .before) .args .width) ((c .before .before .before .before .before .before .before .before .before .before .before .before .before .before .before .before .before .before .before .before) .args .s .now)) ((c .before .before .before .before .before .before .before .before .before .before .before .before .before .before .before .before .before .before .before .before) .pre .1 .1) ((c .before .before .before .before .before .before .before .before .before .mul-lead) .result) (few-a·mul-pows t (c .before .before .before .before .before .before .before .before .before))),
-        subst (λ h. Held ((c .before .before .before .before .before .before .before .before .before .before .before .before .before .before .before .before .before .before .before .before) .args .width) (sumOf ((c .before .before .before .before .before .before .before .before .before .before .before .before .before .before .before .before .before .before .before .before) .args .width) h (crossOf ((c .before .before .before .before .before .before .before .before .before .before .before .before .before .before .before .before .before .before .before .before) .args .width) ((c .before .before .before .before .before .before .before .before .before .before .before .before .before .before .before .before .before .before .before .before) .args .i) (dec ((c .before .before .before .before .before .before .before .before .before .before .before .before .before .before .before .before .before .before .before .before) .args .width) ((c .before .before .before .before .before .before .before .before .before .before .before .before .before .before .before .before .before .before .before .before) .args .p .now)) (dec ((c .before .before .before .before .before .before .before .before .before .before .before .before .before .before .before .before .before .before .before .before) .args .width) ((c .before .before .before .before .before .before .before .before .before .before .before .before .before .before .before .before .before .before .before .before) .args .s .now))))) (sym (dec-enc (one·mul-pows t (c .before .before .before .before .before .before .before .before .before)))) (two-held ((c .before .before .before .before .before .before .before .before .before .before .before .before .before .before .before .before .before .before .before .before) .args .i) ((c .before .before .before .before .before .before .before .before .before .before .before .before .before .before .before .before .before .before .before .before) .args .j) (dec ((c .before .before .before .before .before .before .before .before .before .before .before .before .before .before .before .before .before .before .before .before) .args .width) ((c .before .before .before .before .before .before .before .before .before .before .before .before .before .before .before .before .before .before .before .before) .args .p .now)) (dec ((c .before .before .before .before .before .before .before .before .before .before .before .before .before .before .before .before .before .before .before .before) .args .width) ((c .before .before .before .before .before .before .before .before .before .before .before .before .before .before .before .before .before .before .before .before) .args .q .now)) (dec ((c .before .before .before .before .before .before .before .before .before .before .before .before .before .before .before .before .before .before .before .before) .args .width) ((c .before .before .before .before .before .before .before .before .before .before .before .before .before .before .before .before .before .before .before .before) .args .r .now)) (dec ((c .before .before .before .before .before .before .before .before .before .before .before .before .before .before .before .before .before .before .before .before) .args .width) ((c .before .before .before .before .before .before .before .before .before .before .before .before .before .before .before .before .before .before .before .before) .args .s .now)) (((c .before .before .before .before .before .before .before .before .before .before .before .before .before .before .before .before .before .before .before .before) .pre .1 .1) .fit)),
+        (coded (kept·add-cross t d), coded (made·add-cross t d)),
+        (
+          omega (arith, ap length (sum-is·add-cross t d), s .pre .1 .1 .1 .1 .words, d .out .given .1, s .pre .1 .1 .1 .0 .tables),
+          omega (arith, length-take-le (b .mul-cross .result) (b .mul-cross .last .1 .1 .1 .1 .0) (begins-le (b .mul-cross .ensures)), b .mul-cross .ensures .size, s .pre .1 .1 .1 .0 .held .words, s .pre .1 .1 .0 .0, b .mul-cross .kept .1 .1 .1 .1 .1 .1 .0, s .pre .1 .1 .1 .0 .tables),
+        ),
       ),
-    ),
-  ),
-)
+    ))
+    (λ c. search needs)
+    (λ c. search needs)
+    (λ c. search needs)
+    -- returns
+    (λ c.
+    begins-as (c .before .before .before .before .sum-back .ensures)
+    (sum-is·add-cross t (c .before .before .before .before .before .before .before .before .before .before .before)))
 
--- src/lib.rt:254:5
-mul-pows-add-cross-requires-2 : (t : ℕ) → mul-pows-lts.Need-add-cross-requires-2 (mul-lead-below t, mul-lead.Post, add-cross-below t, add-cross.Post) (mul-pows-at t) mul-pows.Post
-mul-pows-add-cross-requires-2 t c κs = (
-  omega (arith, ((c .before .before .before .before .before .before .before .before .before .before .before .before .before .before .before .before .before .before .before .before .before .before .before .before .before .before .before .before .before .before) .pre .0), some ((c .before .before .before .before .before .before .before .before .before .before .before .before .before .before .before .before .before .before .before .before .before .before .before .before .before .before .before .before .before .before) .pre .1 .0 .0 .0), some ((c .before .before .before .before .before .before .before .before .before .before .before .before .before .before .before .before .before .before .before .before .before .before .before .before .before .before .before .before .before .before) .pre .1 .0 .1 .1)),
-  (
-    (((c .before .before .before .before .before .before .before .before .before .before .before .before .before .before .before .before .before .before .before .before .before .before .before .before .before .before .before .before .before .before) .pre .1 .0 .1 .0), ((c .before .before .before .before .before .before .before .before .before .before .before .before .before .before .before .before .before .before .before .before .before .before .before .before .before .before .before .before .before .before) .pre .1 .0 .0 .1)),
-    (
-      (few-n·mul-pows t (c .before .before .before .before .before .before .before .before .before), coded (two·mul-pows t (c .before .before .before .before .before .before .before .before .before))),
+mul-any-pop-meets : {M : Type 1} (t : ℕ) →
+    mul-any-pop-lts.Closed (scale-pop-reads.Asked, scale-pop-reads.Learnt, mul-pops-below t, mul-pops.Post, mul-pop-pow-below t, mul-pop-pow.Post) (mul-any-pop-at t) mul-any-pop.Post M
+mul-any-pop-meets t =
+    mul-any-pop-lts.spec (scale-pop-reads.Asked, scale-pop-reads.Learnt, mul-pops-below t, mul-pops.Post, mul-pop-pow-below t, mul-pop-pow.Post) (mul-any-pop-at t) mul-any-pop.Post
+    (λ c. omega (arith, some (c .before .before .before .before .before .before .pre .1 .0 .0)))
+    -- scale-pop-requires
+    (λ c κs.
+    let s = c .before .before .before .before .before .before .before .before in
+    ((int-view (s .pre .1 .0 .0) (c .before .if1 .taken)) .below, (s .pre .1 .0 .1, (fit-y (s .pre .1 .1 .fit) .good, omega (arith, s .pre .1 .1 .tables, codes-length (s .pre .1 .0 .1), fit-pop-words (s .args .i) (dec (s .args .width) (s .args .p .now)) (fit-sym (s .pre .1 .1 .fit)))))))
+    (λ c. search needs)
+    -- returns
+    (λ c.
+    let s = c .before .before .before .before .before .before .before .before .before .before .before in
+    begins-as (c .before .before .scale-pop .ensures)
+    (int-times (int-view (s .pre .1 .0 .0) (c .before .before .before .before .if1 .taken)) (pop (s .args .i) (dec (s .args .width) (s .args .p .now)))))
+    (λ c. omega (arith, c .before .shared-slice-known3 .given 0))
+    (λ c. omega (arith, is-pop·mul-any-pop t c))
+    (λ c. omega (arith, is-pop·mul-any-pop t c))
+    (λ c. search needs)
+    -- mul-pops-requires
+    (λ c κs.
+    let s = c .before .before .before .before .before .before .before .before .before .before .before .before in
+    let b = c .before .before .before .before in (
+      omega (arith, (is-pop·mul-any-pop t b), s .pre .0),
+      (((is-pop·mul-any-pop t b) .part, s .pre .1 .0 .1), subst (λ h. PopSpace (s .args .width) h (pop (s .args .i) (dec (s .args .width) (s .args .p .now))) (length (s .args .out .now)) (length (s .args .t .now)) (length (s .args .u .now))) ((is-pop·mul-any-pop t b) .is) (s .pre .1 .1)),
+    ))
+    (λ c. search needs)
+    (λ c. search needs)
+    (λ c. search needs)
+    -- returns-2
+    (λ c.
+    let s = c .before .before .before .before .before .before .before .before .before .before .before .before .before .before .before .before .before .before .before in
+    begins-as (c .before .before .before .before .before .before .mul-pops .ensures)
+    (ap (λ h. enc (s .args .width) (prodOf (s .args .width) h (pop (s .args .i) (dec (s .args .width) (s .args .p .now))))) (sym ((is-pop·mul-any-pop t (c .before .before .before .before .before .before .before .before .before .before .before)) .is))))
+    -- mul-pop-pow-requires
+    (λ c κs.
+    let s = c .before .before .before .before .before .before .before .before .before .before .before in
+    (omega (arith, s .pre .0), ((s .pre .1 .0 .1, s .pre .1 .0 .0), (pop-space-sym (s .pre .1 .1), record { node = (c .before .before .before .before .if1) .left; sized = (c .before .before .before .if2) .left }))))
+    (λ c. search needs)
+    (λ c. search needs)
+    (λ c. search needs)
+    -- returns-3
+    (λ c.
+    let s = c .before .before .before .before .before .before .before .before .before .before .before .before .before .before .before .before .before .before in
+    begins-as (c .before .before .before .before .before .before .mul-pop-pow .ensures)
+    (ap (enc (s .args .width)) (times-swap (is-pow·mul-any-pop t (c .before .before .before .before .before .before .before .before .before .before)) (s .args .i) (dec (s .args .width) (s .args .p .now)) (good-pop (fit-y (s .pre .1 .1 .fit) .good) .0))))
+
+mul-by-pop-meets : {M : Type 1} (t : ℕ) →
+    mul-by-pop-lts.Closed (scale-reads.Asked, scale-reads.Learnt, mul-any-pop-below t, mul-any-pop.Post) (mul-by-pop-at t) mul-by-pop.Post M
+mul-by-pop-meets t =
+    mul-by-pop-lts.spec (scale-reads.Asked, scale-reads.Learnt, mul-any-pop-below t, mul-any-pop.Post) (mul-by-pop-at t) mul-by-pop.Post
+    (λ c. omega (arith, some (c .before .before .before .before .before .before .pre .1 .0 .1)))
+    -- scale-requires
+    (λ c κs.
+    let s = c .before .before .before .before .before .before .before .before in
+    ((int-view (s .pre .1 .0 .1) (c .before .if1 .taken)) .below, (s .pre .1 .0 .0, omega (arith, s .pre .1 .1 .tables, codes-length (s .pre .1 .0 .0), fit-x (s .pre .1 .1 .fit) .words))))
+    (λ c. search needs)
+    -- returns
+    (λ c.
+    let s = c .before .before .before .before .before .before .before .before .before .before .before in
+    let b = c .before .before .before .before in
+    begins-as (c .before .before .scale .ensures)
+    (times-int (int-view (s .pre .1 .0 .1) (b .if1 .taken)) (dec (s .args .width) (s .args .p .now)) ∙ ap (λ h. enc (s .args .width) (prodOf (s .args .width) (dec (s .args .width) (s .args .p .now)) h)) (sym (up-int (int-view (s .pre .1 .0 .1) (b .if1 .taken))))))
+    (λ c. omega (arith, c .before .shared-slice-known3 .given 0))
+    (λ c. omega arith)
+    (λ c. omega (arith, is-pop·mul-by-pop t c))
+    (λ c. omega (arith, is-pop·mul-by-pop t c))
+    (λ c. search needs)
+    -- mul-any-pop-requires
+    (λ c κs.
+    let s = c .before .before .before .before .before .before .before .before .before .before .before .before in
+    let b = c .before .before .before .before in (
+      omega (arith, (is-pop·mul-by-pop t b), s .pre .0),
+      ((s .pre .1 .0 .0, (is-pop·mul-by-pop t b) .part), subst (λ h. PopSpace (s .args .width) (dec (s .args .width) (s .args .p .now)) h (length (s .args .out .now)) (length (s .args .t .now)) (length (s .args .u .now))) (up-1·mul-by-pop t b) (s .pre .1 .1)),
+    ))
+    (λ c. search needs)
+    (λ c. search needs)
+    (λ c. search needs)
+    -- returns-2
+    (λ c.
+    let s = c .before .before .before .before .before .before .before .before .before .before .before .before .before .before .before .before .before .before .before in
+    begins-as (c .before .before .before .before .before .before .mul-any-pop .ensures)
+    (ap (λ h. enc (s .args .width) (prodOf (s .args .width) (dec (s .args .width) (s .args .p .now)) h)) (sym (up-1·mul-by-pop t (c .before .before .before .before .before .before .before .before .before .before .before)))))
+    -- mul-any-pop-requires-2
+    (λ c κs.
+    let s = c .before .before .before .before .before .before .before .before .before .before .before in
+    (omega (arith, s .pre .0), ((s .pre .1 .0 .0, s .pre .1 .0 .1), subst (λ h. PopSpace (s .args .width) (dec (s .args .width) (s .args .p .now)) h (length (s .args .out .now)) (length (s .args .t .now)) (length (s .args .u .now))) (up-2·mul-by-pop t (c .before .before .before)) (s .pre .1 .1))))
+    (λ c. search needs)
+    (λ c. search needs)
+    (λ c. search needs)
+    -- returns-3
+    (λ c.
+    let s = c .before .before .before .before .before .before .before .before .before .before .before .before .before .before .before .before .before .before in
+    begins-as (c .before .before .before .before .before .before .mul-any-pop2 .ensures)
+    (ap (λ h. enc (s .args .width) (prodOf (s .args .width) (dec (s .args .width) (s .args .p .now)) h)) (sym (up-2·mul-by-pop t (c .before .before .before .before .before .before .before .before .before .before)))))
+
+mul-cross-meets : {M : Type 1} (t : ℕ) →
+    mul-cross-lts.Closed (mul-by-pop-below t, mul-by-pop.Post, make-pow-reads.Asked, make-pow-reads.Learnt) (mul-cross-at t) mul-cross.Post M
+mul-cross-meets t =
+    mul-cross-lts.spec (mul-by-pop-below t, mul-by-pop.Post, make-pow-reads.Asked, make-pow-reads.Learnt) (mul-cross-at t) mul-cross.Post
+    (λ c. omega (arith, c .before .before .before .before .before .pre .1 .1 .tables))
+    (λ c. omega (arith, c .before .before .before .before .before .pre .1 .1 .tables))
+    (λ c. search needs)
+    -- mul-by-pop-requires
+    (λ c κs.
+    let s = c .before .before .before .before .before .before .before .before in
+    (omega (arith, s .pre .0), (s .pre .1 .0, pop-space-at (sym (length-tail-part 1 (s .args .out .now))) refl refl (cross-pop (s .pre .1 .1)))))
+    (λ c. omega (arith, few-a·mul-cross t (c .before)))
+    (λ c. omega (arith, few-a·mul-cross t (c .before)))
+    (λ c. a-size·mul-cross t (c .before))
+    -- make-pow-requires
+    (λ c κs.
+    let s = c .before .before .before .before .before .before .before .before .before .before .before .before .before .before .before .before in
+    let b = c .before .before in (
+      (simp length-set (omega (arith, a-size·mul-cross t b)), simp length-set (omega (arith, s .pre .1 .1 .tables, c .before .before .before .before .before .before .out .given .1))),
+      ((coded (codes-a·mul-cross t b), coded (codes-0·mul-cross t b)), (s .pre .1 .1 .pos-i, pow-asks (s .args .i) (codes-a·mul-cross t b, codes-0·mul-cross t b) refl (s .pre .1 .1 .held .good))),
+    ))
+    -- same-length
+    (λ c.
+    let s = c .before .before .before .before .before .before .before .before .before .before in
+    c .before .before .make-pow .kept .1 .0
+    ∙ length-set
+    (one-put (c .before .before .before .before .before .before .before .before .before .before .before .before .before .before .before .before .before .before .before .args .out .now) (s .mul-by-pop .last .1 .1 .1 .0))
+    (1 + (s .mul-by-pop .result)) 0
+    ∙ (c .before .before .before .before .before .before .before .before .before .out) .given .1)
+    (λ c. search needs)
+    (λ c. search needs)
+    -- returns
+    (λ c.
+    let s = c .before .before .before .before .before in
+    pow-gives
+    (c .before .before .before .before .before .before .before .before .before .before .before .before .before .before .before .before .before .before .before .args .i)
+    (codes-a·mul-cross t s, codes-0·mul-cross t s) refl (c .before .before .make-pow .ensures))
+
+mul-lead-meets : {M : Type 1} (t : ℕ) →
+    mul-lead-lts.Closed (product-below t, product.Post, make-pow-reads.Asked, make-pow-reads.Learnt) (mul-lead-at t) mul-lead.Post M
+mul-lead-meets t =
+    mul-lead-lts.spec (product-below t, product.Post, make-pow-reads.Asked, make-pow-reads.Learnt) (mul-lead-at t) mul-lead.Post
+    (λ c. omega (arith, c .before .before .before .before .before .before .before .pre .1 .1 .tables))
+    (λ c. omega (arith, c .before .before .before .before .before .before .before .pre .1 .1 .tables))
+    (λ c. search needs)
+    -- product-requires
+    (λ c κs.
+    let s = c .before .before .before .before .before .before .before .before .before .before in
+    (omega (arith, s .pre .0), ((s .pre .1 .0 .0 .0, s .pre .1 .0 .1 .0), space-at (sym (length-tail-part 1 (s .args .out .now))) refl refl (space-leads (s .args .i) (s .args .j) (dec (s .args .width) (s .args .p .now)) (dec (s .args .width) (s .args .q .now)) (dec (s .args .width) (s .args .r .now)) (dec (s .args .width) (s .args .s .now)) (s .pre .1 .1)))))
+    (λ c. omega (arith, few-a·mul-lead t (c .before)))
+    (λ c. omega (arith, few-a·mul-lead t (c .before)))
+    (λ c. a-size·mul-lead t (c .before))
+    (λ c. a-size·mul-lead t (c .before))
+    (λ c. search needs)
+    -- product-requires-2
+    (λ c κs.
+    let s = c .before .before .before .before .before .before .before .before .before .before .before .before .before .before .before .before .before .before .before .before in
+    let b = c .before .before .before .before .before .before .before .before .before in
+    let d = c .before .before .before .before in
+    (omega (arith, s .pre .0), ((s .pre .1 .0 .0 .1, s .pre .1 .0 .1 .1), space-at (behind·mul-lead t d) (sym (b .product .kept .1 .1 .1 .1 .0)) (sym (b .product .kept .1 .1 .1 .1 .1 .0)) (space-rests (s .args .i) (s .args .j) (dec (s .args .width) (s .args .p .now)) (dec (s .args .width) (s .args .q .now)) (dec (s .args .width) (s .args .r .now)) (dec (s .args .width) (s .args .s .now)) (s .pre .1 .1) (b .product .result) (few-a·mul-lead t d)))))
+    -- add-make-pow
+    (λ c.
+    let s = c .before .before .before .before .before .before .before .before .before .before .before .before .before .before .before .before .before .before .before .before .before .before .before .before .before .before .before .before in
+    omega (arith, (good-pow (fit-x (s .pre .1 .1 .fit) .good)) .1 .0, (good-pow (fit-y (s .pre .1 .1 .fit) .good)) .1 .0))
+    -- make-pow-requires
+    (λ c κs.
+    let s = c .before .before .before .before .before .before .before .before .before .before .before .before .before .before .before .before .before .before .before .before .before .before .before .before .before .before .before .before in
+    let b = c .before .before .before .before .before .before .before .before .before .before .before .before .before .before .before .before .before in
+    let d = c .before .before .before .before .before .before .before in
+    let u = c .before .before .before .before .before .before in (
       (
-        cross-at (sym (((c .before .before .before .before .before .before .before .before .before .add-cross) .kept .1 .1 .1 .1) .1 .1 .0 ∙ ((c .before .before .before .before .before .before .before .before .before .before .before .before .before .before .before .before .before .before .before .mul-lead) .kept .1 .1 .1 .1 .1 .1 .1) .1 .0)) (behind-two·mul-pows t (c .before .before .before .before .before .before .before .before .before)) (sym (((c .before .before .before .before .before .before .before .before .before .add-cross) .kept .1 .1 .1 .1) .1 .1 .1 .0 ∙ ((c .before .before .before .before .before .before .before .before .before .before .before .before .before .before .before .before .before .before .before .mul-lead) .kept .1 .1 .1 .1 .1 .1 .1) .1 .1 .0)) (space-cross ((c .before .before .before .before .before .before .before .before .before .before .before .before .before .before .before .before .before .before .before .before .before .before .before .before .before .before .before .before .before .before) .args .j) ((c .before .before .before .before .before .before .before .before .before .before .before .before .before .before .before .before .before .before .before .before .before .before .before .before .before .before .before .before .before .before) .args .i) (dec ((c .before .before .before .before .before .before .before .before .before .before .before .before .before .before .before .before .before .before .before .before .before .before .before .before .before .before .before .before .before .before) .args .width) ((c .before .before .before .before .before .before .before .before .before .before .before .before .before .before .before .before .before .before .before .before .before .before .before .before .before .before .before .before .before .before) .args .r .now)) (dec ((c .before .before .before .before .before .before .before .before .before .before .before .before .before .before .before .before .before .before .before .before .before .before .before .before .before .before .before .before .before .before) .args .width) ((c .before .before .before .before .before .before .before .before .before .before .before .before .before .before .before .before .before .before .before .before .before .before .before .before .before .before .before .before .before .before) .args .s .now)) (dec ((c .before .before .before .before .before .before .before .before .before .before .before .before .before .before .before .before .before .before .before .before .before .before .before .before .before .before .before .before .before .before) .args .width) ((c .before .before .before .before .before .before .before .before .before .before .before .before .before .before .before .before .before .before .before .before .before .before .before .before .before .before .before .before .before .before) .args .p .now)) (dec ((c .before .before .before .before .before .before .before .before .before .before .before .before .before .before .before .before .before .before .before .before .before .before .before .before .before .before .before .before .before .before) .args .width) ((c .before .before .before .before .before .before .before .before .before .before .before .before .before .before .before .before .before .before .before .before .before .before .before .before .before .before .before .before .before .before) .args .q .now)) (space-sym ((c .before .before .before .before .before .before .before .before .before .before .before .before .before .before .before .before .before .before .before .before .before .before .before .before .before .before .before .before .before .before) .pre .1 .1)) ((c .before .before .before .before .before .before .before .before .before .add-cross) .result) (few-n·mul-pows t (c .before .before .before .before .before .before .before .before .before))),
-        subst (λ h. Held ((c .before .before .before .before .before .before .before .before .before .before .before .before .before .before .before .before .before .before .before .before .before .before .before .before .before .before .before .before .before .before) .args .width) (sumOf ((c .before .before .before .before .before .before .before .before .before .before .before .before .before .before .before .before .before .before .before .before .before .before .before .before .before .before .before .before .before .before) .args .width) h (crossOf ((c .before .before .before .before .before .before .before .before .before .before .before .before .before .before .before .before .before .before .before .before .before .before .before .before .before .before .before .before .before .before) .args .width) ((c .before .before .before .before .before .before .before .before .before .before .before .before .before .before .before .before .before .before .before .before .before .before .before .before .before .before .before .before .before .before) .args .j) (dec ((c .before .before .before .before .before .before .before .before .before .before .before .before .before .before .before .before .before .before .before .before .before .before .before .before .before .before .before .before .before .before) .args .width) ((c .before .before .before .before .before .before .before .before .before .before .before .before .before .before .before .before .before .before .before .before .before .before .before .before .before .before .before .before .before .before) .args .r .now)) (dec ((c .before .before .before .before .before .before .before .before .before .before .before .before .before .before .before .before .before .before .before .before .before .before .before .before .before .before .before .before .before .before) .args .width) ((c .before .before .before .before .before .before .before .before .before .before .before .before .before .before .before .before .before .before .before .before .before .before .before .before .before .before .before .before .before .before) .args .q .now))))) (sym (dec-enc (two·mul-pows t (c .before .before .before .before .before .before .before .before .before)))) (subst (Held ((c .before .before .before .before .before .before .before .before .before .before .before .before .before .before .before .before .before .before .before .before .before .before .before .before .before .before .before .before .before .before) .args .width)) (pows ((c .before .before .before .before .before .before .before .before .before .before .before .before .before .before .before .before .before .before .before .before .before .before .before .before .before .before .before .before .before .before) .args .width) ((c .before .before .before .before .before .before .before .before .before .before .before .before .before .before .before .before .before .before .before .before .before .before .before .before .before .before .before .before .before .before) .args .i) ((c .before .before .before .before .before .before .before .before .before .before .before .before .before .before .before .before .before .before .before .before .before .before .before .before .before .before .before .before .before .before) .args .j) (dec ((c .before .before .before .before .before .before .before .before .before .before .before .before .before .before .before .before .before .before .before .before .before .before .before .before .before .before .before .before .before .before) .args .width) ((c .before .before .before .before .before .before .before .before .before .before .before .before .before .before .before .before .before .before .before .before .before .before .before .before .before .before .before .before .before .before) .args .p .now)) (dec ((c .before .before .before .before .before .before .before .before .before .before .before .before .before .before .before .before .before .before .before .before .before .before .before .before .before .before .before .before .before .before) .args .width) ((c .before .before .before .before .before .before .before .before .before .before .before .before .before .before .before .before .before .before .before .before .before .before .before .before .before .before .before .before .before .before) .args .q .now)) (dec ((c .before .before .before .before .before .before .before .before .before .before .before .before .before .before .before .before .before .before .before .before .before .before .before .before .before .before .before .before .before .before) .args .width) ((c .before .before .before .before .before .before .before .before .before .before .before .before .before .before .before .before .before .before .before .before .before .before .before .before .before .before .before .before .before .before) .args .r .now)) (dec ((c .before .before .before .before .before .before .before .before .before .before .before .before .before .before .before .before .before .before .before .before .before .before .before .before .before .before .before .before .before .before) .args .width) ((c .before .before .before .before .before .before .before .before .before .before .before .before .before .before .before .before .before .before .before .before .before .before .before .before .before .before .before .before .before .before) .args .s .now))) (fit-prod (((c .before .before .before .before .before .before .before .before .before .before .before .before .before .before .before .before .before .before .before .before .before .before .before .before .before .before .before .before .before .before) .pre .1 .1) .fit))),
+        omega (arith, begins-le (d .product2 .ensures), d .product2 .kept .1 .1 .1 .0, length-tail-part (1 + (b .product .result)) (one-put (s .args .out .now) (b .product .last .1 .1 .1 .0)), a-size·mul-lead t (c .before .before .before .before .before .before .before .before .before .before .before .before), u .out2 .given .1),
+        omega (arith, s .pre .1 .1 .tables, c .before .before .before .before .before .before .before .before .before .before .before .before .before .before .before .before .out .given .1, u .out2 .given .1),
       ),
-    ),
-  ),
-)
+      (
+        (coded (made·mul-lead t (c .before .before) .0), coded (made·mul-lead t (c .before .before) .1)),
+        (omega (arith, (good-pow (fit-x (s .pre .1 .1 .fit) .good)) .0), pow-asks ((s .args .i) + (s .args .j)) (made·mul-lead t (c .before .before)) refl (lead-held (s .args .i) (s .args .j) (dec (s .args .width) (s .args .p .now)) (dec (s .args .width) (s .args .q .now)) (dec (s .args .width) (s .args .r .now)) (dec (s .args .width) (s .args .s .now)) (s .pre .1 .1 .fit) .good)),
+      ),
+    ))
+    (λ c. search needs)
+    (λ c. search needs)
+    (λ c. search needs)
+    -- returns
+    (λ c.
+    let s = c .before .before .before .before .before .before .before .before .before .before .before .before .before .before .before .before .before .before .before .before .before .before .before .before .before .before .before .before .before .before .before in
+    pow-gives ((s .args .i) + (s .args .j)) (made·mul-lead t (c .before .before .before .before .before)) refl (c .before .before .make-pow .ensures))
 
--- src/lib.rt:236:1
-mul-pows-same-length : (t : ℕ) → mul-pows-lts.Need-same-length (mul-lead-below t, mul-lead.Post, add-cross-below t, add-cross.Post) (mul-pows-at t) mul-pows.Post
-mul-pows-same-length t c = search needs
+mul-less-meets : {M : Type 1} (t : ℕ) →
+    mul-less-lts.Closed (product-below t, product.Post, mul-pop-below t, mul-pop.Post) (mul-less-at t) mul-less.Post M
+mul-less-meets t =
+    mul-less-lts.spec (product-below t, product.Post, mul-pop-below t, mul-pop.Post) (mul-less-at t) mul-less.Post
+    -- product-requires
+    (λ c κs.
+    let s = c .before .before .before .before .before .before .before .before .before in
+    (omega (arith, s .pre .0), (s .pre .1 .0, subst (λ h. Space (s .args .width) h (dec (s .args .width) (s .args .r .now)) (length (s .args .out .now)) (length (s .args .t .now)) (length (s .args .u .now))) (lower-1 (s .args .width) (s .args .i) (dec (s .args .width) (s .args .p .now)) (c .before .before .before .if1 .taken)) (s .pre .1 .1 .1))))
+    (λ c. search needs)
+    (λ c. search needs)
+    (λ c. search needs)
+    -- returns
+    (λ c.
+    let s = c .before .before .before .before .before .before .before .before .before .before .before .before .before .before .before .before in
+    begins-as (c .before .before .before .before .before .before .product .ensures)
+    (ap (λ h. enc (s .args .width) (prodOf (s .args .width) h (dec (s .args .width) (s .args .r .now)))) (sym (lower-1 (s .args .width) (s .args .i) (dec (s .args .width) (s .args .p .now)) (c .before .before .before .before .before .before .before .before .before .before .if1 .taken)))))
+    (λ c. (c .before .before .before .before .before .before .pre .1 .1 .0))
+    -- mul-pop-requires
+    (λ c κs.
+    let s = c .before .before .before .before .before .before .before .before .before in
+    (omega (arith, s .pre .0), (s .pre .1 .0, pop-space ((s .args .i) - 1) (dec (s .args .width) (s .args .p .now)) (subst (λ h. Space (s .args .width) h (dec (s .args .width) (s .args .r .now)) (length (s .args .out .now)) (length (s .args .t .now)) (length (s .args .u .now))) (lower-more (s .args .width) (s .args .i) (dec (s .args .width) (s .args .p .now)) (s .pre .1 .1 .0) (c .before .before .before .if1 .left)) (s .pre .1 .1 .1)))))
+    (λ c. search needs)
+    (λ c. search needs)
+    (λ c. search needs)
+    -- returns-2
+    (λ c.
+    let s = c .before .before .before .before .before .before .before .before .before .before .before .before .before .before .before .before in
+    begins-as (c .before .before .before .before .before .before .mul-pop .ensures)
+    (ap (λ h. enc (s .args .width) (prodOf (s .args .width) h (dec (s .args .width) (s .args .r .now)))) (sym (lower-more (s .args .width) (s .args .i) (dec (s .args .width) (s .args .p .now)) (s .pre .1 .1 .0) (c .before .before .before .before .before .before .before .before .before .before .if1 .left)))))
 
--- src/lib.rt:236:1
-mul-pows-same-length-2 : (t : ℕ) → mul-pows-lts.Need-same-length-2 (mul-lead-below t, mul-lead.Post, add-cross-below t, add-cross.Post) (mul-pows-at t) mul-pows.Post
-mul-pows-same-length-2 t c = search needs
+mul-pop-meets : {M : Type 1} (t : ℕ) →
+    mul-pop-lts.Closed (scale-pop-reads.Asked, scale-pop-reads.Learnt, mul-pops-below t, mul-pops.Post, mul-pop-pow-below t, mul-pop-pow.Post) (mul-pop-at t) mul-pop.Post M
+mul-pop-meets t =
+    mul-pop-lts.spec (scale-pop-reads.Asked, scale-pop-reads.Learnt, mul-pops-below t, mul-pops.Post, mul-pop-pow-below t, mul-pop-pow.Post) (mul-pop-at t) mul-pop.Post
+    (λ c. omega (arith, some (c .before .before .before .before .before .before .pre .1 .0 .1)))
+    -- scale-pop-requires
+    (λ c κs.
+    let s = c .before .before .before .before .before .before .before .before in
+    ((int-view (s .pre .1 .0 .1) (c .before .if1 .taken)) .below, (s .pre .1 .0 .0, (fit-x (s .pre .1 .1 .fit) .good, omega (arith, s .pre .1 .1 .tables, codes-length (s .pre .1 .0 .0), fit-pop-words (s .args .i) (dec (s .args .width) (s .args .p .now)) (s .pre .1 .1 .fit))))))
+    (λ c. search needs)
+    -- returns
+    (λ c.
+    let s = c .before .before .before .before .before .before .before .before .before .before .before in
+    begins-as (c .before .before .scale-pop .ensures)
+    (times-int (int-view (s .pre .1 .0 .1) (c .before .before .before .before .if1 .taken)) (pop (s .args .i) (dec (s .args .width) (s .args .p .now)))))
+    (λ c. omega (arith, c .before .shared-slice-known3 .given 0))
+    (λ c. omega (arith, is-pop·mul-pop t c))
+    (λ c. omega (arith, is-pop·mul-pop t c))
+    (λ c. search needs)
+    -- mul-pops-requires
+    (λ c κs.
+    let s = c .before .before .before .before .before .before .before .before .before .before .before .before in
+    let b = c .before .before .before .before in (
+      omega (arith, (is-pop·mul-pop t b), s .pre .0),
+      ((s .pre .1 .0 .0, (is-pop·mul-pop t b) .part), subst (λ h. PopSpace (s .args .width) (pop (s .args .i) (dec (s .args .width) (s .args .p .now))) h (length (s .args .out .now)) (length (s .args .t .now)) (length (s .args .u .now))) ((is-pop·mul-pop t b) .is) (s .pre .1 .1)),
+    ))
+    (λ c. search needs)
+    (λ c. search needs)
+    (λ c. search needs)
+    -- returns-2
+    (λ c.
+    let s = c .before .before .before .before .before .before .before .before .before .before .before .before .before .before .before .before .before .before .before in
+    begins-as (c .before .before .before .before .before .before .mul-pops .ensures)
+    (ap (λ h. enc (s .args .width) (prodOf (s .args .width) (pop (s .args .i) (dec (s .args .width) (s .args .p .now))) h)) (sym ((is-pop·mul-pop t (c .before .before .before .before .before .before .before .before .before .before .before)) .is))))
+    -- mul-pop-pow-requires
+    (λ c κs.
+    let s = c .before .before .before .before .before .before .before .before .before .before .before in
+    (omega (arith, s .pre .0), ((s .pre .1 .0 .0, s .pre .1 .0 .1), (s .pre .1 .1, record { node = (c .before .before .before .before .if1) .left; sized = (c .before .before .before .if2) .left }))))
+    (λ c. search needs)
+    (λ c. search needs)
+    (λ c. search needs)
+    (λ c. c .before .before .before .before .before .before .mul-pop-pow .ensures)
 
--- src/lib.rt:236:1
-mul-pows-same-length-3 : (t : ℕ) → mul-pows-lts.Need-same-length-3 (mul-lead-below t, mul-lead.Post, add-cross-below t, add-cross.Post) (mul-pows-at t) mul-pows.Post
-mul-pows-same-length-3 t c = search needs
+mul-pop-pow-meets : {M : Type 1} (t : ℕ) →
+    mul-pop-pow-lts.Closed (mul-pop-below t, mul-pop.Post, mul-less-below t, mul-less.Post, make-pow-reads.Asked, make-pow-reads.Learnt) (mul-pop-pow-at t) mul-pop-pow.Post M
+mul-pop-pow-meets t =
+    mul-pop-pow-lts.spec (mul-pop-below t, mul-pop.Post, mul-less-below t, mul-less.Post, make-pow-reads.Asked, make-pow-reads.Learnt) (mul-pop-pow-at t) mul-pop-pow.Post
+    (λ c. omega (arith, some (c .before .before .before .before .before .before .pre .1 .0 .1)))
+    (λ c. c .before .before .before .before .before .before .pre .1 .1 .1 .node)
+    (λ c. omega (arith, c .shared-slice-known3 .given 0))
+    (λ c. omega (arith, (is-pow·mul-pop-pow t (c .before .before .before .before .before .before))))
+    (λ c. search needs)
+    (λ c. search needs)
+    (λ c. omega (arith, (is-pow·mul-pop-pow t (c .before .before .before .before .before .before))))
+    (λ c. omega (arith, c .before .before .before .before .before .before .before .pre .1 .1 .0 .tables))
+    (λ c. omega (arith, c .before .before .before .before .before .before .before .pre .1 .1 .0 .tables))
+    (λ c. search needs)
+    -- mul-pop-requires
+    (λ c κs.
+    let s = c .before .before .before .before .before .before .before .before .before .before in
+    (omega (arith, (is-pow·mul-pop-pow t s), s .pre .0), ((s .pre .1 .0 .0, (is-pow·mul-pop-pow t s) .left), pop-space-at (sym (length-tail-part 1 (s .args .out .now))) refl refl (pop-space-pow (s .args .i) ((getD (s .args .y .now) 0 0) % 64) (dec (s .args .width) (s .args .p .now)) (dec (s .args .width) (first (s .args .y .now))) (dec (s .args .width) (rest (s .args .y .now))) (space-pow·mul-pop-pow t s)))))
+    (λ c. omega (arith, few-a·mul-pop-pow t (c .before)))
+    -- mul-mul-less
+    (λ c.
+    let s = c .before .before .before .before .before .before .before .before .before .before .before .before .before .before .before .before .before in
+    omega (arith, (is-pow·mul-pop-pow t s), s .good .1 .1 .1 .0))
+    -- sub-mul-less
+    (λ c.
+    omega (arith, (is-pow·mul-pop-pow t (c .before .before .before .before .before .before .before .before .before .before .before .before .before .before .before .before .before))))
+    -- part-mul-less-start
+    (λ c.
+    omega (arith, (is-pow·mul-pop-pow t (c .before .before .before .before .before .before .before .before .before .before .before .before .before .before .before .before .before))))
+    (λ c. search needs)
+    (λ c. omega (arith, few-a·mul-pop-pow t (c .before .before)))
+    (λ c. a-size·mul-pop-pow t (c .before .before))
+    (λ c. a-size·mul-pop-pow t (c .before .before))
+    (λ c. search needs)
+    -- mul-less-requires
+    (λ c κs.
+    let s = c .before .before .before .before .before .before .before .before .before .before .before .before .before .before .before .before .before .before .before .before .before in
+    let b = c .before .before .before .before .before .before .before .before .before .before in
+    let d = c .before .before .before .before .before in (
+      omega (arith, (is-pow·mul-pop-pow t s), s .pre .0),
+      (
+        (s .pre .1 .0 .0, (is-pow·mul-pop-pow t s) .right),
+        ((good-pop (fit-x (s .pre .1 .1 .0 .fit) .good) .0), space-at (behind·mul-pop-pow t d) (sym (b .mul-pop .kept .1 .1 .1 .1 .1 .0)) (sym (b .mul-pop .kept .1 .1 .1 .1 .1 .1 .0)) (space-lower (s .args .i) ((getD (s .args .y .now) 0 0) % 64) (dec (s .args .width) (s .args .p .now)) (dec (s .args .width) (first (s .args .y .now))) (dec (s .args .width) (rest (s .args .y .now))) (space-pow·mul-pop-pow t s) (b .mul-pop .result) (few-a·mul-pop-pow t d))),
+      ),
+    ))
+    -- make-pow-requires
+    (λ c κs.
+    let s = c .before .before .before .before .before .before .before .before .before .before .before .before .before .before .before .before .before .before .before .before .before .before .before .before .before .before .before .before .before in
+    let b = c .before .before .before .before .before .before .before .before .before .before .before .before .before .before .before .before .before .before in
+    let d = c .before .before .before .before .before .before .before in
+    let u = c .before .before .before .before .before .before in (
+      (
+        omega (arith, begins-le (d .mul-less .ensures), d .mul-less .kept .1 .1 .1 .1 .0, length-tail-part (1 + (b .mul-pop .result)) (one-put (s .args .out .now) (b .mul-pop .last .1 .1 .1 .1 .0)), a-size·mul-pop-pow t (c .before .before .before .before .before .before .before .before .before .before .before .before .before), u .out2 .given .1),
+        omega (arith, s .pre .1 .1 .0 .tables, c .before .before .before .before .before .before .before .before .before .before .before .before .before .before .before .before .before .out .given .1, u .out2 .given .1),
+      ),
+      (
+        (coded (made·mul-pop-pow t (c .before .before) .0), coded (made·mul-pop-pow t (c .before .before) .1)),
+        (good-pow ((is-pow·mul-pop-pow t s) .node) .0, pow-asks ((getD (s .args .y .now) 0 0) % 64) (made·mul-pop-pow t (c .before .before)) (pop-times (is-pow·mul-pop-pow t s) (s .args .i) (dec (s .args .width) (s .args .p .now)) (good-pop (fit-x (s .pre .1 .1 .0 .fit) .good) .0)) (fit-prod (s .pre .1 .1 .0 .fit) .good)),
+      ),
+    ))
+    (λ c. search needs)
+    (λ c. search needs)
+    (λ c. search needs)
+    -- returns
+    (λ c.
+    let s = c .before .before .before .before .before .before .before .before .before .before .before .before .before .before .before .before .before .before .before .before .before .before .before .before .before .before .before .before .before .before .before .before in
+    pow-gives ((getD (s .args .y .now) 0 0) % 64) (made·mul-pop-pow t (c .before .before .before .before .before))
+    (pop-times (is-pow·mul-pop-pow t s) (s .args .i) (dec (s .args .width) (s .args .p .now)) (good-pop (fit-x (s .pre .1 .1 .0 .fit) .good) .0))
+    (c .before .before .make-pow .ensures))
 
--- src/lib.rt:236:1
-mul-pows-returns : (t : ℕ) → mul-pows-lts.Need-returns (mul-lead-below t, mul-lead.Post, add-cross-below t, add-cross.Post) (mul-pows-at t) mul-pows.Post
-mul-pows-returns t c =
-    begins-as ((c .before .before .before .before .before .before .add-cross2) .ensures) (ap (λ h. enc ((c .before .before .before .before .before .before .before .before .before .before .before .before .before .before .before .before .before .before .before .before .before .before .before .before .before .before .before .before .before .before .before .before .before .before .before .before .before) .args .width) (sumOf ((c .before .before .before .before .before .before .before .before .before .before .before .before .before .before .before .before .before .before .before .before .before .before .before .before .before .before .before .before .before .before .before .before .before .before .before .before .before) .args .width) h (crossOf ((c .before .before .before .before .before .before .before .before .before .before .before .before .before .before .before .before .before .before .before .before .before .before .before .before .before .before .before .before .before .before .before .before .before .before .before .before .before) .args .width) ((c .before .before .before .before .before .before .before .before .before .before .before .before .before .before .before .before .before .before .before .before .before .before .before .before .before .before .before .before .before .before .before .before .before .before .before .before .before) .args .j) (dec ((c .before .before .before .before .before .before .before .before .before .before .before .before .before .before .before .before .before .before .before .before .before .before .before .before .before .before .before .before .before .before .before .before .before .before .before .before .before) .args .width) ((c .before .before .before .before .before .before .before .before .before .before .before .before .before .before .before .before .before .before .before .before .before .before .before .before .before .before .before .before .before .before .before .before .before .before .before .before .before) .args .r .now)) (dec ((c .before .before .before .before .before .before .before .before .before .before .before .before .before .before .before .before .before .before .before .before .before .before .before .before .before .before .before .before .before .before .before .before .before .before .before .before .before) .args .width) ((c .before .before .before .before .before .before .before .before .before .before .before .before .before .before .before .before .before .before .before .before .before .before .before .before .before .before .before .before .before .before .before .before .before .before .before .before .before) .args .q .now))))) (dec-enc (two·mul-pows t (c .before .before .before .before .before .before .before .before .before .before .before .before .before .before .before .before))) ∙ ap (enc ((c .before .before .before .before .before .before .before .before .before .before .before .before .before .before .before .before .before .before .before .before .before .before .before .before .before .before .before .before .before .before .before .before .before .before .before .before .before) .args .width)) (sym (pows ((c .before .before .before .before .before .before .before .before .before .before .before .before .before .before .before .before .before .before .before .before .before .before .before .before .before .before .before .before .before .before .before .before .before .before .before .before .before) .args .width) ((c .before .before .before .before .before .before .before .before .before .before .before .before .before .before .before .before .before .before .before .before .before .before .before .before .before .before .before .before .before .before .before .before .before .before .before .before .before) .args .i) ((c .before .before .before .before .before .before .before .before .before .before .before .before .before .before .before .before .before .before .before .before .before .before .before .before .before .before .before .before .before .before .before .before .before .before .before .before .before) .args .j) (dec ((c .before .before .before .before .before .before .before .before .before .before .before .before .before .before .before .before .before .before .before .before .before .before .before .before .before .before .before .before .before .before .before .before .before .before .before .before .before) .args .width) ((c .before .before .before .before .before .before .before .before .before .before .before .before .before .before .before .before .before .before .before .before .before .before .before .before .before .before .before .before .before .before .before .before .before .before .before .before .before) .args .p .now)) (dec ((c .before .before .before .before .before .before .before .before .before .before .before .before .before .before .before .before .before .before .before .before .before .before .before .before .before .before .before .before .before .before .before .before .before .before .before .before .before) .args .width) ((c .before .before .before .before .before .before .before .before .before .before .before .before .before .before .before .before .before .before .before .before .before .before .before .before .before .before .before .before .before .before .before .before .before .before .before .before .before) .args .q .now)) (dec ((c .before .before .before .before .before .before .before .before .before .before .before .before .before .before .before .before .before .before .before .before .before .before .before .before .before .before .before .before .before .before .before .before .before .before .before .before .before) .args .width) ((c .before .before .before .before .before .before .before .before .before .before .before .before .before .before .before .before .before .before .before .before .before .before .before .before .before .before .before .before .before .before .before .before .before .before .before .before .before) .args .r .now)) (dec ((c .before .before .before .before .before .before .before .before .before .before .before .before .before .before .before .before .before .before .before .before .before .before .before .before .before .before .before .before .before .before .before .before .before .before .before .before .before) .args .width) ((c .before .before .before .before .before .before .before .before .before .before .before .before .before .before .before .before .before .before .before .before .before .before .before .before .before .before .before .before .before .before .before .before .before .before .before .before .before) .args .s .now)))))
+mul-pops-meets : {M : Type 1} (t : ℕ) →
+    mul-pops-lts.Closed (product-below t, product.Post, make-pop-reads.Asked, make-pop-reads.Learnt, mul-pops-gt-below t, mul-pops-gt.Post) (mul-pops-at t) mul-pops.Post M
+mul-pops-meets t =
+    mul-pops-lts.spec (product-below t, product.Post, make-pop-reads.Asked, make-pop-reads.Learnt, mul-pops-gt-below t, mul-pops-gt.Post) (mul-pops-at t) mul-pops.Post
+    (λ c. omega (arith, c .before .before .before .before .before .before .pre .1 .1 .tables))
+    (λ c. omega (arith, c .before .before .before .before .before .before .pre .1 .1 .tables))
+    (λ c. search needs)
+    -- product-requires
+    (λ c κs.
+    let s = c .before .before .before .before .before .before .before .before .before in
+    (omega (arith, s .pre .0), ((s .pre .1 .0 .0, s .pre .1 .0 .1), space-at (sym (length-tail-part 1 (s .args .out .now))) refl refl (space-pops (s .args .i) (s .args .j) (dec (s .args .width) (s .args .p .now)) (dec (s .args .width) (s .args .q .now)) (s .pre .1 .1) (c .before .before .before .if1 .taken)))))
+    -- make-pop-requires
+    (λ c κs.
+    let s = c .before .before .before .before .before .before .before .before .before .before .before .before .before .before .before .before .before in
+    let b = c .before .before .before .before .before .before .before in
+    let d = c .before .before .before .before .before .before in (
+      omega (arith, begins-le (b .product .ensures), b .product .kept .1 .1 .1 .0, length-tail-part 1 (s .args .out .now), d .out .given .1, s .pre .1 .1 .tables),
+      (
+        coded (made·mul-pops t d),
+        (good-pop (fit-x (s .pre .1 .1 .fit) .good) .0, pop-asks (s .args .i) (made·mul-pops t d) (pops-eq (s .args .width) (s .args .i) (s .args .j) (dec (s .args .width) (s .args .p .now)) (dec (s .args .width) (s .args .q .now)) (c .before .before .before .before .before .before .before .before .before .before .before .if1 .taken)) (fit-prod (s .pre .1 .1 .fit) .good)),
+      ),
+    ))
+    (λ c. search needs)
+    (λ c. search needs)
+    (λ c. search needs)
+    -- returns
+    (λ c.
+    let s = c .before .before .before .before .before .before .before .before .before .before .before .before .before .before .before .before .before .before .before .before in
+    pop-gives (s .args .i) (made·mul-pops t (c .before .before .before .before .before .before .before .before .before))
+    (pops-eq (s .args .width) (s .args .i) (s .args .j) (dec (s .args .width) (s .args .p .now)) (dec (s .args .width) (s .args .q .now)) (c .before .before .before .before .before .before .before .before .before .before .before .before .before .before .if1 .taken))
+    (c .before .before .make-pop .ensures))
+    -- mul-pops-gt-requires
+    (λ c κs.
+    let s = c .before .before .before .before .before .before .before .before .before .before in
+    (omega (arith, s .pre .0), ((s .pre .1 .0 .0, s .pre .1 .0 .1), (s .pre .1 .1, c .before .before .before .if2 .taken))))
+    (λ c. search needs)
+    (λ c. search needs)
+    (λ c. search needs)
+    (λ c. c .before .before .before .before .before .before .mul-pops-gt .ensures)
+    -- mul-pops-gt-requires-2
+    (λ c κs.
+    let s = c .before .before .before .before .before .before .before .before .before .before in
+    (omega (arith, s .pre .0), ((s .pre .1 .0 .1, s .pre .1 .0 .0), (pop-space-sym (s .pre .1 .1), below·mul-pops t (c .before .before .before)))))
+    (λ c. search needs)
+    (λ c. search needs)
+    (λ c. search needs)
+    -- returns-3
+    (λ c.
+    let s = c .before .before .before .before .before .before .before .before .before .before .before .before .before .before .before .before .before in
+    let b = c .before .before .before .before .before .before .before .before .before .before in
+    begins-as (c .before .before .before .before .before .before .mul-pops-gt2 .ensures)
+    (ap (enc (s .args .width)) (pops-gt (s .args .width) (s .args .j) (s .args .i) (dec (s .args .width) (s .args .q .now)) (dec (s .args .width) (s .args .p .now)) (below·mul-pops t b) ∙ sym (pops-lt (s .args .width) (s .args .i) (s .args .j) (dec (s .args .width) (s .args .p .now)) (dec (s .args .width) (s .args .q .now)) (below·mul-pops t b)))))
 
--- src/lib.rt:51:13
-product-shared-slice-read-w : (t : ℕ) → product-lts.Need-shared-slice-read-w (scale-reads.Asked, scale-reads.Learnt, mul-pop-below t, mul-pop.Post, mul-pow-below t, mul-pow.Post) (product-at t) product.Post
-product-shared-slice-read-w t c = omega (arith, some ((c .before .before .before .before .before .before) .pre .1 .0 .0))
+mul-pops-gt-meets : {M : Type 1} (t : ℕ) →
+    mul-pops-gt-lts.Closed (mul-pop-below t, mul-pop.Post, make-pop-reads.Asked, make-pop-reads.Learnt) (mul-pops-gt-at t) mul-pops-gt.Post M
+mul-pops-gt-meets t =
+    mul-pops-gt-lts.spec (mul-pop-below t, mul-pop.Post, make-pop-reads.Asked, make-pop-reads.Learnt) (mul-pops-gt-at t) mul-pops-gt.Post
+    (λ c. omega (arith, c .before .before .before .before .before .pre .1 .1 .1))
+    (λ c. omega (arith, c .before .before .before .before .before .pre .1 .1 .0 .tables))
+    (λ c. omega (arith, c .before .before .before .before .before .pre .1 .1 .0 .tables))
+    (λ c. search needs)
+    -- mul-pop-requires
+    (λ c κs.
+    let s = c .before .before .before .before .before .before .before .before in
+    (omega (arith, s .pre .0), ((s .pre .1 .0 .0, s .pre .1 .0 .1), pop-space-at (sym (length-tail-part 1 (s .args .out .now))) refl refl (space-pops-gt (s .args .i) (s .args .j) (dec (s .args .width) (s .args .p .now)) (dec (s .args .width) (s .args .q .now)) (s .pre .1 .1 .0) (s .pre .1 .1 .1)))))
+    -- make-pop-requires
+    (λ c κs.
+    let s = c .before .before .before .before .before .before .before .before .before .before .before .before .before .before .before .before in
+    let b = c .before .before .before .before .before .before .before in
+    let d = c .before .before .before .before .before .before in (
+      omega (arith, begins-le (b .mul-pop .ensures), b .mul-pop .kept .1 .1 .1 .1 .0, length-tail-part 1 (s .args .out .now), d .out .given .1, s .pre .1 .1 .0 .tables),
+      (
+        coded (made·mul-pops-gt t d),
+        (good-pop (fit-y (s .pre .1 .1 .0 .fit) .good) .0, pop-asks (s .args .j) (made·mul-pops-gt t d) (pops-gt (s .args .width) (s .args .i) (s .args .j) (dec (s .args .width) (s .args .p .now)) (dec (s .args .width) (s .args .q .now)) (s .pre .1 .1 .1)) (fit-prod (s .pre .1 .1 .0 .fit) .good)),
+      ),
+    ))
+    (λ c. search needs)
+    (λ c. search needs)
+    (λ c. search needs)
+    -- returns
+    (λ c.
+    let s = c .before .before .before .before .before .before .before .before .before .before .before .before .before .before .before .before .before .before .before in
+    pop-gives (s .args .j) (made·mul-pops-gt t (c .before .before .before .before .before .before .before .before .before))
+    (pops-gt (s .args .width) (s .args .i) (s .args .j) (dec (s .args .width) (s .args .p .now)) (dec (s .args .width) (s .args .q .now)) (s .pre .1 .1 .1))
+    (c .before .before .make-pop .ensures))
 
--- src/lib.rt:53:9
-product-scale-requires : (t : ℕ) → product-lts.Need-scale-requires (scale-reads.Asked, scale-reads.Learnt, mul-pop-below t, mul-pop.Post, mul-pow-below t, mul-pow.Post) (product-at t) product.Post
-product-scale-requires t c κs = ((int-view ((c .before .before .before .before .before .before .before .before) .pre .1 .0 .0) ((c .before .if1) .taken)) .below, (((c .before .before .before .before .before .before .before .before) .pre .1 .0 .1), omega (arith, ((c .before .before .before .before .before .before .before .before) .pre .1 .1) .tables, codes-length ((c .before .before .before .before .before .before .before .before) .pre .1 .0 .1), fit-y (((c .before .before .before .before .before .before .before .before) .pre .1 .1) .fit) .words)))
+mul-pow-meets : {M : Type 1} (t : ℕ) →
+    mul-pow-lts.Closed (scale-reads.Asked, scale-reads.Learnt, mul-pop-pow-below t, mul-pop-pow.Post, mul-pows-below t, mul-pows.Post) (mul-pow-at t) mul-pow.Post M
+mul-pow-meets t =
+    mul-pow-lts.spec (scale-reads.Asked, scale-reads.Learnt, mul-pop-pow-below t, mul-pop-pow.Post, mul-pows-below t, mul-pows.Post) (mul-pow-at t) mul-pow.Post
+    (λ c. omega (arith, some (c .before .before .before .before .before .before .pre .1 .0 .1)))
+    -- scale-requires
+    (λ c κs.
+    let s = c .before .before .before .before .before .before .before .before in
+    ((int-view (s .pre .1 .0 .1) (c .before .if1 .taken)) .below, (s .pre .1 .0 .0, omega (arith, s .pre .1 .1 .0 .tables, codes-length (s .pre .1 .0 .0), fit-x (s .pre .1 .1 .0 .fit) .words))))
+    (λ c. search needs)
+    -- returns
+    (λ c.
+    let s = c .before .before .before .before .before .before .before .before .before .before .before in
+    begins-as (c .before .before .scale .ensures)
+    (times-int (int-view (s .pre .1 .0 .1) (c .before .before .before .before .if1 .taken)) (dec (s .args .width) (s .args .x .now))))
+    (λ c. omega (arith, c .before .shared-slice-known3 .given 0))
+    (λ c. omega (arith, is-pop·mul-pow t c))
+    (λ c. omega (arith, is-pop·mul-pow t c))
+    (λ c. search needs)
+    -- mul-pop-pow-requires
+    (λ c κs.
+    let s = c .before .before .before .before .before .before .before .before .before .before .before .before in
+    let b = c .before .before .before .before in (
+      omega (arith, (is-pop·mul-pow t b), s .pre .0),
+      (
+        ((is-pop·mul-pow t b) .part, s .pre .1 .0 .0),
+        (pop-space ((getD (s .args .y .now) 0 0) % 64) (dec (s .args .width) (inner (s .args .y .now))) (subst (λ h. Space (s .args .width) h (dec (s .args .width) (s .args .x .now)) (length (s .args .out .now)) (length (s .args .t .now)) (length (s .args .u .now))) ((is-pop·mul-pow t b) .is) (space-sym (s .pre .1 .1 .0))), s .pre .1 .1 .1),
+      ),
+    ))
+    (λ c. search needs)
+    (λ c. search needs)
+    (λ c. search needs)
+    -- returns-2
+    (λ c.
+    let s = c .before .before .before .before .before .before .before .before .before .before .before .before .before .before .before .before .before .before .before in
+    let b = c .before .before .before .before .before .before .before .before .before .before .before in
+    begins-as (c .before .before .before .before .before .before .mul-pop-pow .ensures)
+    (ap (enc (s .args .width)) (times-swap (v-pow·mul-pow t s) ((getD (s .args .y .now) 0 0) % 64) (dec (s .args .width) (inner (s .args .y .now))) (good-pop ((is-pop·mul-pow t b) .node) .0)) ∙ ap (λ h. enc (s .args .width) (prodOf (s .args .width) (dec (s .args .width) (s .args .x .now)) h)) (sym ((is-pop·mul-pow t b) .is))))
+    (λ c. omega (arith, is-pow·mul-pow t c))
+    (λ c. omega (arith, some (c .before .before .before .before .before .before .before .before .before .pre .1 .0 .0)))
+    (λ c. c .before .before .before .before .before .before .before .before .before .pre .1 .1 .1 .node)
+    (λ c. omega (arith, c .shared-slice-known4 .given 0))
+    (λ c. omega (arith, v-pow·mul-pow t (c .before .before .before .before .before .before .before .before .before)))
+    (λ c. search needs)
+    (λ c. search needs)
+    (λ c. omega (arith, v-pow·mul-pow t (c .before .before .before .before .before .before .before .before .before)))
+    (λ c. let s = c .before .before .before .before .before .before .before .before .before .before in omega (arith, v-pow·mul-pow t s, s .good .1 .0))
+    (λ c. omega (arith, v-pow·mul-pow t (c .before .before .before .before .before .before .before .before .before .before)))
+    (λ c. omega (arith, v-pow·mul-pow t (c .before .before .before .before .before .before .before .before .before .before)))
+    (λ c. search needs)
+    (λ c. search needs)
+    (λ c. search needs)
+    (λ c. omega (arith, is-pow·mul-pow t (c .before .before .before)))
+    -- mul-mul-pows-2
+    (λ c.
+    omega (arith, is-pow·mul-pow t (c .before .before .before .before), c .before .before .before .before .before .before .before .before .before .before .before .before .good .1 .1 .0))
+    (λ c. omega (arith, is-pow·mul-pow t (c .before .before .before .before)))
+    (λ c. omega (arith, is-pow·mul-pow t (c .before .before .before .before)))
+    (λ c. search needs)
+    -- mul-pows-requires
+    (λ c κs.
+    let s = c .before .before .before .before .before .before .before .before .before .before .before .before .before .before .before .before in
+    let b = c .before .before .before .before .before .before .before .before in (
+      omega (arith, (v-pow·mul-pow t s), (is-pow·mul-pow t b), s .pre .0),
+      ((((v-pow·mul-pow t s) .left, (v-pow·mul-pow t s) .right), ((is-pow·mul-pow t b) .left, (is-pow·mul-pow t b) .right)), subst (λ h. Space (s .args .width) h (pow ((getD (s .args .y .now) 0 0) % 64) (dec (s .args .width) (first (s .args .y .now))) (dec (s .args .width) (rest (s .args .y .now)))) (length (s .args .out .now)) (length (s .args .t .now)) (length (s .args .u .now))) ((v-pow·mul-pow t s) .is) (subst (λ h. Space (s .args .width) (dec (s .args .width) (s .args .x .now)) h (length (s .args .out .now)) (length (s .args .t .now)) (length (s .args .u .now))) ((is-pow·mul-pow t b) .is) (s .pre .1 .1 .0))),
+    ))
+    (λ c. search needs)
+    (λ c. search needs)
+    (λ c. search needs)
+    -- returns-3
+    (λ c.
+    let s = c .before .before .before .before .before .before .before .before .before .before .before .before .before .before .before .before .before .before .before .before .before .before .before in
+    begins-as (c .before .before .before .before .before .before .mul-pows .ensures)
+    (ap (λ h. enc (s .args .width) (prodOf (s .args .width) h (pow ((getD (s .args .y .now) 0 0) % 64) (dec (s .args .width) (first (s .args .y .now))) (dec (s .args .width) (rest (s .args .y .now)))))) (sym ((v-pow·mul-pow t s) .is)) ∙ ap (λ h. enc (s .args .width) (prodOf (s .args .width) (dec (s .args .width) (s .args .x .now)) h)) (sym ((is-pow·mul-pow t (c .before .before .before .before .before .before .before .before .before .before .before .before .before .before .before)) .is))))
 
--- src/lib.rt:53:9
-product-same-length : (t : ℕ) → product-lts.Need-same-length (scale-reads.Asked, scale-reads.Learnt, mul-pop-below t, mul-pop.Post, mul-pow-below t, mul-pow.Post) (product-at t) product.Post
-product-same-length t c = search needs
+mul-pows-meets : {M : Type 1} (t : ℕ) →
+    mul-pows-lts.Closed (mul-lead-below t, mul-lead.Post, add-cross-below t, add-cross.Post) (mul-pows-at t) mul-pows.Post M
+mul-pows-meets t =
+    mul-pows-lts.spec (mul-lead-below t, mul-lead.Post, add-cross-below t, add-cross.Post) (mul-pows-at t) mul-pows.Post
+    -- mul-lead-requires
+    (λ c κs.
+    let s = c .before .before .before .before .before .before .before .before .before .before in
+    (omega (arith, s .pre .0), (((s .pre .1 .0 .0 .0, s .pre .1 .0 .0 .1), (s .pre .1 .0 .1 .0, s .pre .1 .0 .1 .1)), s .pre .1 .1)))
+    -- add-cross-requires
+    (λ c κs.
+    let s = c .before .before .before .before .before .before .before .before .before .before .before .before .before .before .before .before .before .before .before .before in
+    let b = c .before .before .before .before .before .before .before .before .before in (
+      omega (arith, s .pre .0, some (s .pre .1 .0 .0 .1), some (s .pre .1 .0 .1 .0)),
+      (
+        (s .pre .1 .0 .0 .0, s .pre .1 .0 .1 .1),
+        (
+          (few-a·mul-pows t b, coded (one·mul-pows t b)),
+          (
+            cross-at (sym (b .mul-lead .kept .1 .1 .1 .1 .1 .1 .1 .1 .0)) (behind-one·mul-pows t b) (sym (b .mul-lead .kept .1 .1 .1 .1 .1 .1 .1 .1 .1 .0))
+                (space-cross (s .args .i) (s .args .j) (dec (s .args .width) (s .args .p .now)) (dec (s .args .width) (s .args .q .now)) (dec (s .args .width) (s .args .r .now)) (dec (s .args .width) (s .args .s .now)) (s .pre .1 .1) (b .mul-lead .result) (few-a·mul-pows t b)),
+            subst
+                (λ h. Held (s .args .width) (sumOf (s .args .width) h (crossOf (s .args .width) (s .args .i) (dec (s .args .width) (s .args .p .now)) (dec (s .args .width) (s .args .s .now)))))
+                (sym (dec-enc (one·mul-pows t b)))
+                (two-held (s .args .i) (s .args .j) (dec (s .args .width) (s .args .p .now)) (dec (s .args .width) (s .args .q .now)) (dec (s .args .width) (s .args .r .now)) (dec (s .args .width) (s .args .s .now)) (s .pre .1 .1 .fit)),
+          ),
+        ),
+      ),
+    ))
+    -- add-cross-requires-2
+    (λ c κs.
+    let s = c .before .before .before .before .before .before .before .before .before .before .before .before .before .before .before .before .before .before .before .before .before .before .before .before .before .before .before .before .before .before in
+    let b = c .before .before .before .before .before .before .before .before .before .before .before .before .before .before .before .before .before .before .before in
+    let d = c .before .before .before .before .before .before .before .before .before in (
+      omega (arith, s .pre .0, some (s .pre .1 .0 .0 .0), some (s .pre .1 .0 .1 .1)),
+      (
+        (s .pre .1 .0 .1 .0, s .pre .1 .0 .0 .1),
+        (
+          (few-n·mul-pows t d, coded (two·mul-pows t d)),
+          (
+            cross-at (sym (d .add-cross .kept .1 .1 .1 .1 .1 .1 .0 ∙ (b .mul-lead .kept .1 .1 .1 .1 .1 .1 .1) .1 .0)) (behind-two·mul-pows t d)
+                (sym (d .add-cross .kept .1 .1 .1 .1 .1 .1 .1 .0 ∙ (b .mul-lead .kept .1 .1 .1 .1 .1 .1 .1) .1 .1 .0))
+                (space-cross (s .args .j) (s .args .i) (dec (s .args .width) (s .args .r .now)) (dec (s .args .width) (s .args .s .now)) (dec (s .args .width) (s .args .p .now)) (dec (s .args .width) (s .args .q .now)) (space-sym (s .pre .1 .1)) (d .add-cross .result) (few-n·mul-pows t d)),
+            subst
+                (λ h. Held (s .args .width) (sumOf (s .args .width) h (crossOf (s .args .width) (s .args .j) (dec (s .args .width) (s .args .r .now)) (dec (s .args .width) (s .args .q .now)))))
+                (sym (dec-enc (two·mul-pows t d)))
+                (subst (Held (s .args .width)) (pows (s .args .width) (s .args .i) (s .args .j) (dec (s .args .width) (s .args .p .now)) (dec (s .args .width) (s .args .q .now)) (dec (s .args .width) (s .args .r .now)) (dec (s .args .width) (s .args .s .now))) (fit-prod (s .pre .1 .1 .fit))),
+          ),
+        ),
+      ),
+    ))
+    (λ c. search needs)
+    (λ c. search needs)
+    (λ c. search needs)
+    -- returns
+    (λ c.
+    let s = c .before .before .before .before .before .before .before .before .before .before .before .before .before .before .before .before .before .before .before .before .before .before .before .before .before .before .before .before .before .before .before .before .before .before .before .before .before in
+    begins-as (c .before .before .before .before .before .before .add-cross2 .ensures)
+    (ap (λ h. enc (s .args .width) (sumOf (s .args .width) h (crossOf (s .args .width) (s .args .j) (dec (s .args .width) (s .args .r .now)) (dec (s .args .width) (s .args .q .now))))) (dec-enc (two·mul-pows t (c .before .before .before .before .before .before .before .before .before .before .before .before .before .before .before .before))) ∙ ap (enc (s .args .width)) (sym (pows (s .args .width) (s .args .i) (s .args .j) (dec (s .args .width) (s .args .p .now)) (dec (s .args .width) (s .args .q .now)) (dec (s .args .width) (s .args .r .now)) (dec (s .args .width) (s .args .s .now))))))
 
--- src/lib.rt:53:9
-product-returns : (t : ℕ) → product-lts.Need-returns (scale-reads.Asked, scale-reads.Learnt, mul-pop-below t, mul-pop.Post, mul-pow-below t, mul-pow.Post) (product-at t) product.Post
-product-returns t c = begins-as ((c .before .before .scale) .ensures) (int-times (int-view ((c .before .before .before .before .before .before .before .before .before .before .before) .pre .1 .0 .0) ((c .before .before .before .before .if1) .taken)) (dec ((c .before .before .before .before .before .before .before .before .before .before .before) .args .width) ((c .before .before .before .before .before .before .before .before .before .before .before) .args .y .now)))
-
--- src/lib.rt:55:13
-product-cast-k : (t : ℕ) → product-lts.Need-cast-k (scale-reads.Asked, scale-reads.Learnt, mul-pop-below t, mul-pop.Post, mul-pow-below t, mul-pow.Post) (product-at t) product.Post
-product-cast-k t c = omega (arith, (c .before .shared-slice-known3) .given 0)
-
--- src/lib.rt:57:39
-product-sub-mul-pop : (t : ℕ) → product-lts.Need-sub-mul-pop (scale-reads.Asked, scale-reads.Learnt, mul-pop-below t, mul-pop.Post, mul-pow-below t, mul-pow.Post) (product-at t) product.Post
-product-sub-mul-pop t c = omega (arith, is-pop·product t c)
-
--- src/lib.rt:57:39
-product-part-mul-pop-start : (t : ℕ) → product-lts.Need-part-mul-pop-start (scale-reads.Asked, scale-reads.Learnt, mul-pop-below t, mul-pop.Post, mul-pow-below t, mul-pow.Post) (product-at t) product.Post
-product-part-mul-pop-start t c = omega (arith, is-pop·product t c)
-
--- src/lib.rt:57:39
-product-part-mul-pop-end : (t : ℕ) → product-lts.Need-part-mul-pop-end (scale-reads.Asked, scale-reads.Learnt, mul-pop-below t, mul-pop.Post, mul-pow-below t, mul-pow.Post) (product-at t) product.Post
-product-part-mul-pop-end t c = search needs
-
--- src/lib.rt:57:9
-product-mul-pop-requires : (t : ℕ) → product-lts.Need-mul-pop-requires (scale-reads.Asked, scale-reads.Learnt, mul-pop-below t, mul-pop.Post, mul-pow-below t, mul-pow.Post) (product-at t) product.Post
-product-mul-pop-requires t c κs = (
-  omega (arith, codes-length (inner·product t (c .before .before .before .before)), is-pop·product t (c .before .before .before .before), ((c .before .before .before .before .before .before .before .before .before .before .before .before) .pre .0)),
-  ((coded (inner·product t (c .before .before .before .before)), ((c .before .before .before .before .before .before .before .before .before .before .before .before) .pre .1 .0 .1)), pop-space ((getD ((c .before .before .before .before .before .before .before .before .before .before .before .before) .args .x .now) 0 0) % 64) (dec ((c .before .before .before .before .before .before .before .before .before .before .before .before) .args .width) (take (length ((c .before .before .before .before .before .before .before .before .before .before .before .before) .args .x .now) - 1) (drop 1 ((c .before .before .before .before .before .before .before .before .before .before .before .before) .args .x .now)))) (subst (λ h. Space ((c .before .before .before .before .before .before .before .before .before .before .before .before) .args .width) h (dec ((c .before .before .before .before .before .before .before .before .before .before .before .before) .args .width) ((c .before .before .before .before .before .before .before .before .before .before .before .before) .args .y .now)) (length ((c .before .before .before .before .before .before .before .before .before .before .before .before) .args .out .now)) (length ((c .before .before .before .before .before .before .before .before .before .before .before .before) .args .t .now)) (length ((c .before .before .before .before .before .before .before .before .before .before .before .before) .args .u .now))) (sym (pop-is (is-pop·product t (c .before .before .before .before)) _ (dec-enc (inner·product t (c .before .before .before .before))))) ((c .before .before .before .before .before .before .before .before .before .before .before .before) .pre .1 .1))),
-)
-
--- src/lib.rt:57:9
-product-same-length-2 : (t : ℕ) → product-lts.Need-same-length-2 (scale-reads.Asked, scale-reads.Learnt, mul-pop-below t, mul-pop.Post, mul-pow-below t, mul-pow.Post) (product-at t) product.Post
-product-same-length-2 t c = search needs
-
--- src/lib.rt:57:9
-product-same-length-3 : (t : ℕ) → product-lts.Need-same-length-3 (scale-reads.Asked, scale-reads.Learnt, mul-pop-below t, mul-pop.Post, mul-pow-below t, mul-pow.Post) (product-at t) product.Post
-product-same-length-3 t c = search needs
-
--- src/lib.rt:57:9
-product-same-length-4 : (t : ℕ) → product-lts.Need-same-length-4 (scale-reads.Asked, scale-reads.Learnt, mul-pop-below t, mul-pop.Post, mul-pow-below t, mul-pow.Post) (product-at t) product.Post
-product-same-length-4 t c = search needs
-
--- src/lib.rt:57:9
-product-returns-2 : (t : ℕ) → product-lts.Need-returns-2 (scale-reads.Asked, scale-reads.Learnt, mul-pop-below t, mul-pop.Post, mul-pow-below t, mul-pow.Post) (product-at t) product.Post
-product-returns-2 t c = begins-as ((c .before .before .before .before .before .before .mul-pop) .ensures) (ap (λ h. enc ((c .before .before .before .before .before .before .before .before .before .before .before .before .before .before .before .before .before .before .before) .args .width) (prodOf ((c .before .before .before .before .before .before .before .before .before .before .before .before .before .before .before .before .before .before .before) .args .width) h (dec ((c .before .before .before .before .before .before .before .before .before .before .before .before .before .before .before .before .before .before .before) .args .width) ((c .before .before .before .before .before .before .before .before .before .before .before .before .before .before .before .before .before .before .before) .args .y .now)))) (pop-is (is-pop·product t (c .before .before .before .before .before .before .before .before .before .before .before)) _ (dec-enc (inner·product t (c .before .before .before .before .before .before .before .before .before .before .before)))))
-
--- src/lib.rt:59:5
-product-mul-pow-requires : (t : ℕ) → product-lts.Need-mul-pow-requires (scale-reads.Asked, scale-reads.Learnt, mul-pop-below t, mul-pop.Post, mul-pow-below t, mul-pow.Post) (product-at t) product.Post
-product-mul-pow-requires t c κs = (omega (arith, ((c .before .before .before .before .before .before .before .before .before .before .before) .pre .0)), ((((c .before .before .before .before .before .before .before .before .before .before .before) .pre .1 .0 .0), ((c .before .before .before .before .before .before .before .before .before .before .before) .pre .1 .0 .1)), (((c .before .before .before .before .before .before .before .before .before .before .before) .pre .1 .1), record { node = (c .before .before .before .before .if1) .left; sized = (c .before .before .before .if2) .left })))
-
--- src/lib.rt:39:1
-product-same-length-5 : (t : ℕ) → product-lts.Need-same-length-5 (scale-reads.Asked, scale-reads.Learnt, mul-pop-below t, mul-pop.Post, mul-pow-below t, mul-pow.Post) (product-at t) product.Post
-product-same-length-5 t c = search needs
-
--- src/lib.rt:39:1
-product-same-length-6 : (t : ℕ) → product-lts.Need-same-length-6 (scale-reads.Asked, scale-reads.Learnt, mul-pop-below t, mul-pop.Post, mul-pow-below t, mul-pow.Post) (product-at t) product.Post
-product-same-length-6 t c = search needs
-
--- src/lib.rt:39:1
-product-same-length-7 : (t : ℕ) → product-lts.Need-same-length-7 (scale-reads.Asked, scale-reads.Learnt, mul-pop-below t, mul-pop.Post, mul-pow-below t, mul-pow.Post) (product-at t) product.Post
-product-same-length-7 t c = search needs
-
--- src/lib.rt:39:1
-product-returns-3 : (t : ℕ) → product-lts.Need-returns-3 (scale-reads.Asked, scale-reads.Learnt, mul-pop-below t, mul-pop.Post, mul-pow-below t, mul-pow.Post) (product-at t) product.Post
-product-returns-3 t c = (c .before .before .before .before .before .before .mul-pow) .ensures
+product-meets : {M : Type 1} (t : ℕ) →
+    product-lts.Closed (scale-reads.Asked, scale-reads.Learnt, mul-pop-below t, mul-pop.Post, mul-pow-below t, mul-pow.Post) (product-at t) product.Post M
+product-meets t =
+    product-lts.spec (scale-reads.Asked, scale-reads.Learnt, mul-pop-below t, mul-pop.Post, mul-pow-below t, mul-pow.Post) (product-at t) product.Post
+    (λ c. omega (arith, some (c .before .before .before .before .before .before .pre .1 .0 .0)))
+    -- scale-requires
+    (λ c κs.
+    let s = c .before .before .before .before .before .before .before .before in
+    ((int-view (s .pre .1 .0 .0) (c .before .if1 .taken)) .below, (s .pre .1 .0 .1, omega (arith, s .pre .1 .1 .tables, codes-length (s .pre .1 .0 .1), fit-y (s .pre .1 .1 .fit) .words))))
+    (λ c. search needs)
+    -- returns
+    (λ c.
+    let s = c .before .before .before .before .before .before .before .before .before .before .before in
+    begins-as (c .before .before .scale .ensures)
+    (int-times (int-view (s .pre .1 .0 .0) (c .before .before .before .before .if1 .taken)) (dec (s .args .width) (s .args .y .now))))
+    (λ c. omega (arith, c .before .shared-slice-known3 .given 0))
+    (λ c. omega (arith, is-pop·product t c))
+    (λ c. omega (arith, is-pop·product t c))
+    (λ c. search needs)
+    -- mul-pop-requires
+    (λ c κs.
+    let s = c .before .before .before .before .before .before .before .before .before .before .before .before in
+    let b = c .before .before .before .before in (
+      omega (arith, (is-pop·product t b), s .pre .0),
+      (((is-pop·product t b) .part, s .pre .1 .0 .1), pop-space ((getD (s .args .x .now) 0 0) % 64) (dec (s .args .width) (inner (s .args .x .now))) (subst (λ h. Space (s .args .width) h (dec (s .args .width) (s .args .y .now)) (length (s .args .out .now)) (length (s .args .t .now)) (length (s .args .u .now))) ((is-pop·product t b) .is) (s .pre .1 .1))),
+    ))
+    (λ c. search needs)
+    (λ c. search needs)
+    (λ c. search needs)
+    -- returns-2
+    (λ c.
+    let s = c .before .before .before .before .before .before .before .before .before .before .before .before .before .before .before .before .before .before .before in
+    begins-as (c .before .before .before .before .before .before .mul-pop .ensures)
+    (ap (λ h. enc (s .args .width) (prodOf (s .args .width) h (dec (s .args .width) (s .args .y .now)))) (sym ((is-pop·product t (c .before .before .before .before .before .before .before .before .before .before .before)) .is))))
+    -- mul-pow-requires
+    (λ c κs.
+    let s = c .before .before .before .before .before .before .before .before .before .before .before in
+    (omega (arith, s .pre .0), ((s .pre .1 .0 .0, s .pre .1 .0 .1), (s .pre .1 .1, record { node = (c .before .before .before .before .if1) .left; sized = (c .before .before .before .if2) .left }))))
+    (λ c. search needs)
+    (λ c. search needs)
+    (λ c. search needs)
+    (λ c. c .before .before .before .before .before .before .mul-pow .ensures)
 
 pub +add-cross+mul-any-pop+mul-by-pop+mul-cross+mul-lead+mul-less+mul-pop+mul-pop-pow+mul-pops+mul-pops-gt+mul-pow+mul-pows+product-spec : {M : Type 1} → statement M
-+add-cross+mul-any-pop+mul-by-pop+mul-cross+mul-lead+mul-less+mul-pop+mul-pop-pow+mul-pops+mul-pops-gt+mul-pow+mul-pows+product-spec = close μ-add-cross μ-mul-any-pop μ-mul-by-pop μ-mul-cross μ-mul-lead μ-mul-less μ-mul-pop μ-mul-pop-pow μ-mul-pops μ-mul-pops-gt μ-mul-pow μ-mul-pows μ-product (λ t. add-cross-lts.spec (mul-cross-below t, mul-cross.Post, sum-back-reads.Asked, sum-back-reads.Learnt) (add-cross-at t) add-cross.Post (add-cross-mul-mul-cross t) (add-cross-sub-mul-cross t) (add-cross-part-mul-cross-start t) (add-cross-part-mul-cross-end t) (add-cross-mul-cross-requires t) (add-cross-slice-reshare-prefix-sum-back t) (add-cross-slice-aggregate-sum-back t) (add-cross-sum-back-requires t) (add-cross-same-length t) (add-cross-same-length-2 t) (add-cross-same-length-3 t) (add-cross-returns t)) (λ t. mul-any-pop-lts.spec (scale-pop-reads.Asked, scale-pop-reads.Learnt, mul-pops-below t, mul-pops.Post, mul-pop-pow-below t, mul-pop-pow.Post) (mul-any-pop-at t) mul-any-pop.Post (mul-any-pop-shared-slice-read-w t) (mul-any-pop-scale-pop-requires t) (mul-any-pop-same-length t) (mul-any-pop-returns t) (mul-any-pop-cast-k t) (mul-any-pop-sub-mul-pops t) (mul-any-pop-part-mul-pops-start t) (mul-any-pop-part-mul-pops-end t) (mul-any-pop-mul-pops-requires t) (mul-any-pop-same-length-2 t) (mul-any-pop-same-length-3 t) (mul-any-pop-same-length-4 t) (mul-any-pop-returns-2 t) (mul-any-pop-mul-pop-pow-requires t) (mul-any-pop-same-length-5 t) (mul-any-pop-same-length-6 t) (mul-any-pop-same-length-7 t) (mul-any-pop-returns-3 t)) (λ t. mul-by-pop-lts.spec (scale-reads.Asked, scale-reads.Learnt, mul-any-pop-below t, mul-any-pop.Post) (mul-by-pop-at t) mul-by-pop.Post (mul-by-pop-shared-slice-read-w t) (mul-by-pop-scale-requires t) (mul-by-pop-same-length t) (mul-by-pop-returns t) (mul-by-pop-cast-k t) (mul-by-pop-add-mul-any-pop t) (mul-by-pop-sub-mul-any-pop t) (mul-by-pop-part-mul-any-pop-start t) (mul-by-pop-part-mul-any-pop-end t) (mul-by-pop-mul-any-pop-requires t) (mul-by-pop-same-length-2 t) (mul-by-pop-same-length-3 t) (mul-by-pop-same-length-4 t) (mul-by-pop-returns-2 t) (mul-by-pop-mul-any-pop-requires-2 t) (mul-by-pop-same-length-5 t) (mul-by-pop-same-length-6 t) (mul-by-pop-same-length-7 t) (mul-by-pop-returns-3 t)) (λ t. mul-cross-lts.spec (mul-by-pop-below t, mul-by-pop.Post, make-pow-reads.Asked, make-pow-reads.Learnt) (mul-cross-at t) mul-cross.Post (mul-cross-sub-mul-by-pop t) (mul-cross-part-mul-by-pop-start t) (mul-cross-part-mul-by-pop-end t) (mul-cross-mul-by-pop-requires t) (mul-cross-add-f t) (mul-cross-mul-out t) (mul-cross-slice-write-out t) (mul-cross-make-pow-requires t) (mul-cross-same-length t) (mul-cross-same-length-2 t) (mul-cross-same-length-3 t) (mul-cross-returns t)) (λ t. mul-lead-lts.spec (product-below t, product.Post, make-pow-reads.Asked, make-pow-reads.Learnt) (mul-lead-at t) mul-lead.Post (mul-lead-sub-product t) (mul-lead-part-product-start t) (mul-lead-part-product-end t) (mul-lead-product-requires t) (mul-lead-add-f t) (mul-lead-mul-product t) (mul-lead-sub-product-2 t) (mul-lead-part-product-start-2 t) (mul-lead-part-product-end-2 t) (mul-lead-product-requires-2 t) (mul-lead-add-make-pow t) (mul-lead-make-pow-requires t) (mul-lead-same-length t) (mul-lead-same-length-2 t) (mul-lead-same-length-3 t) (mul-lead-returns t)) (λ t. mul-less-lts.spec (product-below t, product.Post, mul-pop-below t, mul-pop.Post) (mul-less-at t) mul-less.Post (mul-less-product-requires t) (mul-less-same-length t) (mul-less-same-length-2 t) (mul-less-same-length-3 t) (mul-less-returns t) (mul-less-sub-mul-pop t) (mul-less-mul-pop-requires t) (mul-less-same-length-4 t) (mul-less-same-length-5 t) (mul-less-same-length-6 t) (mul-less-returns-2 t)) (λ t. mul-pop-lts.spec (scale-pop-reads.Asked, scale-pop-reads.Learnt, mul-pops-below t, mul-pops.Post, mul-pop-pow-below t, mul-pop-pow.Post) (mul-pop-at t) mul-pop.Post (mul-pop-shared-slice-read-w t) (mul-pop-scale-pop-requires t) (mul-pop-same-length t) (mul-pop-returns t) (mul-pop-cast-k t) (mul-pop-sub-mul-pops t) (mul-pop-part-mul-pops-start t) (mul-pop-part-mul-pops-end t) (mul-pop-mul-pops-requires t) (mul-pop-same-length-2 t) (mul-pop-same-length-3 t) (mul-pop-same-length-4 t) (mul-pop-returns-2 t) (mul-pop-mul-pop-pow-requires t) (mul-pop-same-length-5 t) (mul-pop-same-length-6 t) (mul-pop-same-length-7 t) (mul-pop-returns-3 t)) (λ t. mul-pop-pow-lts.spec (mul-pop-below t, mul-pop.Post, mul-less-below t, mul-less.Post, make-pow-reads.Asked, make-pow-reads.Learnt) (mul-pop-pow-at t) mul-pop-pow.Post (mul-pop-pow-shared-slice-read-w t) (mul-pop-pow-sub-k t) (mul-pop-pow-cast-k t) (mul-pop-pow-add-e t) (mul-pop-pow-sub-mul-pop t) (mul-pop-pow-part-mul-pop-start t) (mul-pop-pow-part-mul-pop-end t) (mul-pop-pow-sub-mul-pop-2 t) (mul-pop-pow-part-mul-pop-start-2 t) (mul-pop-pow-part-mul-pop-end-2 t) (mul-pop-pow-mul-pop-requires t) (mul-pop-pow-add-f t) (mul-pop-pow-mul-mul-less t) (mul-pop-pow-sub-mul-less t) (mul-pop-pow-part-mul-less-start t) (mul-pop-pow-part-mul-less-end t) (mul-pop-pow-mul-mul-less-2 t) (mul-pop-pow-sub-mul-less-2 t) (mul-pop-pow-part-mul-less-start-2 t) (mul-pop-pow-part-mul-less-end-2 t) (mul-pop-pow-mul-less-requires t) (mul-pop-pow-make-pow-requires t) (mul-pop-pow-same-length t) (mul-pop-pow-same-length-2 t) (mul-pop-pow-same-length-3 t) (mul-pop-pow-returns t)) (λ t. mul-pops-lts.spec (product-below t, product.Post, make-pop-reads.Asked, make-pop-reads.Learnt, mul-pops-gt-below t, mul-pops-gt.Post) (mul-pops-at t) mul-pops.Post (mul-pops-sub-product t) (mul-pops-part-product-start t) (mul-pops-part-product-end t) (mul-pops-product-requires t) (mul-pops-make-pop-requires t) (mul-pops-same-length t) (mul-pops-same-length-2 t) (mul-pops-same-length-3 t) (mul-pops-returns t) (mul-pops-mul-pops-gt-requires t) (mul-pops-same-length-4 t) (mul-pops-same-length-5 t) (mul-pops-same-length-6 t) (mul-pops-returns-2 t) (mul-pops-mul-pops-gt-requires-2 t) (mul-pops-same-length-7 t) (mul-pops-same-length-8 t) (mul-pops-same-length-9 t) (mul-pops-returns-3 t)) (λ t. mul-pops-gt-lts.spec (mul-pop-below t, mul-pop.Post, make-pop-reads.Asked, make-pop-reads.Learnt) (mul-pops-gt-at t) mul-pops-gt.Post (mul-pops-gt-sub-mul-pop t) (mul-pops-gt-sub-mul-pop-2 t) (mul-pops-gt-part-mul-pop-start t) (mul-pops-gt-part-mul-pop-end t) (mul-pops-gt-mul-pop-requires t) (mul-pops-gt-make-pop-requires t) (mul-pops-gt-same-length t) (mul-pops-gt-same-length-2 t) (mul-pops-gt-same-length-3 t) (mul-pops-gt-returns t)) (λ t. mul-pow-lts.spec (scale-reads.Asked, scale-reads.Learnt, mul-pop-pow-below t, mul-pop-pow.Post, mul-pows-below t, mul-pows.Post) (mul-pow-at t) mul-pow.Post (mul-pow-shared-slice-read-w t) (mul-pow-scale-requires t) (mul-pow-same-length t) (mul-pow-returns t) (mul-pow-cast-k t) (mul-pow-sub-mul-pop-pow t) (mul-pow-part-mul-pop-pow-start t) (mul-pow-part-mul-pop-pow-end t) (mul-pow-mul-pop-pow-requires t) (mul-pow-same-length-2 t) (mul-pow-same-length-3 t) (mul-pow-same-length-4 t) (mul-pow-returns-2 t) (mul-pow-add-f t) (mul-pow-shared-slice-read-v t) (mul-pow-sub-c t) (mul-pow-cast-c t) (mul-pow-add-e t) (mul-pow-sub-mul-pows t) (mul-pow-part-mul-pows-start t) (mul-pow-part-mul-pows-end t) (mul-pow-mul-mul-pows t) (mul-pow-sub-mul-pows-2 t) (mul-pow-part-mul-pows-start-2 t) (mul-pow-part-mul-pows-end-2 t) (mul-pow-sub-mul-pows-3 t) (mul-pow-part-mul-pows-start-3 t) (mul-pow-part-mul-pows-end-3 t) (mul-pow-mul-mul-pows-2 t) (mul-pow-sub-mul-pows-4 t) (mul-pow-part-mul-pows-start-4 t) (mul-pow-part-mul-pows-end-4 t) (mul-pow-mul-pows-requires t) (mul-pow-same-length-5 t) (mul-pow-same-length-6 t) (mul-pow-same-length-7 t) (mul-pow-returns-3 t)) (λ t. mul-pows-lts.spec (mul-lead-below t, mul-lead.Post, add-cross-below t, add-cross.Post) (mul-pows-at t) mul-pows.Post (mul-pows-mul-lead-requires t) (mul-pows-add-cross-requires t) (mul-pows-add-cross-requires-2 t) (mul-pows-same-length t) (mul-pows-same-length-2 t) (mul-pows-same-length-3 t) (mul-pows-returns t)) λ t. product-lts.spec (scale-reads.Asked, scale-reads.Learnt, mul-pop-below t, mul-pop.Post, mul-pow-below t, mul-pow.Post) (product-at t) product.Post (product-shared-slice-read-w t) (product-scale-requires t) (product-same-length t) (product-returns t) (product-cast-k t) (product-sub-mul-pop t) (product-part-mul-pop-start t) (product-part-mul-pop-end t) (product-mul-pop-requires t) (product-same-length-2 t) (product-same-length-3 t) (product-same-length-4 t) (product-returns-2 t) (product-mul-pow-requires t) (product-same-length-5 t) (product-same-length-6 t) (product-same-length-7 t) (product-returns-3 t)
++add-cross+mul-any-pop+mul-by-pop+mul-cross+mul-lead+mul-less+mul-pop+mul-pop-pow+mul-pops+mul-pops-gt+mul-pow+mul-pows+product-spec =
+    close
+    μ-add-cross μ-mul-any-pop μ-mul-by-pop μ-mul-cross μ-mul-lead μ-mul-less μ-mul-pop μ-mul-pop-pow μ-mul-pops μ-mul-pops-gt μ-mul-pow μ-mul-pows
+    μ-product
+    add-cross-meets mul-any-pop-meets mul-by-pop-meets mul-cross-meets mul-lead-meets mul-less-meets mul-pop-meets mul-pop-pow-meets mul-pops-meets
+    mul-pops-gt-meets mul-pow-meets mul-pows-meets product-meets

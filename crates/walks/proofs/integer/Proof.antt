@@ -9,22 +9,14 @@ use Rattle.coded.proofs.Making.{leaf-code}
 use borrow.Author.Needs.{needs}
 use Rattle.walks.proofs.integer.Statement.{statement}
 use Rattle.walks.proofs.integer.Tie as tie
-use Rattle.walks.proofs.integer.Reads as reads
-use Rattle.walks.proofs.integer.Lts as lts
-
--- src/lib.rt:174:5
-slice-write-out : tie.Need-slice-write-out
-slice-write-out c = search needs
-
--- src/lib.rt:169:1
-same-length : tie.Need-same-length
-same-length c = search needs
-
--- src/lib.rt:169:1
-returns : tie.Need-returns
-returns c =
-    let v : IsInt (c .args .width) (int (leaf (c .args .width) (c .args .a))) (c .args .a) = record { is = refl; below = c .pre .0 } in
-    begins-as (begins-set (c .args .out .now) (c .args .a) (c .pre .1)) (leaf-code v)
 
 pub integer-spec : {M : Type 1} → statement M
-integer-spec = tie.close (tie.spec slice-write-out same-length returns)
+integer-spec =
+    tie.close
+    (tie.spec
+    (λ c. search needs)
+    (λ c. search needs)
+    -- returns
+    (λ c.
+    let v : IsInt (c .args .width) (int (leaf (c .args .width) (c .args .a))) (c .args .a) = record { is = refl; below = c .pre .0 } in
+    begins-as (begins-set (c .args .out .now) (c .args .a) (c .pre .1)) (leaf-code v)))

@@ -8,21 +8,14 @@ use Rattle.walks.specs.laws.Carrying.{carry-reduce}
 use borrow.Author.Needs.{needs}
 use Rattle.walks.proofs.reduce.Statement.{statement}
 use Rattle.walks.proofs.reduce.Tie as tie
-use Rattle.walks.proofs.reduce.Reads as reads
-use Rattle.walks.proofs.reduce.Lts as lts
-use Rattle.walks.proofs.carry.Reads as carry-reads
-
--- src/lib.rt:137:5
-carry-requires : tie.Need-carry-requires
-carry-requires c κs = (modulus-big ((c .before .before .before) .args .width), ((c .before .before .before) .pre .0, (c .before .before .before) .pre .1))
-
--- src/lib.rt:132:1
-same-length : tie.Need-same-length
-same-length c = search needs
-
--- src/lib.rt:132:1
-returns : tie.Need-returns
-returns c = begins-as ((c .before .before .carry) .ensures) (ap (enc ((c .before .before .before .before .before .before) .args .width)) (carry-reduce ((c .before .before .before .before .before .before) .args .width) (dec 0 ((c .before .before .before .before .before .before) .args .x .now))))
 
 pub reduce-spec : {M : Type 1} → statement M
-reduce-spec = tie.close (tie.spec carry-requires same-length returns)
+reduce-spec =
+    tie.close
+    (tie.spec
+    (λ c κs. let s = c .before .before .before in (modulus-big (s .args .width), (s .pre .0, s .pre .1)))
+    (λ c. search needs)
+    -- returns
+    (λ c.
+    let s = c .before .before .before .before .before .before in
+    begins-as (c .before .before .carry .ensures) (ap (enc (s .args .width)) (carry-reduce (s .args .width) (dec 0 (s .args .x .now))))))

@@ -1,19 +1,19 @@
 -- Carried forms: they have the values of the integers' form, reduced; they are normal within the same degrees and no longer; `scale` and `reduceOf` are cases.
-use mathlib.Core.Bool.{true, false, cond}
+use mathlib.Core.Bool.{cond}
 use mathlib.Core.List.{List, [], _∷_, map}
-use mathlib.Core.Path.{_≡_, refl, sym, ap, ap₂, subst, _∙_}
-use Prim.Native.Nat.{ℕ, zero, suc, _+_, _-_, _*_, _%_, _≤_, _<_}
+use mathlib.Core.Path.{_≡_, refl, ap, ap₂, _∙_}
+use Prim.Native.Nat.{ℕ, suc, _-_, _*_, _%_, _≤_, _<_}
 use native.Mathlib.Nat as NatL
 use native.Mathlib.Omega.{arith}
 use lib.Dec.{ltb}
 use lib.IntN.{ℤ, pos, negsuc}
 use lib.ListN.{length}
-use borrow.Author.Tests.{lt-ltb, le-ltb, ltb-true, ltb-false}
-use Rattle.horner.specs.definitions.Form.{Form, int, pop, pow, size, mkpop, mkpow, scale}
+use borrow.Author.Tests.{lt-ltb, le-ltb, ltb-false}
+use Rattle.horner.specs.definitions.Form.{Form, int, pop, pow, size, mkpop, mkpow}
 use Rattle.horner.specs.definitions.Integers.{ℤ-ring}
 use Rattle.horner.specs.definitions.Measures.{Bounded}
 use Rattle.horner.specs.definitions.Normal.{Normal}
-use Rattle.horner.specs.definitions.Residues.{red, redℤ, lift, negBy, prime, prime-pos, res-ext}
+use Rattle.horner.specs.definitions.Residues.{redℤ, lift, negBy, prime, prime-pos, res-ext}
 use Rattle.horner.specs.definitions.Ring.{Ring}
 use Rattle.horner.specs.definitions.Value.{tl, after, val}
 use Rattle.horner.specs.laws.Bounds.{bounded-mkpop, bounded-mkpow}

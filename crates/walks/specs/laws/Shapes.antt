@@ -1,11 +1,11 @@
 -- The code of a variable; the codes of two forms are equal where the forms are; the code of 0.
-use mathlib.Core.Bool.{Bool, true, false}
+use mathlib.Core.Bool.{Bool}
 use mathlib.Core.List.{List, [], _∷_}
 use mathlib.Core.Path.{_≡_, refl, sym, ap, subst, _∙_}
 use Prim.Native.Nat.{ℕ, zero, suc, _+_, _-_, _≤_, _<_}
 use native.Mathlib.Omega.{arith}
 use lib.Dec.{eqb}
-use lib.ListN.{length, getD}
+use lib.ListN.{getD}
 use borrow.Author.Tests.{ne-eqb}
 use Rattle.horner.specs.definitions.Form.{Form, int, pop, pow, isZero}
 use Rattle.horner.specs.definitions.Measures.{Bounded}
