@@ -74,7 +74,7 @@ module _ {a b m : ℕ} {d e : List ℕ} (p : Pair a b d) (n : Made 0 (negateOf 0
   first-stays = omega (arith, p .fits)
 
   negative : Codes 0 (negateOf 0 (right a b d)) (take m (drop a after))
-  negative = made-codes a d e m first-stays (subst (λ h. Begins m (enc 0 (negateOf 0 h)) e) lent n) (negate-good 0 (right a b d) (p .coded-right .good))
+  negative = made-codes a d e m first-stays (subst (λ h. Begins m (enc 0 (negateOf 0 h)) e) lent n) (negate-good (p .coded-right .good))
 
   pub negated-size : m ≡ b
   negated-size = n .size ∙ ap (λ h. length (enc 0 (negateOf 0 h))) lent ∙ negate-length 0 (right a b d) ∙ right-size p
