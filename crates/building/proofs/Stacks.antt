@@ -2,16 +2,14 @@
 -- Assumes nothing.
 use mathlib.Core.Bool.{true}
 use mathlib.Core.List.{List}
-use mathlib.Core.Path.{_≡_, refl, sym, ap, subst, _∙_}
+use mathlib.Core.Path.{_≡_, sym, ap, subst, _∙_}
 use Prim.Native.Nat.{ℕ, _+_, _-_, _≤_, _<_}
 use native.Mathlib.Omega.{arith}
-use lib.ListN.{length, take, drop, length-drop}
+use lib.ListN.{length, take, drop}
 use lib.Seq.{length-take-le}
 use borrow.Rule.Slice.PartMut.{putMid, take-put}
-use Rattle.horner.specs.definitions.Form.{Form}
 use Rattle.coded.specs.Coding.{enc, dec, Codes, Coded, Begins, Made}
 use Rattle.coded.specs.Operations.{sumOf, negateOf}
-use Rattle.coded.specs.Widths.{Leaf}
 use Rattle.coded.specs.laws.Codes.{dec-enc, coded, codes-length, tail-part}
 use Rattle.coded.specs.laws.Good.{negate-good}
 use Rattle.coded.specs.laws.Sizes.{enc-pos, sum-length, negate-length}

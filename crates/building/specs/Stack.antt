@@ -1,11 +1,11 @@
 -- What the stack holds: two forms one behind the other, what an operator makes of them, and how many words a term asks for.
-use mathlib.Core.Bool.{Bool, true, false, _&&_}
-use mathlib.Core.List.{List, [], _∷_, _++_}
+use mathlib.Core.Bool.{true, false}
+use mathlib.Core.List.{List, _++_}
 use mathlib.Core.Path.{_≡_}
 use Prim.Native.Nat.{ℕ, zero, suc, _+_, _*_, _≤_, _<_, max}
 use lib.Dec.{eqb}
 use lib.ListN.{length, take, drop}
-use Rattle.horner.specs.definitions.Form.{Form, size}
+use Rattle.horner.specs.definitions.Form.{Form}
 use Rattle.horner.specs.definitions.Measures.{termsOf}
 use Rattle.horner.specs.definitions.Term.{normP, expt}
 use Rattle.coded.specs.Coding.{Coded, Made, dec, enc}
@@ -98,7 +98,7 @@ pub record Given (row s : List ℕ) : Type 0 where
   pub t : Tree
   pub accepted : acceptTerm row s ≡ read t
 
--- how long the four tables are
+-- how long the four tables are: the product asks for `wordsFor 4 63` words, 15,684, of two of them; laws/Room has why 15,332 are enough for the stack
 pub record Lent (l o t u : ℕ) : Type 0 where
   pub stack : 15332 ≤ l
   pub tables : Tables 15684 15684 o t u

@@ -2,9 +2,7 @@
 use tokens::Reader;
 use tokens::Step;
 ghost use mathlib.Core.Path.{_≡_};
-ghost use mathlib.Core.Bool.{true};
-ghost use mathlib.Core.List.{List};
-ghost use Prim.Native.Nat.{ℕ, _+_, _≤_, _<_};
+ghost use Prim.Native.Nat.{_+_, _≤_, _<_};
 ghost use lib.ListN.{length, take, drop};
 ghost use Rattle.horner.specs.definitions.Form.{int};
 ghost use Rattle.horner.specs.definitions.Term.{normP};
@@ -16,7 +14,7 @@ ghost use Rattle.fits.specs.Tables.{Space};
 ghost use Rattle.texts.specs.definitions.Answer.{read};
 ghost use Rattle.texts.specs.definitions.Limits.{acceptTerm};
 ghost use Rattle.texts.specs.definitions.Tree.{Tree, termOf};
-ghost use Rattle.building.specs.Standing.{Headed, Passed, Skipped, Zeroed, Raised, IsInteger, OneLeaf, integerOf, LeafMade, Operated, Turned};
+ghost use Rattle.building.specs.Standing.{Headed, Passed, Skipped, Zeroed, Raised, ExponentRead, IsInteger, OneLeaf, integerOf, LeafMade, Operated, Turned};
 ghost use Rattle.building.specs.Stack.{Pair, left, right, combined, Combining, ReadyAt, Finished, Given, Lent};
 
 // What a term begins with: 0 and the word of a leaf, or the operator's number; and the place behind it.
@@ -170,7 +168,7 @@ fn zero_power(s: &[u8], g: u32, at: usize) -> usize
 // The exponent at a place.
 fn exponent_at(s: &[u8], at: usize) -> Exponent
     requires { ⌜ Raised (now s) at ⌝ }
-    ensures { λ r. ⌜ Rattle.building.specs.Standing.ExponentRead (now (s .entry)) at (r .value) (r .next) ⌝ }
+    ensures { λ r. ⌜ ExponentRead (now (s .entry)) at (r .value) (r .next) ⌝ }
 {
     let step = Reader { at }.next(s);
     let Step::Word { from, next } = step else {
@@ -325,38 +323,27 @@ fn build(
     let zero = zero_power(s, g, first);
     if zero != 0 {
         stack[0] = 1;
-        return Built {
-            words: 1,
-            next: zero,
-        };
+        let next = zero;
+        return Built { words: 1, next };
     }
     let x = build(row, s, first, stack, out, t, u);
     let a = x.words;
     let mid = x.next;
     if g == 4 {
         let e = exponent_at(s, mid);
-        let n = powers::raise(0, stack, a, e.value, out, t, u);
-        let end = past(s, e.next);
-        return Built {
-            words: n,
-            next: end,
-        };
+        let words = powers::raise(0, stack, a, e.value, out, t, u);
+        let next = past(s, e.next);
+        return Built { words, next };
     }
-    let close = past(s, mid);
-    if close != 0 {
-        let n = negate_front(stack, a, out);
-        return Built {
-            words: n,
-            next: close,
-        };
+    let next = past(s, mid);
+    if next != 0 {
+        let words = negate_front(stack, a, out);
+        return Built { words, next };
     }
     let y = build(row, s, mid, &mut stack[a..], out, t, u);
-    let n = combine(g, stack, a, y.words, out, t, u);
-    let end = past(s, y.next);
-    Built {
-        words: n,
-        next: end,
-    }
+    let words = combine(g, stack, a, y.words, out, t, u);
+    let next = past(s, y.next);
+    Built { words, next }
 }
 
 // The form of the accepted term s over the row, at the front of stack, and how many words it takes.

@@ -1,7 +1,7 @@
 -- Two forms in one table, one behind the other.
 -- Assumes nothing.
-use mathlib.Core.Path.{_≡_, refl, sym, ap, subst, _∙_}
-use mathlib.Core.List.{List, [], _∷_, _++_}
+use mathlib.Core.Path.{_≡_, sym, ap, subst, _∙_}
+use mathlib.Core.List.{List, [], _∷_}
 use Prim.Native.Nat.{ℕ, zero, suc, _+_, _-_, _≤_, _<_}
 use native.Mathlib.Omega.{arith}
 use lib.ListN.{length, take, drop, set, length-drop}
@@ -9,14 +9,17 @@ use lib.Seq.{take-take, take-nil, take-set-le, set-split, drop-at, length-take-l
 use borrow.Rule.Slice.PartMut.{putMid, take-put}
 use Rattle.horner.specs.definitions.Form.{Form}
 use Rattle.coded.specs.Coding.{enc, dec, Good, Codes, Coded, Begins, Made}
-use Rattle.coded.specs.Widths.{Leaf, leaf}
-use Rattle.coded.specs.laws.Codes.{dec-enc, codes-length}
+use Rattle.coded.specs.Widths.{Leaf}
+use Rattle.coded.specs.laws.Codes.{dec-enc, coded, codes-length}
 use Rattle.coded.specs.laws.Widths.{leaf-number, modulus-big}
 use Rattle.coded.proofs.Lists.{begins-le, begins-as, begins-set}
 use Rattle.coded.proofs.Making.{made-codes}
 use Rattle.fits.specs.Fit.{prodOf}
 use Rattle.fits.specs.Tables.{Space}
-use Rattle.powers.specs.Raise.{raiseOf, Stacked}
+use Rattle.fits.specs.laws.Fit.{fit-y}
+use Rattle.fits.specs.laws.Tables.{space-at}
+use Rattle.powers.specs.Raise.{raiseOf, Raising, Stacked}
+use Rattle.powers.specs.laws.Raise.{raise-more, raise-fit, raise-space}
 
 -- the first n + m words, in two
 pub front-of : (n m : ℕ) (l : List ℕ) → take n (take (n + m) l) ≡ take n l
@@ -61,20 +64,27 @@ stacked n m d e c l b g =
       above = record { size = b .size; is = made-codes n d e m l b g .is };
     }
 
-module _ {w n m : ℕ} {x y : Form (Leaf w)} {l : List ℕ} (s : Stacked w x y n m l) where
-  pub stack-fits : n + m ≤ length l
-  stack-fits = omega (arith, begins-le (s .below), begins-le (s .above), length-drop n l)
+pub stack-fits : {w n m : ℕ} {x y : Form (Leaf w)} {l : List ℕ} → Stacked w x y n m l → n + m ≤ length l
+stack-fits {n = n} {l = l} s = omega (arith, begins-le (s .below), begins-le (s .above), length-drop n l)
 
-  module _ (gx : Good w x) (gy : Good w y) where
-    pub stack-below : Codes w x (take n l)
-    stack-below = record { is = s .below .is; good = gx }
+-- A turn: l holds x and behind it its i-th power, where i is below k
+module _ {w k n m i : ℕ} {x : Form (Leaf w)} {l : List ℕ} {s o t u : ℕ} (r : Raising w x k n s o t u) (g : Good w x) (h : Stacked w x (raiseOf w x i) n m l) (b : i < k) where
+  turn-x : Codes w x (take n l)
+  turn-x = record { is = h .below .is; good = g }
 
-    pub stack-above : Codes w y (take m (drop n l))
-    stack-above = record { is = s .above .is; good = gy }
+  turn-y : Codes w (raiseOf w x i) (take m (drop n l))
+  turn-y = record { is = h .above .is; good = fit-y (raise-fit r i b) .good }
 
-    pub stack-space : {o t u : ℕ} → Space w x y o t u → Space w (dec w (take n l)) (dec w (take m (drop n l))) o t u
-    stack-space {o} {t} {u} h =
-        subst (λ z. Space w z (dec w (take m (drop n l))) o t u) (sym (dec-enc stack-below)) (subst (λ z. Space w x z o t u) (sym (dec-enc stack-above)) h)
+  pub turn-codes : Coded w (take n l) × Coded w (take m (drop n l))
+  turn-codes = (coded turn-x, coded turn-y)
 
-    pub stack-product : prodOf w (dec w (take n l)) (dec w (take m (drop n l))) ≡ prodOf w x y
-    stack-product = ap (λ z. prodOf w z (dec w (take m (drop n l)))) (dec-enc stack-below) ∙ ap (λ z. prodOf w x z) (dec-enc stack-above)
+  pub turn-space : {o′ t′ u′ : ℕ} → o′ ≡ o → t′ ≡ t → u′ ≡ u → Space w (dec w (take n l)) (dec w (take m (drop n l))) o′ t′ u′
+  turn-space {o′} {t′} {u′} a c d =
+      subst (λ z. Space w z (dec w (take m (drop n l))) o′ t′ u′) (sym (dec-enc turn-x))
+      (subst (λ z. Space w x z o′ t′ u′) (sym (dec-enc turn-y)) (space-at (sym a) (sym c) (sym d) (raise-space r i b)))
+
+  pub turn-product : prodOf w (dec w (take n l)) (dec w (take m (drop n l))) ≡ raiseOf w x (i + 1)
+  turn-product = ap (λ z. prodOf w z (dec w (take m (drop n l)))) (dec-enc turn-x) ∙ ap (prodOf w x) (dec-enc turn-y) ∙ raise-more w x i
+
+  pub turn-next : {m′ : ℕ} {l′ : List ℕ} → Stacked w (dec w (take n l)) (prodOf w (dec w (take n l)) (dec w (take m (drop n l)))) n m′ l′ → Stacked w x (raiseOf w x (i + 1)) n m′ l′
+  turn-next {m′} {l′} d = subst (λ z. Stacked w z (raiseOf w x (i + 1)) n m′ l′) (dec-enc turn-x) (subst (λ z. Stacked w (dec w (take n l)) z n m′ l′) turn-product d)

@@ -1,20 +1,21 @@
 -- The proof of the cycle of calls {build}. The measure is what is left of the text. Each step asks for what the tokens say of the term's parts, and gives the
 -- form of the whole (laws/Building).
 -- Assumes nothing.
-use mathlib.Core.List.{List, _++_}
-use mathlib.Core.Path.{_≡_, refl, sym, ap, subst, _∙_}
-use Prim.Native.Nat.{_+_, _-_, _≤_}
+use mathlib.Core.List.{_++_}
+use mathlib.Core.Path.{_≡_, refl, sym, subst, _∙_}
+use Prim.Native.Nat.{_+_, _-_}
 use native.Mathlib.Omega.{arith}
-use lib.ListN.{length, take, drop, set}
+use lib.ListN.{length}
 use denote.Ref.{now}
 use borrow.Author.Needs.{needs}
 use borrow.Rule.Slice.PartMut.{putMid}
 use Rattle.coded.specs.laws.Codes.{coded}
 use Rattle.coded.proofs.Lists.{begins-le, length-tail-part}
 use Rattle.powers.proofs.Stack.{made-one}
-use Rattle.building.specs.Standing.{kindOf, firstOf, secondOf, tailOf, Passed}
+use Rattle.building.specs.Standing.{kindOf, firstOf, secondOf, tailOf, HeadIs, Passed}
+use Rattle.building.specs.Stack.{Stands, Done}
 use Rattle.building.specs.laws.Building.{finished, ready-as, tables-as, few-words, head, head-inside, leaf-some, leaf-asks, leaf-gives, zero-is, first-of, first-ready, zero-room, zero-gives, first-codes, exponent-stands, exponent-inside, raise-asks, raise-gives, negate-gives, second-ready, closeOf, second-of, combining, combine-gives}
-use Rattle.building.proofs.Stacks.{both, both-combining, both-made}
+use Rattle.building.proofs.Stacks.{Both, both, both-combining, both-made}
 use Prim.Native.Nat.{ℕ, _<_}
 use borrow.Fn.Kinds.{In}
 use borrow.Fn.PlainCycle.{Measures, is, falls, and}
@@ -41,925 +42,163 @@ build-at t = and 6 build-kinds.ps (is 6 build-kinds.ps μ-build t) build.Pre
 abbrev build-below : ℕ → In 6 build-kinds.ps
 build-below t = and 6 build-kinds.ps (falls 6 build-kinds.ps _<_ μ-build t) build.Pre
 
--- src/lib.rt:319:9
-build-head-of-requires : (t : ℕ) → build-lts.Need-head-of-requires (
-  head-of-reads.Asked,
-  head-of-reads.Learnt,
-  leaf-form-reads.Asked,
-  leaf-form-reads.Learnt,
-  zero-power-reads.Asked,
-  zero-power-reads.Learnt,
-  build-below t,
-  build.Post,
-  exponent-at-reads.Asked,
-  exponent-at-reads.Learnt,
-  raise-reads.Asked,
-  raise-reads.Learnt,
-  past-reads.Asked,
-  past-reads.Learnt,
-  negate-front-reads.Asked,
-  negate-front-reads.Learnt,
-  combine-reads.Asked,
-  combine-reads.Learnt,
-) (build-at t) build.Post
+-- what is claimed of the calls
+abbrev claims : ℕ → build-lts.Claims
+claims t = (head-of-reads.Asked, head-of-reads.Learnt, leaf-form-reads.Asked, leaf-form-reads.Learnt, zero-power-reads.Asked, zero-power-reads.Learnt, build-below t, build.Post, exponent-at-reads.Asked, exponent-at-reads.Learnt, raise-reads.Asked, raise-reads.Learnt, past-reads.Asked, past-reads.Learnt, negate-front-reads.Asked, negate-front-reads.Learnt, combine-reads.Asked, combine-reads.Learnt)
+
+-- what the first tokens say of the term
+head-is : (t : ℕ) (c : build-lts.After-head-of (claims t) (build-at t) build.Post) → HeadIs (now ((c .before .before .before .before .before .before .before) .args .s)) ((c .before .before .before .before .before .before .before) .args .at) ((c .head-of) .result .kind) ((c .head-of) .result .from) ((c .head-of) .result .next) ((c .before .before .before .before .before .before .before) .pre .1 .x) ((c .before .before .before .before .before .before .before) .pre .1 .rest)
+head-is t c = head ((c .before .before .before .before .before .before .before) .pre .1) ((c .head-of) .ensures)
+
+node : (t : ℕ) (c : build-lts.Else1 (claims t) (build-at t) build.Post) → kindOf ((c .before .before .before .before .before .before .before .before) .pre .1 .x) ≡ 0 → ⊥
+node t c = λ q. (c .if1 .left) ((head-is t (c .before)) .is-kind ∙ q)
+
+-- the first operand, and what is built of it
+first : (t : ℕ) (c : build-lts.After-zero-power (claims t) (build-at t) build.Post) → Stands (now ((c .before .before .before .before .before .before .before .before .before) .args .row)) (now ((c .before .before .before .before .before .before .before .before .before) .args .s)) ((c .before .before .head-of) .result .next) (firstOf ((c .before .before .before .before .before .before .before .before .before) .pre .1 .x)) (tailOf ((c .before .before .before .before .before .before .before .before .before) .pre .1 .x) ++ ((c .before .before .before .before .before .before .before .before .before) .pre .1 .rest))
+first t c = first-of ((c .before .before .before .before .before .before .before .before .before) .pre .1) ((c .before .before .head-of) .ensures) (c .before .if1 .left) (c .zero-power .ensures)
+
+done : (t : ℕ) (c : build-lts.After-build (claims t) (build-at t) build.Post) → Done (now ((c .before .before .before .before .before .before .before .before .before .before .before .before .before .before .before) .args .row)) (now ((c .before .before .before .before .before .before .before .before .before .before .before .before .before .before .before) .args .s)) ((c .before .before .before .before .before .before .before .before .head-of) .result .next) ((c .build) .result .words) ((c .build) .result .next) ((c .build) .last .1 .1 .1 .0) (firstOf ((c .before .before .before .before .before .before .before .before .before .before .before .before .before .before .before) .pre .1 .x)) (tailOf ((c .before .before .before .before .before .before .before .before .before .before .before .before .before .before .before) .pre .1 .x) ++ ((c .before .before .before .before .before .before .before .before .before .before .before .before .before .before .before) .pre .1 .rest))
+done t c = (c .build) .ensures (firstOf ((c .before .before .before .before .before .before .before .before .before .before .before .before .before .before .before) .pre .1 .x)) (tailOf ((c .before .before .before .before .before .before .before .before .before .before .before .before .before .before .before) .pre .1 .x) ++ ((c .before .before .before .before .before .before .before .before .before .before .before .before .before .before .before) .pre .1 .rest)) (first t (c .before .before .before .before .before .before))
+
+-- by the operator
+is-power : (t : ℕ) (c : build-lts.Then3 (claims t) (build-at t) build.Post) → kindOf ((c .before .before .before .before .before .before .before .before .before .before .before .before .before .before .before .before .before .before .before .before .before .before .before .before) .pre .1 .x) ≡ 4
+is-power t c = sym ((head-is t (c .before .before .before .before .before .before .before .before .before .before .before .before .before .before .before .before .before)) .is-kind) ∙ c .if3 .taken
+
+not-power : (t : ℕ) (c : build-lts.Else3 (claims t) (build-at t) build.Post) → kindOf ((c .before .before .before .before .before .before .before .before .before .before .before .before .before .before .before .before .before .before .before .before .before .before .before .before) .pre .1 .x) ≡ 4 → ⊥
+not-power t c = λ q. c .if3 .left ((head-is t (c .before .before .before .before .before .before .before .before .before .before .before .before .before .before .before .before .before)) .is-kind ∙ q)
+
+-- the second operand, and what is built of it
+no-close : (t : ℕ) (c : build-lts.Else4 (claims t) (build-at t) build.Post) → Passed (now ((c .before .before .before .before .before .before .before .before .before .before .before .before .before .before .before .before .before .before .before .before .before .before .before .before .before .before) .args .s)) ((c .before .before .before .before .before .before .before .before .before .before .before .build) .result .next) 0
+no-close t c = subst (Passed (now ((c .before .before .before .before .before .before .before .before .before .before .before .before .before .before .before .before .before .before .before .before .before .before .before .before .before .before) .args .s)) ((c .before .before .before .before .before .before .before .before .before .before .before .build) .result .next)) (c .if4 .left) (c .before .past2 .ensures)
+
+second : (t : ℕ) (c : build-lts.Else4 (claims t) (build-at t) build.Post) → Stands (now ((c .before .before .before .before .before .before .before .before .before .before .before .before .before .before .before .before .before .before .before .before .before .before .before .before .before .before) .args .row)) (now ((c .before .before .before .before .before .before .before .before .before .before .before .before .before .before .before .before .before .before .before .before .before .before .before .before .before .before) .args .s)) ((c .before .before .before .before .before .before .before .before .before .before .before .build) .result .next) (secondOf ((c .before .before .before .before .before .before .before .before .before .before .before .before .before .before .before .before .before .before .before .before .before .before .before .before .before .before) .pre .1 .x)) (closeOf ((c .before .before .before .before .before .before .before .before .before .before .before .before .before .before .before .before .before .before .before .before .before .before .before .before .before .before) .pre .1 .x) ++ ((c .before .before .before .before .before .before .before .before .before .before .before .before .before .before .before .before .before .before .before .before .before .before .before .before .before .before) .pre .1 .rest))
+second t c = second-of ((c .before .before .before .before .before .before .before .before .before .before .before .before .before .before .before .before .before .before .before .before .before .before .before .before .before .before) .pre .1 .x) ((c .before .before .before .before .before .before .before .before .before .before .before .before .before .before .before .before .before .before .before .before .before .before .before .before .before .before) .pre .1 .rest) (node t (c .before .before .before .before .before .before .before .before .before .before .before .before .before .before .before .before .before .before)) (not-power t (c .before .before)) (((c .before .before .before .before .before .before .before .before .before .before .before .before .before .before .before .before .before .before .before .before .before .before .before .before .before .before) .pre .1) .stands) (done t (c .before .before .before .before .before .before .before .before .before .before .before)) (no-close t c)
+
+done-2 : (t : ℕ) (c : build-lts.After-build2 (claims t) (build-at t) build.Post) → Done (now ((c .before .before .before .before .before .before .before .before .before .before .before .before .before .before .before .before .before .before .before .before .before .before .before .before .before .before .before .before .before .before .before) .args .row)) (now ((c .before .before .before .before .before .before .before .before .before .before .before .before .before .before .before .before .before .before .before .before .before .before .before .before .before .before .before .before .before .before .before) .args .s)) ((c .before .before .before .before .before .before .before .before .before .before .before .before .before .before .before .before .build) .result .next) ((c .build2) .result .words) ((c .build2) .result .next) ((c .build2) .last .1 .1 .1 .0) (secondOf ((c .before .before .before .before .before .before .before .before .before .before .before .before .before .before .before .before .before .before .before .before .before .before .before .before .before .before .before .before .before .before .before) .pre .1 .x)) (closeOf ((c .before .before .before .before .before .before .before .before .before .before .before .before .before .before .before .before .before .before .before .before .before .before .before .before .before .before .before .before .before .before .before) .pre .1 .x) ++ ((c .before .before .before .before .before .before .before .before .before .before .before .before .before .before .before .before .before .before .before .before .before .before .before .before .before .before .before .before .before .before .before) .pre .1 .rest))
+done-2 t c = (c .build2) .ensures (secondOf ((c .before .before .before .before .before .before .before .before .before .before .before .before .before .before .before .before .before .before .before .before .before .before .before .before .before .before .before .before .before .before .before) .pre .1 .x)) (closeOf ((c .before .before .before .before .before .before .before .before .before .before .before .before .before .before .before .before .before .before .before .before .before .before .before .before .before .before .before .before .before .before .before) .pre .1 .x) ++ ((c .before .before .before .before .before .before .before .before .before .before .before .before .before .before .before .before .before .before .before .before .before .before .before .before .before .before .before .before .before .before .before) .pre .1 .rest)) (second t (c .before .before .before .before .before))
+
+both-at : (t : ℕ) (c : build-lts.After-stack5 (claims t) (build-at t) build.Post) → Both (now ((c .before .before .before .before .before .before .before .before .before .before .before .before .before .before .before .before .before .before .before .before .before .before .before .before .before .before .before .before .before .before .before .before) .args .row)) ((c .before .before .before .before .before .before .before .before .before .before .before .before .before .before .before .before .before .build) .result .words) ((c .before .build2) .result .words) (putMid ((c .before .before .before .before .before .before .before .before .before .before .before .before .before .before .before .before .before .build) .result .words) (length ((c .before .before .before .before .before .before .before .before .before .before .before .before .before .before .before .before .before .build) .last .1 .1 .1 .0) - ((c .before .before .before .before .before .before .before .before .before .before .before .before .before .before .before .before .before .build) .result .words)) ((c .before .before .before .before .before .before .before .before .before .before .before .before .before .before .before .before .before .build) .last .1 .1 .1 .0) ((c .before .build2) .last .1 .1 .1 .0)) (firstOf ((c .before .before .before .before .before .before .before .before .before .before .before .before .before .before .before .before .before .before .before .before .before .before .before .before .before .before .before .before .before .before .before .before) .pre .1 .x)) (secondOf ((c .before .before .before .before .before .before .before .before .before .before .before .before .before .before .before .before .before .before .before .before .before .before .before .before .before .before .before .before .before .before .before .before) .pre .1 .x))
+both-at t c = both (((c .before .before .before .before .before .before .before .before .before .before .before .before .before .before .before .before .before .before .before .before .before .before .before .before .before .before .before .before .before .before .before .before) .pre .1) .proper) (first t (c .before .before .before .before .before .before .before .before .before .before .before .before .before .before .before .before .before .before .before .before .before .before .before)) (done t (c .before .before .before .before .before .before .before .before .before .before .before .before .before .before .before .before .before)) (second t (c .before .before .before .before .before .before)) (done-2 t (c .before)) ((c .before .build2) .kept .1 .1 .1 .0 ∙ length-tail-part ((c .before .before .before .before .before .before .before .before .before .before .before .before .before .before .before .before .before .build) .result .words) ((c .before .before .before .before .before .before .before .before .before .before .before .before .before .before .before .before .before .build) .last .1 .1 .1 .0)) (c .stack5 .given .1)
+
+build-head-of-requires : (t : ℕ) → build-lts.Need-head-of-requires (claims t) (build-at t) build.Post
 build-head-of-requires t c κs = ((c .before .before .before .before .before .before) .pre .1) .inside
 
--- src/lib.rt:324:36
-build-sub-leaf-form : (t : ℕ) → build-lts.Need-sub-leaf-form (
-  head-of-reads.Asked,
-  head-of-reads.Learnt,
-  leaf-form-reads.Asked,
-  leaf-form-reads.Learnt,
-  zero-power-reads.Asked,
-  zero-power-reads.Learnt,
-  build-below t,
-  build.Post,
-  exponent-at-reads.Asked,
-  exponent-at-reads.Learnt,
-  raise-reads.Asked,
-  raise-reads.Learnt,
-  past-reads.Asked,
-  past-reads.Learnt,
-  negate-front-reads.Asked,
-  negate-front-reads.Learnt,
-  combine-reads.Asked,
-  combine-reads.Learnt,
-) (build-at t) build.Post
-build-sub-leaf-form t c = omega (arith, leaf-some ((c .before .before .before .before .before .before .before .before) .pre .1) (c .before .head-of .ensures) (c .if1 .taken), head-inside ((c .before .before .before .before .before .before .before .before) .pre .1) (c .before .head-of .ensures))
+build-sub-leaf-form : (t : ℕ) → build-lts.Need-sub-leaf-form (claims t) (build-at t) build.Post
+build-sub-leaf-form t c = omega (arith, leaf-some ((c .before .before .before .before .before .before .before .before) .pre .1) ((c .before .head-of) .ensures) (c .if1 .taken), head-inside ((c .before .before .before .before .before .before .before .before) .pre .1) ((c .before .head-of) .ensures))
 
--- src/lib.rt:324:36
-build-part-leaf-form-start : (t : ℕ) → build-lts.Need-part-leaf-form-start (
-  head-of-reads.Asked,
-  head-of-reads.Learnt,
-  leaf-form-reads.Asked,
-  leaf-form-reads.Learnt,
-  zero-power-reads.Asked,
-  zero-power-reads.Learnt,
-  build-below t,
-  build.Post,
-  exponent-at-reads.Asked,
-  exponent-at-reads.Learnt,
-  raise-reads.Asked,
-  raise-reads.Learnt,
-  past-reads.Asked,
-  past-reads.Learnt,
-  negate-front-reads.Asked,
-  negate-front-reads.Learnt,
-  combine-reads.Asked,
-  combine-reads.Learnt,
-) (build-at t) build.Post
-build-part-leaf-form-start t c = omega (arith, leaf-some ((c .before .before .before .before .before .before .before .before) .pre .1) (c .before .head-of .ensures) (c .if1 .taken), head-inside ((c .before .before .before .before .before .before .before .before) .pre .1) (c .before .head-of .ensures))
+build-part-leaf-form-start : (t : ℕ) → build-lts.Need-part-leaf-form-start (claims t) (build-at t) build.Post
+build-part-leaf-form-start t c = omega (arith, leaf-some ((c .before .before .before .before .before .before .before .before) .pre .1) ((c .before .head-of) .ensures) (c .if1 .taken), head-inside ((c .before .before .before .before .before .before .before .before) .pre .1) ((c .before .head-of) .ensures))
 
--- src/lib.rt:324:36
-build-part-leaf-form-end : (t : ℕ) → build-lts.Need-part-leaf-form-end (
-  head-of-reads.Asked,
-  head-of-reads.Learnt,
-  leaf-form-reads.Asked,
-  leaf-form-reads.Learnt,
-  zero-power-reads.Asked,
-  zero-power-reads.Learnt,
-  build-below t,
-  build.Post,
-  exponent-at-reads.Asked,
-  exponent-at-reads.Learnt,
-  raise-reads.Asked,
-  raise-reads.Learnt,
-  past-reads.Asked,
-  past-reads.Learnt,
-  negate-front-reads.Asked,
-  negate-front-reads.Learnt,
-  combine-reads.Asked,
-  combine-reads.Learnt,
-) (build-at t) build.Post
-build-part-leaf-form-end t c = omega (arith, leaf-some ((c .before .before .before .before .before .before .before .before) .pre .1) (c .before .head-of .ensures) (c .if1 .taken), head-inside ((c .before .before .before .before .before .before .before .before) .pre .1) (c .before .head-of .ensures))
+build-part-leaf-form-end : (t : ℕ) → build-lts.Need-part-leaf-form-end (claims t) (build-at t) build.Post
+build-part-leaf-form-end t c = omega (arith, leaf-some ((c .before .before .before .before .before .before .before .before) .pre .1) ((c .before .head-of) .ensures) (c .if1 .taken), head-inside ((c .before .before .before .before .before .before .before .before) .pre .1) ((c .before .head-of) .ensures))
 
--- src/lib.rt:324:13
-build-leaf-form-requires : (t : ℕ) → build-lts.Need-leaf-form-requires (
-  head-of-reads.Asked,
-  head-of-reads.Learnt,
-  leaf-form-reads.Asked,
-  leaf-form-reads.Learnt,
-  zero-power-reads.Asked,
-  zero-power-reads.Learnt,
-  build-below t,
-  build.Post,
-  exponent-at-reads.Asked,
-  exponent-at-reads.Learnt,
-  raise-reads.Asked,
-  raise-reads.Learnt,
-  past-reads.Asked,
-  past-reads.Learnt,
-  negate-front-reads.Asked,
-  negate-front-reads.Learnt,
-  combine-reads.Asked,
-  combine-reads.Learnt,
-) (build-at t) build.Post
-build-leaf-form-requires t c κs = leaf-asks ((c .before .before .before .before .before .before .before .before .before .before) .pre .1) (c .before .before .before .head-of .ensures) (c .before .before .if1 .taken)
+build-leaf-form-requires : (t : ℕ) → build-lts.Need-leaf-form-requires (claims t) (build-at t) build.Post
+build-leaf-form-requires t c κs = leaf-asks ((c .before .before .before .before .before .before .before .before .before .before) .pre .1) ((c .before .before .before .head-of) .ensures) (c .before .before .if1 .taken)
 
--- src/lib.rt:325:9
-build-same-length : (t : ℕ) → build-lts.Need-same-length (
-  head-of-reads.Asked,
-  head-of-reads.Learnt,
-  leaf-form-reads.Asked,
-  leaf-form-reads.Learnt,
-  zero-power-reads.Asked,
-  zero-power-reads.Learnt,
-  build-below t,
-  build.Post,
-  exponent-at-reads.Asked,
-  exponent-at-reads.Learnt,
-  raise-reads.Asked,
-  raise-reads.Learnt,
-  past-reads.Asked,
-  past-reads.Learnt,
-  negate-front-reads.Asked,
-  negate-front-reads.Learnt,
-  combine-reads.Asked,
-  combine-reads.Learnt,
-) (build-at t) build.Post
+build-same-length : (t : ℕ) → build-lts.Need-same-length (claims t) (build-at t) build.Post
 build-same-length t c = search needs
 
--- src/lib.rt:325:9
-build-returns : (t : ℕ) → build-lts.Need-returns (
-  head-of-reads.Asked,
-  head-of-reads.Learnt,
-  leaf-form-reads.Asked,
-  leaf-form-reads.Learnt,
-  zero-power-reads.Asked,
-  zero-power-reads.Learnt,
-  build-below t,
-  build.Post,
-  exponent-at-reads.Asked,
-  exponent-at-reads.Learnt,
-  raise-reads.Asked,
-  raise-reads.Learnt,
-  past-reads.Asked,
-  past-reads.Learnt,
-  negate-front-reads.Asked,
-  negate-front-reads.Learnt,
-  combine-reads.Asked,
-  combine-reads.Learnt,
-) (build-at t) build.Post
-build-returns t c = leaf-gives ((c .before .before .before .before .before .before .before .before .before .before .before .before .before) .pre .1) (c .before .before .before .before .before .before .head-of .ensures) (c .before .before .before .before .before .if1 .taken) (c .before .before .leaf-form .ensures)
+build-returns : (t : ℕ) → build-lts.Need-returns (claims t) (build-at t) build.Post
+build-returns t c = leaf-gives ((c .before .before .before .before .before .before .before .before .before .before .before .before .before) .pre .1) ((c .before .before .before .before .before .before .head-of) .ensures) (c .before .before .before .before .before .if1 .taken) (c .before .before .leaf-form .ensures)
 
--- src/lib.rt:328:9
-build-zero-power-requires : (t : ℕ) → build-lts.Need-zero-power-requires (
-  head-of-reads.Asked,
-  head-of-reads.Learnt,
-  leaf-form-reads.Asked,
-  leaf-form-reads.Learnt,
-  zero-power-reads.Asked,
-  zero-power-reads.Learnt,
-  build-below t,
-  build.Post,
-  exponent-at-reads.Asked,
-  exponent-at-reads.Learnt,
-  raise-reads.Asked,
-  raise-reads.Learnt,
-  past-reads.Asked,
-  past-reads.Learnt,
-  negate-front-reads.Asked,
-  negate-front-reads.Learnt,
-  combine-reads.Asked,
-  combine-reads.Learnt,
-) (build-at t) build.Post
-build-zero-power-requires t c κs = head-inside ((c .before .before .before .before .before .before .before .before) .pre .1) (c .before .head-of .ensures)
+build-zero-power-requires : (t : ℕ) → build-lts.Need-zero-power-requires (claims t) (build-at t) build.Post
+build-zero-power-requires t c κs = head-inside ((c .before .before .before .before .before .before .before .before) .pre .1) ((c .before .head-of) .ensures)
 
--- src/lib.rt:330:9
-build-slice-write-stack : (t : ℕ) → build-lts.Need-slice-write-stack (
-  head-of-reads.Asked,
-  head-of-reads.Learnt,
-  leaf-form-reads.Asked,
-  leaf-form-reads.Learnt,
-  zero-power-reads.Asked,
-  zero-power-reads.Learnt,
-  build-below t,
-  build.Post,
-  exponent-at-reads.Asked,
-  exponent-at-reads.Learnt,
-  raise-reads.Asked,
-  raise-reads.Learnt,
-  past-reads.Asked,
-  past-reads.Learnt,
-  negate-front-reads.Asked,
-  negate-front-reads.Learnt,
-  combine-reads.Asked,
-  combine-reads.Learnt,
-) (build-at t) build.Post
-build-slice-write-stack t c = zero-room ((c .before .before .before .before .before .before .before .before .before .before) .pre .1) (c .before .before .before .head-of .ensures) (c .before .before .if1 .left) (c .before .zero-power .ensures) (c .if2 .taken)
+build-slice-write-stack : (t : ℕ) → build-lts.Need-slice-write-stack (claims t) (build-at t) build.Post
+build-slice-write-stack t c = zero-room ((c .before .before .before .before .before .before .before .before .before .before) .pre .1) ((c .before .before .before .head-of) .ensures) (c .before .before .if1 .left) (c .before .zero-power .ensures) (c .if2 .taken)
 
--- src/lib.rt:331:9
-build-same-length-2 : (t : ℕ) → build-lts.Need-same-length-2 (
-  head-of-reads.Asked,
-  head-of-reads.Learnt,
-  leaf-form-reads.Asked,
-  leaf-form-reads.Learnt,
-  zero-power-reads.Asked,
-  zero-power-reads.Learnt,
-  build-below t,
-  build.Post,
-  exponent-at-reads.Asked,
-  exponent-at-reads.Learnt,
-  raise-reads.Asked,
-  raise-reads.Learnt,
-  past-reads.Asked,
-  past-reads.Learnt,
-  negate-front-reads.Asked,
-  negate-front-reads.Learnt,
-  combine-reads.Asked,
-  combine-reads.Learnt,
-) (build-at t) build.Post
+build-same-length-2 : (t : ℕ) → build-lts.Need-same-length-2 (claims t) (build-at t) build.Post
 build-same-length-2 t c = search needs
 
--- src/lib.rt:331:9
-build-returns-2 : (t : ℕ) → build-lts.Need-returns-2 (
-  head-of-reads.Asked,
-  head-of-reads.Learnt,
-  leaf-form-reads.Asked,
-  leaf-form-reads.Learnt,
-  zero-power-reads.Asked,
-  zero-power-reads.Learnt,
-  build-below t,
-  build.Post,
-  exponent-at-reads.Asked,
-  exponent-at-reads.Learnt,
-  raise-reads.Asked,
-  raise-reads.Learnt,
-  past-reads.Asked,
-  past-reads.Learnt,
-  negate-front-reads.Asked,
-  negate-front-reads.Learnt,
-  combine-reads.Asked,
-  combine-reads.Learnt,
-) (build-at t) build.Post
-build-returns-2 t c = zero-gives ((c .before .before .before .before .before .before .before .before .before .before) .pre .1) (c .before .before .before .head-of .ensures) (c .before .before .if1 .left) (c .before .zero-power .ensures) (c .if2 .taken) (λ x. made-one 0 x ((c .before .before .before .before .before .before .before .before .before .before) .args .stack .now) (zero-room ((c .before .before .before .before .before .before .before .before .before .before) .pre .1) (c .before .before .before .head-of .ensures) (c .before .before .if1 .left) (c .before .zero-power .ensures) (c .if2 .taken)))
+build-returns-2 : (t : ℕ) → build-lts.Need-returns-2 (claims t) (build-at t) build.Post
+build-returns-2 t c = zero-gives ((c .before .before .before .before .before .before .before .before .before .before) .pre .1) ((c .before .before .before .head-of) .ensures) (c .before .before .if1 .left) (c .before .zero-power .ensures) (c .if2 .taken) (λ x. made-one 0 x ((c .before .before .before .before .before .before .before .before .before .before) .args .stack .now) (zero-room ((c .before .before .before .before .before .before .before .before .before .before) .pre .1) ((c .before .before .before .head-of) .ensures) (c .before .before .if1 .left) (c .before .zero-power .ensures) (c .if2 .taken)))
 
--- src/lib.rt:336:9
-build-build-requires : (t : ℕ) → build-lts.Need-build-requires (
-  head-of-reads.Asked,
-  head-of-reads.Learnt,
-  leaf-form-reads.Asked,
-  leaf-form-reads.Learnt,
-  zero-power-reads.Asked,
-  zero-power-reads.Learnt,
-  build-below t,
-  build.Post,
-  exponent-at-reads.Asked,
-  exponent-at-reads.Learnt,
-  raise-reads.Asked,
-  raise-reads.Learnt,
-  past-reads.Asked,
-  past-reads.Learnt,
-  negate-front-reads.Asked,
-  negate-front-reads.Learnt,
-  combine-reads.Asked,
-  combine-reads.Learnt,
-) (build-at t) build.Post
-build-build-requires t c κs = (omega (arith, (c .before .before .before .before .before .before .before .before .before .before .before .before .before .before) .pre .0, ((head ((c .before .before .before .before .before .before .before .before .before .before .before .before .before .before) .pre .1) (c .before .before .before .before .before .before .before .head-of .ensures)) .onto .later), head-inside ((c .before .before .before .before .before .before .before .before .before .before .before .before .before .before) .pre .1) (c .before .before .before .before .before .before .before .head-of .ensures)), first-ready ((c .before .before .before .before .before .before .before .before .before .before .before .before .before .before) .pre .1) (c .before .before .before .before .before .before .before .head-of .ensures) (c .before .before .before .before .before .before .if1 .left) (c .before .before .before .before .before .zero-power .ensures) (c .before .before .before .before .if2 .left))
+build-build-requires : (t : ℕ) → build-lts.Need-build-requires (claims t) (build-at t) build.Post
+build-build-requires t c κs = (omega (arith, (c .before .before .before .before .before .before .before .before .before .before .before .before .before .before) .pre .0, (head-is t (c .before .before .before .before .before .before .before)) .onto .later, (head-is t (c .before .before .before .before .before .before .before)) .onto .inside), first-ready ((c .before .before .before .before .before .before .before .before .before .before .before .before .before .before) .pre .1) ((c .before .before .before .before .before .before .before .head-of) .ensures) (c .before .before .before .before .before .before .if1 .left) (c .before .before .before .before .before .zero-power .ensures) (c .before .before .before .before .if2 .left))
 
--- src/lib.rt:340:13
-build-exponent-at-requires : (t : ℕ) → build-lts.Need-exponent-at-requires (
-  head-of-reads.Asked,
-  head-of-reads.Learnt,
-  leaf-form-reads.Asked,
-  leaf-form-reads.Learnt,
-  zero-power-reads.Asked,
-  zero-power-reads.Learnt,
-  build-below t,
-  build.Post,
-  exponent-at-reads.Asked,
-  exponent-at-reads.Learnt,
-  raise-reads.Asked,
-  raise-reads.Learnt,
-  past-reads.Asked,
-  past-reads.Learnt,
-  negate-front-reads.Asked,
-  negate-front-reads.Learnt,
-  combine-reads.Asked,
-  combine-reads.Learnt,
-) (build-at t) build.Post
-build-exponent-at-requires t c κs = exponent-stands ((c .before .before .before .before .before .before .before .before .before .before .before .before .before .before .before .before .before .before .before .before .before .before .before .before) .pre .1 .x) ((c .before .before .before .before .before .before .before .before .before .before .before .before .before .before .before .before .before .before .before .before .before .before .before .before) .pre .1 .rest) (sym ((head ((c .before .before .before .before .before .before .before .before .before .before .before .before .before .before .before .before .before .before .before .before .before .before .before .before) .pre .1) (c .before .before .before .before .before .before .before .before .before .before .before .before .before .before .before .before .before .head-of .ensures)) .is-kind) ∙ c .if3 .taken) (((c .before .before .before .before .before .before .before .before .before .build) .ensures (firstOf ((c .before .before .before .before .before .before .before .before .before .before .before .before .before .before .before .before .before .before .before .before .before .before .before .before) .pre .1 .x)) (tailOf ((c .before .before .before .before .before .before .before .before .before .before .before .before .before .before .before .before .before .before .before .before .before .before .before .before) .pre .1 .x) ++ ((c .before .before .before .before .before .before .before .before .before .before .before .before .before .before .before .before .before .before .before .before .before .before .before .before) .pre .1 .rest)) (first-of ((c .before .before .before .before .before .before .before .before .before .before .before .before .before .before .before .before .before .before .before .before .before .before .before .before) .pre .1) (c .before .before .before .before .before .before .before .before .before .before .before .before .before .before .before .before .before .head-of .ensures) (c .before .before .before .before .before .before .before .before .before .before .before .before .before .before .before .before .if1 .left) (c .before .before .before .before .before .before .before .before .before .before .before .before .before .before .before .zero-power .ensures))) .inside) (((c .before .before .before .before .before .before .before .before .before .build) .ensures (firstOf ((c .before .before .before .before .before .before .before .before .before .before .before .before .before .before .before .before .before .before .before .before .before .before .before .before) .pre .1 .x)) (tailOf ((c .before .before .before .before .before .before .before .before .before .before .before .before .before .before .before .before .before .before .before .before .before .before .before .before) .pre .1 .x) ++ ((c .before .before .before .before .before .before .before .before .before .before .before .before .before .before .before .before .before .before .before .before .before .before .before .before) .pre .1 .rest)) (first-of ((c .before .before .before .before .before .before .before .before .before .before .before .before .before .before .before .before .before .before .before .before .before .before .before .before) .pre .1) (c .before .before .before .before .before .before .before .before .before .before .before .before .before .before .before .before .before .head-of .ensures) (c .before .before .before .before .before .before .before .before .before .before .before .before .before .before .before .before .if1 .left) (c .before .before .before .before .before .before .before .before .before .before .before .before .before .before .before .zero-power .ensures))) .behind)
+build-exponent-at-requires : (t : ℕ) → build-lts.Need-exponent-at-requires (claims t) (build-at t) build.Post
+build-exponent-at-requires t c κs = exponent-stands ((c .before .before .before .before .before .before .before .before .before .before .before .before .before .before .before .before .before .before .before .before .before .before .before .before) .pre .1 .x) ((c .before .before .before .before .before .before .before .before .before .before .before .before .before .before .before .before .before .before .before .before .before .before .before .before) .pre .1 .rest) (is-power t c) ((done t (c .before .before .before .before .before .before .before .before .before)) .inside) ((done t (c .before .before .before .before .before .before .before .before .before)) .behind)
 
--- src/lib.rt:341:13
-build-raise-requires : (t : ℕ) → build-lts.Need-raise-requires (
-  head-of-reads.Asked,
-  head-of-reads.Learnt,
-  leaf-form-reads.Asked,
-  leaf-form-reads.Learnt,
-  zero-power-reads.Asked,
-  zero-power-reads.Learnt,
-  build-below t,
-  build.Post,
-  exponent-at-reads.Asked,
-  exponent-at-reads.Learnt,
-  raise-reads.Asked,
-  raise-reads.Learnt,
-  past-reads.Asked,
-  past-reads.Learnt,
-  negate-front-reads.Asked,
-  negate-front-reads.Learnt,
-  combine-reads.Asked,
-  combine-reads.Learnt,
-) (build-at t) build.Post
-build-raise-requires t c κs = raise-asks (((c .before .before .before .before .before .before .before .before .before .before .before .before .before .before .before .before .before .before .before .before .before .before .before .before .before .before .before .before .before) .pre .1) .proper) ((c .before .before .before .before .before .before .before .before .before .before .before .before .before .before .before .before .before .before .before .before .before .before .before .before .before .before .before .before .before) .pre .1 .x) ((c .before .before .before .before .before .before .before .before .before .before .before .before .before .before .before .before .before .before .before .before .before .before .before .before .before .before .before .before .before) .pre .1 .rest) (sym ((head ((c .before .before .before .before .before .before .before .before .before .before .before .before .before .before .before .before .before .before .before .before .before .before .before .before .before .before .before .before .before) .pre .1) (c .before .before .before .before .before .before .before .before .before .before .before .before .before .before .before .before .before .before .before .before .before .before .head-of .ensures)) .is-kind) ∙ c .before .before .before .before .before .if3 .taken) (zero-is ((c .before .before .before .before .before .before .before .before .before .before .before .before .before .before .before .before .before .before .before .before .before .before .before .before .before .before .before .before .before) .pre .1) (c .before .before .before .before .before .before .before .before .before .before .before .before .before .before .before .before .before .before .before .before .before .before .head-of .ensures) (c .before .before .before .before .before .before .before .before .before .before .before .before .before .before .before .before .before .before .before .before .before .if1 .left) (c .before .before .before .before .before .before .before .before .before .before .before .before .before .before .before .before .before .before .before .before .zero-power .ensures) .no (c .before .before .before .before .before .before .before .before .before .before .before .before .before .before .before .before .before .before .before .if2 .left)) (((c .before .before .before .before .before .before .before .before .before .before .before .before .before .before .before .before .before .before .before .before .before .before .before .before .before .before .before .before .before) .pre .1) .stands) (first-of ((c .before .before .before .before .before .before .before .before .before .before .before .before .before .before .before .before .before .before .before .before .before .before .before .before .before .before .before .before .before) .pre .1) (c .before .before .before .before .before .before .before .before .before .before .before .before .before .before .before .before .before .before .before .before .before .before .head-of .ensures) (c .before .before .before .before .before .before .before .before .before .before .before .before .before .before .before .before .before .before .before .before .before .if1 .left) (c .before .before .before .before .before .before .before .before .before .before .before .before .before .before .before .before .before .before .before .before .zero-power .ensures)) ((c .before .before .before .before .before .before .before .before .before .before .before .before .before .before .build) .ensures (firstOf ((c .before .before .before .before .before .before .before .before .before .before .before .before .before .before .before .before .before .before .before .before .before .before .before .before .before .before .before .before .before) .pre .1 .x)) (tailOf ((c .before .before .before .before .before .before .before .before .before .before .before .before .before .before .before .before .before .before .before .before .before .before .before .before .before .before .before .before .before) .pre .1 .x) ++ ((c .before .before .before .before .before .before .before .before .before .before .before .before .before .before .before .before .before .before .before .before .before .before .before .before .before .before .before .before .before) .pre .1 .rest)) (first-of ((c .before .before .before .before .before .before .before .before .before .before .before .before .before .before .before .before .before .before .before .before .before .before .before .before .before .before .before .before .before) .pre .1) (c .before .before .before .before .before .before .before .before .before .before .before .before .before .before .before .before .before .before .before .before .before .before .head-of .ensures) (c .before .before .before .before .before .before .before .before .before .before .before .before .before .before .before .before .before .before .before .before .before .if1 .left) (c .before .before .before .before .before .before .before .before .before .before .before .before .before .before .before .before .before .before .before .before .zero-power .ensures))) (c .before .before .before .before .exponent-at .ensures) (omega (arith, ((c .before .before .before .before .before .before .before .before .before .before .before .before .before .before .before .before .before .before .before .before .before .before .before .before .before .before .before .before .before) .pre .1) .room, ((c .before .before .before .before .before .before .before .before .before .before .before .before .before .before .build) .kept .1 .1 .1 .0))) (tables-as ((c .before .before .before .before .before .before .before .before .before .before .before .before .before .before .build) .kept .1 .1 .1 .1 .0) ((c .before .before .before .before .before .before .before .before .before .before .before .before .before .before .build) .kept .1 .1 .1 .1 .1 .0) ((c .before .before .before .before .before .before .before .before .before .before .before .before .before .before .build) .kept .1 .1 .1 .1 .1 .1 .0) (((c .before .before .before .before .before .before .before .before .before .before .before .before .before .before .before .before .before .before .before .before .before .before .before .before .before .before .before .before .before) .pre .1) .tables))
+build-raise-requires : (t : ℕ) → build-lts.Need-raise-requires (claims t) (build-at t) build.Post
+build-raise-requires t c κs = raise-asks (((c .before .before .before .before .before .before .before .before .before .before .before .before .before .before .before .before .before .before .before .before .before .before .before .before .before .before .before .before .before) .pre .1) .proper) ((c .before .before .before .before .before .before .before .before .before .before .before .before .before .before .before .before .before .before .before .before .before .before .before .before .before .before .before .before .before) .pre .1 .x) ((c .before .before .before .before .before .before .before .before .before .before .before .before .before .before .before .before .before .before .before .before .before .before .before .before .before .before .before .before .before) .pre .1 .rest) (is-power t (c .before .before .before .before .before)) (zero-is ((c .before .before .before .before .before .before .before .before .before .before .before .before .before .before .before .before .before .before .before .before .before .before .before .before .before .before .before .before .before) .pre .1) ((c .before .before .before .before .before .before .before .before .before .before .before .before .before .before .before .before .before .before .before .before .before .before .head-of) .ensures) (c .before .before .before .before .before .before .before .before .before .before .before .before .before .before .before .before .before .before .before .before .before .if1 .left) (c .before .before .before .before .before .before .before .before .before .before .before .before .before .before .before .before .before .before .before .before .zero-power .ensures) .no (c .before .before .before .before .before .before .before .before .before .before .before .before .before .before .before .before .before .before .before .if2 .left)) (((c .before .before .before .before .before .before .before .before .before .before .before .before .before .before .before .before .before .before .before .before .before .before .before .before .before .before .before .before .before) .pre .1) .stands) (first t (c .before .before .before .before .before .before .before .before .before .before .before .before .before .before .before .before .before .before .before .before)) (done t (c .before .before .before .before .before .before .before .before .before .before .before .before .before .before)) (c .before .before .before .before .exponent-at .ensures) (omega (arith, ((c .before .before .before .before .before .before .before .before .before .before .before .before .before .before .before .before .before .before .before .before .before .before .before .before .before .before .before .before .before) .pre .1) .room, ((c .before .before .before .before .before .before .before .before .before .before .before .before .before .before .build) .kept .1 .1 .1 .0))) (tables-as ((c .before .before .before .before .before .before .before .before .before .before .before .before .before .before .build) .kept .1 .1 .1 .1 .0) ((c .before .before .before .before .before .before .before .before .before .before .before .before .before .before .build) .kept .1 .1 .1 .1 .1 .0) ((c .before .before .before .before .before .before .before .before .before .before .before .before .before .before .build) .kept .1 .1 .1 .1 .1 .1 .0) (((c .before .before .before .before .before .before .before .before .before .before .before .before .before .before .before .before .before .before .before .before .before .before .before .before .before .before .before .before .before) .pre .1) .tables))
 
--- src/lib.rt:342:13
-build-past-requires : (t : ℕ) → build-lts.Need-past-requires (
-  head-of-reads.Asked,
-  head-of-reads.Learnt,
-  leaf-form-reads.Asked,
-  leaf-form-reads.Learnt,
-  zero-power-reads.Asked,
-  zero-power-reads.Learnt,
-  build-below t,
-  build.Post,
-  exponent-at-reads.Asked,
-  exponent-at-reads.Learnt,
-  raise-reads.Asked,
-  raise-reads.Learnt,
-  past-reads.Asked,
-  past-reads.Learnt,
-  negate-front-reads.Asked,
-  negate-front-reads.Learnt,
-  combine-reads.Asked,
-  combine-reads.Learnt,
-) (build-at t) build.Post
-build-past-requires t c κs = exponent-inside ((c .before .before .before .before .before .before .before .before .before .before .before .before .before .before .before .before .before .before .before .before .before .before .before .before .before .before .before .before .before .before .before .before .before .before .before .before .before .before) .pre .1 .x) ((c .before .before .before .before .before .before .before .before .before .before .before .before .before .before .before .before .before .before .before .before .before .before .before .before .before .before .before .before .before .before .before .before .before .before .before .before .before .before) .pre .1 .rest) (sym ((head ((c .before .before .before .before .before .before .before .before .before .before .before .before .before .before .before .before .before .before .before .before .before .before .before .before .before .before .before .before .before .before .before .before .before .before .before .before .before .before) .pre .1) (c .before .before .before .before .before .before .before .before .before .before .before .before .before .before .before .before .before .before .before .before .before .before .before .before .before .before .before .before .before .before .before .head-of .ensures)) .is-kind) ∙ c .before .before .before .before .before .before .before .before .before .before .before .before .before .before .if3 .taken) (((c .before .before .before .before .before .before .before .before .before .before .before .before .before .before .before .before .before .before .before .before .before .before .before .build) .ensures (firstOf ((c .before .before .before .before .before .before .before .before .before .before .before .before .before .before .before .before .before .before .before .before .before .before .before .before .before .before .before .before .before .before .before .before .before .before .before .before .before .before) .pre .1 .x)) (tailOf ((c .before .before .before .before .before .before .before .before .before .before .before .before .before .before .before .before .before .before .before .before .before .before .before .before .before .before .before .before .before .before .before .before .before .before .before .before .before .before) .pre .1 .x) ++ ((c .before .before .before .before .before .before .before .before .before .before .before .before .before .before .before .before .before .before .before .before .before .before .before .before .before .before .before .before .before .before .before .before .before .before .before .before .before .before) .pre .1 .rest)) (first-of ((c .before .before .before .before .before .before .before .before .before .before .before .before .before .before .before .before .before .before .before .before .before .before .before .before .before .before .before .before .before .before .before .before .before .before .before .before .before .before) .pre .1) (c .before .before .before .before .before .before .before .before .before .before .before .before .before .before .before .before .before .before .before .before .before .before .before .before .before .before .before .before .before .before .before .head-of .ensures) (c .before .before .before .before .before .before .before .before .before .before .before .before .before .before .before .before .before .before .before .before .before .before .before .before .before .before .before .before .before .before .if1 .left) (c .before .before .before .before .before .before .before .before .before .before .before .before .before .before .before .before .before .before .before .before .before .before .before .before .before .before .before .before .before .zero-power .ensures))) .behind) (c .before .before .before .before .before .before .before .before .before .before .before .before .before .exponent-at .ensures)
+build-past-requires : (t : ℕ) → build-lts.Need-past-requires (claims t) (build-at t) build.Post
+build-past-requires t c κs = exponent-inside ((c .before .before .before .before .before .before .before .before .before .before .before .before .before .before .before .before .before .before .before .before .before .before .before .before .before .before .before .before .before .before .before .before .before .before .before .before .before .before) .pre .1 .x) ((c .before .before .before .before .before .before .before .before .before .before .before .before .before .before .before .before .before .before .before .before .before .before .before .before .before .before .before .before .before .before .before .before .before .before .before .before .before .before) .pre .1 .rest) (is-power t (c .before .before .before .before .before .before .before .before .before .before .before .before .before .before)) ((done t (c .before .before .before .before .before .before .before .before .before .before .before .before .before .before .before .before .before .before .before .before .before .before .before)) .behind) (c .before .before .before .before .before .before .before .before .before .before .before .before .before .exponent-at .ensures)
 
--- src/lib.rt:343:9
-build-same-length-3 : (t : ℕ) → build-lts.Need-same-length-3 (
-  head-of-reads.Asked,
-  head-of-reads.Learnt,
-  leaf-form-reads.Asked,
-  leaf-form-reads.Learnt,
-  zero-power-reads.Asked,
-  zero-power-reads.Learnt,
-  build-below t,
-  build.Post,
-  exponent-at-reads.Asked,
-  exponent-at-reads.Learnt,
-  raise-reads.Asked,
-  raise-reads.Learnt,
-  past-reads.Asked,
-  past-reads.Learnt,
-  negate-front-reads.Asked,
-  negate-front-reads.Learnt,
-  combine-reads.Asked,
-  combine-reads.Learnt,
-) (build-at t) build.Post
+build-same-length-3 : (t : ℕ) → build-lts.Need-same-length-3 (claims t) (build-at t) build.Post
 build-same-length-3 t c = c .before .before .before .before .before .before .before .before .before .raise .kept .1 .0 ∙ ((c .before .before .before .before .before .before .before .before .before .before .before .before .before .before .before .before .before .before .before .before .before .before .before .before .build) .kept .1 .1 .1 .0)
 
--- src/lib.rt:343:9
-build-same-length-4 : (t : ℕ) → build-lts.Need-same-length-4 (
-  head-of-reads.Asked,
-  head-of-reads.Learnt,
-  leaf-form-reads.Asked,
-  leaf-form-reads.Learnt,
-  zero-power-reads.Asked,
-  zero-power-reads.Learnt,
-  build-below t,
-  build.Post,
-  exponent-at-reads.Asked,
-  exponent-at-reads.Learnt,
-  raise-reads.Asked,
-  raise-reads.Learnt,
-  past-reads.Asked,
-  past-reads.Learnt,
-  negate-front-reads.Asked,
-  negate-front-reads.Learnt,
-  combine-reads.Asked,
-  combine-reads.Learnt,
-) (build-at t) build.Post
+build-same-length-4 : (t : ℕ) → build-lts.Need-same-length-4 (claims t) (build-at t) build.Post
 build-same-length-4 t c = c .before .before .before .before .before .before .before .before .before .raise .kept .1 .1 .1 .1 .0 ∙ ((c .before .before .before .before .before .before .before .before .before .before .before .before .before .before .before .before .before .before .before .before .before .before .before .before .build) .kept .1 .1 .1 .1 .0)
 
--- src/lib.rt:343:9
-build-same-length-5 : (t : ℕ) → build-lts.Need-same-length-5 (
-  head-of-reads.Asked,
-  head-of-reads.Learnt,
-  leaf-form-reads.Asked,
-  leaf-form-reads.Learnt,
-  zero-power-reads.Asked,
-  zero-power-reads.Learnt,
-  build-below t,
-  build.Post,
-  exponent-at-reads.Asked,
-  exponent-at-reads.Learnt,
-  raise-reads.Asked,
-  raise-reads.Learnt,
-  past-reads.Asked,
-  past-reads.Learnt,
-  negate-front-reads.Asked,
-  negate-front-reads.Learnt,
-  combine-reads.Asked,
-  combine-reads.Learnt,
-) (build-at t) build.Post
+build-same-length-5 : (t : ℕ) → build-lts.Need-same-length-5 (claims t) (build-at t) build.Post
 build-same-length-5 t c = c .before .before .before .before .before .before .before .before .before .raise .kept .1 .1 .1 .1 .1 .0 ∙ ((c .before .before .before .before .before .before .before .before .before .before .before .before .before .before .before .before .before .before .before .before .before .before .before .before .build) .kept .1 .1 .1 .1 .1 .0)
 
--- src/lib.rt:343:9
-build-same-length-6 : (t : ℕ) → build-lts.Need-same-length-6 (
-  head-of-reads.Asked,
-  head-of-reads.Learnt,
-  leaf-form-reads.Asked,
-  leaf-form-reads.Learnt,
-  zero-power-reads.Asked,
-  zero-power-reads.Learnt,
-  build-below t,
-  build.Post,
-  exponent-at-reads.Asked,
-  exponent-at-reads.Learnt,
-  raise-reads.Asked,
-  raise-reads.Learnt,
-  past-reads.Asked,
-  past-reads.Learnt,
-  negate-front-reads.Asked,
-  negate-front-reads.Learnt,
-  combine-reads.Asked,
-  combine-reads.Learnt,
-) (build-at t) build.Post
+build-same-length-6 : (t : ℕ) → build-lts.Need-same-length-6 (claims t) (build-at t) build.Post
 build-same-length-6 t c = c .before .before .before .before .before .before .before .before .before .raise .kept .1 .1 .1 .1 .1 .1 .0 ∙ ((c .before .before .before .before .before .before .before .before .before .before .before .before .before .before .before .before .before .before .before .before .before .before .before .before .build) .kept .1 .1 .1 .1 .1 .1 .0)
 
--- src/lib.rt:343:9
-build-returns-3 : (t : ℕ) → build-lts.Need-returns-3 (
-  head-of-reads.Asked,
-  head-of-reads.Learnt,
-  leaf-form-reads.Asked,
-  leaf-form-reads.Learnt,
-  zero-power-reads.Asked,
-  zero-power-reads.Learnt,
-  build-below t,
-  build.Post,
-  exponent-at-reads.Asked,
-  exponent-at-reads.Learnt,
-  raise-reads.Asked,
-  raise-reads.Learnt,
-  past-reads.Asked,
-  past-reads.Learnt,
-  negate-front-reads.Asked,
-  negate-front-reads.Learnt,
-  combine-reads.Asked,
-  combine-reads.Learnt,
-) (build-at t) build.Post
-build-returns-3 t c = finished (((c .before .before .before .before .before .before .before .before .before .before .before .before .before .before .before .before .before .before .before .before .before .before .before .before .before .before .before .before .before .before .before .before .before .before .before .before .before .before .before) .pre .1) .stands) (raise-gives (((c .before .before .before .before .before .before .before .before .before .before .before .before .before .before .before .before .before .before .before .before .before .before .before .before .before .before .before .before .before .before .before .before .before .before .before .before .before .before .before) .pre .1) .proper) ((c .before .before .before .before .before .before .before .before .before .before .before .before .before .before .before .before .before .before .before .before .before .before .before .before .before .before .before .before .before .before .before .before .before .before .before .before .before .before .before) .pre .1 .x) ((c .before .before .before .before .before .before .before .before .before .before .before .before .before .before .before .before .before .before .before .before .before .before .before .before .before .before .before .before .before .before .before .before .before .before .before .before .before .before .before) .pre .1 .rest) (sym ((head ((c .before .before .before .before .before .before .before .before .before .before .before .before .before .before .before .before .before .before .before .before .before .before .before .before .before .before .before .before .before .before .before .before .before .before .before .before .before .before .before) .pre .1) (c .before .before .before .before .before .before .before .before .before .before .before .before .before .before .before .before .before .before .before .before .before .before .before .before .before .before .before .before .before .before .before .before .head-of .ensures)) .is-kind) ∙ c .before .before .before .before .before .before .before .before .before .before .before .before .before .before .before .if3 .taken) (((c .before .before .before .before .before .before .before .before .before .before .before .before .before .before .before .before .before .before .before .before .before .before .before .before .before .before .before .before .before .before .before .before .before .before .before .before .before .before .before) .pre .1) .stands) (first-of ((c .before .before .before .before .before .before .before .before .before .before .before .before .before .before .before .before .before .before .before .before .before .before .before .before .before .before .before .before .before .before .before .before .before .before .before .before .before .before .before) .pre .1) (c .before .before .before .before .before .before .before .before .before .before .before .before .before .before .before .before .before .before .before .before .before .before .before .before .before .before .before .before .before .before .before .before .head-of .ensures) (c .before .before .before .before .before .before .before .before .before .before .before .before .before .before .before .before .before .before .before .before .before .before .before .before .before .before .before .before .before .before .before .if1 .left) (c .before .before .before .before .before .before .before .before .before .before .before .before .before .before .before .before .before .before .before .before .before .before .before .before .before .before .before .before .before .before .zero-power .ensures)) ((head ((c .before .before .before .before .before .before .before .before .before .before .before .before .before .before .before .before .before .before .before .before .before .before .before .before .before .before .before .before .before .before .before .before .before .before .before .before .before .before .before) .pre .1) (c .before .before .before .before .before .before .before .before .before .before .before .before .before .before .before .before .before .before .before .before .before .before .before .before .before .before .before .before .before .before .before .before .head-of .ensures)) .onto .later) ((c .before .before .before .before .before .before .before .before .before .before .before .before .before .before .before .before .before .before .before .before .before .before .before .before .build) .ensures (firstOf ((c .before .before .before .before .before .before .before .before .before .before .before .before .before .before .before .before .before .before .before .before .before .before .before .before .before .before .before .before .before .before .before .before .before .before .before .before .before .before .before) .pre .1 .x)) (tailOf ((c .before .before .before .before .before .before .before .before .before .before .before .before .before .before .before .before .before .before .before .before .before .before .before .before .before .before .before .before .before .before .before .before .before .before .before .before .before .before .before) .pre .1 .x) ++ ((c .before .before .before .before .before .before .before .before .before .before .before .before .before .before .before .before .before .before .before .before .before .before .before .before .before .before .before .before .before .before .before .before .before .before .before .before .before .before .before) .pre .1 .rest)) (first-of ((c .before .before .before .before .before .before .before .before .before .before .before .before .before .before .before .before .before .before .before .before .before .before .before .before .before .before .before .before .before .before .before .before .before .before .before .before .before .before .before) .pre .1) (c .before .before .before .before .before .before .before .before .before .before .before .before .before .before .before .before .before .before .before .before .before .before .before .before .before .before .before .before .before .before .before .before .head-of .ensures) (c .before .before .before .before .before .before .before .before .before .before .before .before .before .before .before .before .before .before .before .before .before .before .before .before .before .before .before .before .before .before .before .if1 .left) (c .before .before .before .before .before .before .before .before .before .before .before .before .before .before .before .before .before .before .before .before .before .before .before .before .before .before .before .before .before .before .zero-power .ensures))) (c .before .before .before .before .before .before .before .before .before .before .before .before .before .before .exponent-at .ensures) (c .before .before .before .before .before .before .before .before .before .raise .ensures) (c .past .ensures))
+build-returns-3 : (t : ℕ) → build-lts.Need-returns-3 (claims t) (build-at t) build.Post
+build-returns-3 t c = finished (((c .before .before .before .before .before .before .before .before .before .before .before .before .before .before .before .before .before .before .before .before .before .before .before .before .before .before .before .before .before .before .before .before .before .before .before .before .before .before .before) .pre .1) .stands) (raise-gives (((c .before .before .before .before .before .before .before .before .before .before .before .before .before .before .before .before .before .before .before .before .before .before .before .before .before .before .before .before .before .before .before .before .before .before .before .before .before .before .before) .pre .1) .proper) ((c .before .before .before .before .before .before .before .before .before .before .before .before .before .before .before .before .before .before .before .before .before .before .before .before .before .before .before .before .before .before .before .before .before .before .before .before .before .before .before) .pre .1 .x) ((c .before .before .before .before .before .before .before .before .before .before .before .before .before .before .before .before .before .before .before .before .before .before .before .before .before .before .before .before .before .before .before .before .before .before .before .before .before .before .before) .pre .1 .rest) (is-power t (c .before .before .before .before .before .before .before .before .before .before .before .before .before .before .before)) (((c .before .before .before .before .before .before .before .before .before .before .before .before .before .before .before .before .before .before .before .before .before .before .before .before .before .before .before .before .before .before .before .before .before .before .before .before .before .before .before) .pre .1) .stands) (first t (c .before .before .before .before .before .before .before .before .before .before .before .before .before .before .before .before .before .before .before .before .before .before .before .before .before .before .before .before .before .before)) ((head-is t (c .before .before .before .before .before .before .before .before .before .before .before .before .before .before .before .before .before .before .before .before .before .before .before .before .before .before .before .before .before .before .before .before)) .onto .later) (done t (c .before .before .before .before .before .before .before .before .before .before .before .before .before .before .before .before .before .before .before .before .before .before .before .before)) (c .before .before .before .before .before .before .before .before .before .before .before .before .before .before .exponent-at .ensures) (c .before .before .before .before .before .before .before .before .before .raise .ensures) (c .past .ensures))
 
--- src/lib.rt:345:9
-build-past-requires-2 : (t : ℕ) → build-lts.Need-past-requires-2 (
-  head-of-reads.Asked,
-  head-of-reads.Learnt,
-  leaf-form-reads.Asked,
-  leaf-form-reads.Learnt,
-  zero-power-reads.Asked,
-  zero-power-reads.Learnt,
-  build-below t,
-  build.Post,
-  exponent-at-reads.Asked,
-  exponent-at-reads.Learnt,
-  raise-reads.Asked,
-  raise-reads.Learnt,
-  past-reads.Asked,
-  past-reads.Learnt,
-  negate-front-reads.Asked,
-  negate-front-reads.Learnt,
-  combine-reads.Asked,
-  combine-reads.Learnt,
-) (build-at t) build.Post
-build-past-requires-2 t c κs = ((c .before .before .before .before .before .before .before .before .before .build) .ensures (firstOf ((c .before .before .before .before .before .before .before .before .before .before .before .before .before .before .before .before .before .before .before .before .before .before .before .before) .pre .1 .x)) (tailOf ((c .before .before .before .before .before .before .before .before .before .before .before .before .before .before .before .before .before .before .before .before .before .before .before .before) .pre .1 .x) ++ ((c .before .before .before .before .before .before .before .before .before .before .before .before .before .before .before .before .before .before .before .before .before .before .before .before) .pre .1 .rest)) (first-of ((c .before .before .before .before .before .before .before .before .before .before .before .before .before .before .before .before .before .before .before .before .before .before .before .before) .pre .1) (c .before .before .before .before .before .before .before .before .before .before .before .before .before .before .before .before .before .head-of .ensures) (c .before .before .before .before .before .before .before .before .before .before .before .before .before .before .before .before .if1 .left) (c .before .before .before .before .before .before .before .before .before .before .before .before .before .before .before .zero-power .ensures))) .inside
+build-past-requires-2 : (t : ℕ) → build-lts.Need-past-requires-2 (claims t) (build-at t) build.Post
+build-past-requires-2 t c κs = (done t (c .before .before .before .before .before .before .before .before .before)) .inside
 
--- src/lib.rt:347:13
-build-negate-front-requires : (t : ℕ) → build-lts.Need-negate-front-requires (
-  head-of-reads.Asked,
-  head-of-reads.Learnt,
-  leaf-form-reads.Asked,
-  leaf-form-reads.Learnt,
-  zero-power-reads.Asked,
-  zero-power-reads.Learnt,
-  build-below t,
-  build.Post,
-  exponent-at-reads.Asked,
-  exponent-at-reads.Learnt,
-  raise-reads.Asked,
-  raise-reads.Learnt,
-  past-reads.Asked,
-  past-reads.Learnt,
-  negate-front-reads.Asked,
-  negate-front-reads.Learnt,
-  combine-reads.Asked,
-  combine-reads.Learnt,
-) (build-at t) build.Post
-build-negate-front-requires t c κs = ((begins-le (((c .before .before .before .before .before .before .before .before .before .before .before .before .before .build) .ensures (firstOf ((c .before .before .before .before .before .before .before .before .before .before .before .before .before .before .before .before .before .before .before .before .before .before .before .before .before .before .before .before) .pre .1 .x)) (tailOf ((c .before .before .before .before .before .before .before .before .before .before .before .before .before .before .before .before .before .before .before .before .before .before .before .before .before .before .before .before) .pre .1 .x) ++ ((c .before .before .before .before .before .before .before .before .before .before .before .before .before .before .before .before .before .before .before .before .before .before .before .before .before .before .before .before) .pre .1 .rest)) (first-of ((c .before .before .before .before .before .before .before .before .before .before .before .before .before .before .before .before .before .before .before .before .before .before .before .before .before .before .before .before) .pre .1) (c .before .before .before .before .before .before .before .before .before .before .before .before .before .before .before .before .before .before .before .before .before .head-of .ensures) (c .before .before .before .before .before .before .before .before .before .before .before .before .before .before .before .before .before .before .before .before .if1 .left) (c .before .before .before .before .before .before .before .before .before .before .before .before .before .before .before .before .before .before .before .zero-power .ensures))) .made), omega (arith, ((c .before .before .before .before .before .before .before .before .before .before .before .before .before .build) .ensures (firstOf ((c .before .before .before .before .before .before .before .before .before .before .before .before .before .before .before .before .before .before .before .before .before .before .before .before .before .before .before .before) .pre .1 .x)) (tailOf ((c .before .before .before .before .before .before .before .before .before .before .before .before .before .before .before .before .before .before .before .before .before .before .before .before .before .before .before .before) .pre .1 .x) ++ ((c .before .before .before .before .before .before .before .before .before .before .before .before .before .before .before .before .before .before .before .before .before .before .before .before .before .before .before .before) .pre .1 .rest)) (first-of ((c .before .before .before .before .before .before .before .before .before .before .before .before .before .before .before .before .before .before .before .before .before .before .before .before .before .before .before .before) .pre .1) (c .before .before .before .before .before .before .before .before .before .before .before .before .before .before .before .before .before .before .before .before .before .head-of .ensures) (c .before .before .before .before .before .before .before .before .before .before .before .before .before .before .before .before .before .before .before .before .if1 .left) (c .before .before .before .before .before .before .before .before .before .before .before .before .before .before .before .before .before .before .before .zero-power .ensures))) .made .size, few-words (((c .before .before .before .before .before .before .before .before .before .before .before .before .before .before .before .before .before .before .before .before .before .before .before .before .before .before .before .before) .pre .1) .proper) (first-of ((c .before .before .before .before .before .before .before .before .before .before .before .before .before .before .before .before .before .before .before .before .before .before .before .before .before .before .before .before) .pre .1) (c .before .before .before .before .before .before .before .before .before .before .before .before .before .before .before .before .before .before .before .before .before .head-of .ensures) (c .before .before .before .before .before .before .before .before .before .before .before .before .before .before .before .before .before .before .before .before .if1 .left) (c .before .before .before .before .before .before .before .before .before .before .before .before .before .before .before .before .before .before .before .zero-power .ensures)), ((c .before .before .before .before .before .before .before .before .before .before .before .before .before .before .before .before .before .before .before .before .before .before .before .before .before .before .before .before) .pre .1) .tables .first, ((c .before .before .before .before .before .before .before .before .before .before .before .before .before .build) .kept .1 .1 .1 .1 .0))), coded (first-codes (((c .before .before .before .before .before .before .before .before .before .before .before .before .before .before .before .before .before .before .before .before .before .before .before .before .before .before .before .before) .pre .1) .proper) (first-of ((c .before .before .before .before .before .before .before .before .before .before .before .before .before .before .before .before .before .before .before .before .before .before .before .before .before .before .before .before) .pre .1) (c .before .before .before .before .before .before .before .before .before .before .before .before .before .before .before .before .before .before .before .before .before .head-of .ensures) (c .before .before .before .before .before .before .before .before .before .before .before .before .before .before .before .before .before .before .before .before .if1 .left) (c .before .before .before .before .before .before .before .before .before .before .before .before .before .before .before .before .before .before .before .zero-power .ensures)) ((c .before .before .before .before .before .before .before .before .before .before .before .before .before .build) .ensures (firstOf ((c .before .before .before .before .before .before .before .before .before .before .before .before .before .before .before .before .before .before .before .before .before .before .before .before .before .before .before .before) .pre .1 .x)) (tailOf ((c .before .before .before .before .before .before .before .before .before .before .before .before .before .before .before .before .before .before .before .before .before .before .before .before .before .before .before .before) .pre .1 .x) ++ ((c .before .before .before .before .before .before .before .before .before .before .before .before .before .before .before .before .before .before .before .before .before .before .before .before .before .before .before .before) .pre .1 .rest)) (first-of ((c .before .before .before .before .before .before .before .before .before .before .before .before .before .before .before .before .before .before .before .before .before .before .before .before .before .before .before .before) .pre .1) (c .before .before .before .before .before .before .before .before .before .before .before .before .before .before .before .before .before .before .before .before .before .head-of .ensures) (c .before .before .before .before .before .before .before .before .before .before .before .before .before .before .before .before .before .before .before .before .if1 .left) (c .before .before .before .before .before .before .before .before .before .before .before .before .before .before .before .before .before .before .before .zero-power .ensures)))))
+build-negate-front-requires : (t : ℕ) → build-lts.Need-negate-front-requires (claims t) (build-at t) build.Post
+build-negate-front-requires t c κs = ((begins-le ((done t (c .before .before .before .before .before .before .before .before .before .before .before .before .before)) .made), omega (arith, (done t (c .before .before .before .before .before .before .before .before .before .before .before .before .before)) .made .size, few-words (((c .before .before .before .before .before .before .before .before .before .before .before .before .before .before .before .before .before .before .before .before .before .before .before .before .before .before .before .before) .pre .1) .proper) (first t (c .before .before .before .before .before .before .before .before .before .before .before .before .before .before .before .before .before .before .before)), ((c .before .before .before .before .before .before .before .before .before .before .before .before .before .before .before .before .before .before .before .before .before .before .before .before .before .before .before .before) .pre .1) .tables .first, ((c .before .before .before .before .before .before .before .before .before .before .before .before .before .build) .kept .1 .1 .1 .1 .0))), coded (first-codes (((c .before .before .before .before .before .before .before .before .before .before .before .before .before .before .before .before .before .before .before .before .before .before .before .before .before .before .before .before) .pre .1) .proper) (first t (c .before .before .before .before .before .before .before .before .before .before .before .before .before .before .before .before .before .before .before)) (done t (c .before .before .before .before .before .before .before .before .before .before .before .before .before))))
 
--- src/lib.rt:348:9
-build-same-length-7 : (t : ℕ) → build-lts.Need-same-length-7 (
-  head-of-reads.Asked,
-  head-of-reads.Learnt,
-  leaf-form-reads.Asked,
-  leaf-form-reads.Learnt,
-  zero-power-reads.Asked,
-  zero-power-reads.Learnt,
-  build-below t,
-  build.Post,
-  exponent-at-reads.Asked,
-  exponent-at-reads.Learnt,
-  raise-reads.Asked,
-  raise-reads.Learnt,
-  past-reads.Asked,
-  past-reads.Learnt,
-  negate-front-reads.Asked,
-  negate-front-reads.Learnt,
-  combine-reads.Asked,
-  combine-reads.Learnt,
-) (build-at t) build.Post
+build-same-length-7 : (t : ℕ) → build-lts.Need-same-length-7 (claims t) (build-at t) build.Post
 build-same-length-7 t c = c .before .before .before .before .negate-front .kept .0 ∙ ((c .before .before .before .before .before .before .before .before .before .before .before .before .before .before .before .before .before .before .build) .kept .1 .1 .1 .0)
 
--- src/lib.rt:348:9
-build-same-length-8 : (t : ℕ) → build-lts.Need-same-length-8 (
-  head-of-reads.Asked,
-  head-of-reads.Learnt,
-  leaf-form-reads.Asked,
-  leaf-form-reads.Learnt,
-  zero-power-reads.Asked,
-  zero-power-reads.Learnt,
-  build-below t,
-  build.Post,
-  exponent-at-reads.Asked,
-  exponent-at-reads.Learnt,
-  raise-reads.Asked,
-  raise-reads.Learnt,
-  past-reads.Asked,
-  past-reads.Learnt,
-  negate-front-reads.Asked,
-  negate-front-reads.Learnt,
-  combine-reads.Asked,
-  combine-reads.Learnt,
-) (build-at t) build.Post
+build-same-length-8 : (t : ℕ) → build-lts.Need-same-length-8 (claims t) (build-at t) build.Post
 build-same-length-8 t c = c .before .before .before .before .negate-front .kept .1 .1 .0 ∙ ((c .before .before .before .before .before .before .before .before .before .before .before .before .before .before .before .before .before .before .build) .kept .1 .1 .1 .1 .0)
 
--- src/lib.rt:348:9
-build-same-length-9 : (t : ℕ) → build-lts.Need-same-length-9 (
-  head-of-reads.Asked,
-  head-of-reads.Learnt,
-  leaf-form-reads.Asked,
-  leaf-form-reads.Learnt,
-  zero-power-reads.Asked,
-  zero-power-reads.Learnt,
-  build-below t,
-  build.Post,
-  exponent-at-reads.Asked,
-  exponent-at-reads.Learnt,
-  raise-reads.Asked,
-  raise-reads.Learnt,
-  past-reads.Asked,
-  past-reads.Learnt,
-  negate-front-reads.Asked,
-  negate-front-reads.Learnt,
-  combine-reads.Asked,
-  combine-reads.Learnt,
-) (build-at t) build.Post
+build-same-length-9 : (t : ℕ) → build-lts.Need-same-length-9 (claims t) (build-at t) build.Post
 build-same-length-9 t c = ((c .before .before .before .before .before .before .before .before .before .before .before .before .before .before .before .before .before .before .build) .kept .1 .1 .1 .1 .1 .0)
 
--- src/lib.rt:348:9
-build-same-length-10 : (t : ℕ) → build-lts.Need-same-length-10 (
-  head-of-reads.Asked,
-  head-of-reads.Learnt,
-  leaf-form-reads.Asked,
-  leaf-form-reads.Learnt,
-  zero-power-reads.Asked,
-  zero-power-reads.Learnt,
-  build-below t,
-  build.Post,
-  exponent-at-reads.Asked,
-  exponent-at-reads.Learnt,
-  raise-reads.Asked,
-  raise-reads.Learnt,
-  past-reads.Asked,
-  past-reads.Learnt,
-  negate-front-reads.Asked,
-  negate-front-reads.Learnt,
-  combine-reads.Asked,
-  combine-reads.Learnt,
-) (build-at t) build.Post
+build-same-length-10 : (t : ℕ) → build-lts.Need-same-length-10 (claims t) (build-at t) build.Post
 build-same-length-10 t c = ((c .before .before .before .before .before .before .before .before .before .before .before .before .before .before .before .before .before .before .build) .kept .1 .1 .1 .1 .1 .1 .0)
 
--- src/lib.rt:348:9
-build-returns-4 : (t : ℕ) → build-lts.Need-returns-4 (
-  head-of-reads.Asked,
-  head-of-reads.Learnt,
-  leaf-form-reads.Asked,
-  leaf-form-reads.Learnt,
-  zero-power-reads.Asked,
-  zero-power-reads.Learnt,
-  build-below t,
-  build.Post,
-  exponent-at-reads.Asked,
-  exponent-at-reads.Learnt,
-  raise-reads.Asked,
-  raise-reads.Learnt,
-  past-reads.Asked,
-  past-reads.Learnt,
-  negate-front-reads.Asked,
-  negate-front-reads.Learnt,
-  combine-reads.Asked,
-  combine-reads.Learnt,
-) (build-at t) build.Post
-build-returns-4 t c = finished (((c .before .before .before .before .before .before .before .before .before .before .before .before .before .before .before .before .before .before .before .before .before .before .before .before .before .before .before .before .before .before .before .before .before) .pre .1) .stands) (negate-gives (((c .before .before .before .before .before .before .before .before .before .before .before .before .before .before .before .before .before .before .before .before .before .before .before .before .before .before .before .before .before .before .before .before .before) .pre .1) .proper) ((c .before .before .before .before .before .before .before .before .before .before .before .before .before .before .before .before .before .before .before .before .before .before .before .before .before .before .before .before .before .before .before .before .before) .pre .1 .x) ((c .before .before .before .before .before .before .before .before .before .before .before .before .before .before .before .before .before .before .before .before .before .before .before .before .before .before .before .before .before .before .before .before .before) .pre .1 .rest) (λ q. (c .before .before .before .before .before .before .before .before .before .before .before .before .before .before .before .before .before .before .before .before .before .before .before .before .before .if1 .left) ((head ((c .before .before .before .before .before .before .before .before .before .before .before .before .before .before .before .before .before .before .before .before .before .before .before .before .before .before .before .before .before .before .before .before .before) .pre .1) (c .before .before .before .before .before .before .before .before .before .before .before .before .before .before .before .before .before .before .before .before .before .before .before .before .before .before .head-of .ensures)) .is-kind ∙ q)) (λ q. c .before .before .before .before .before .before .before .before .before .if3 .left ((head ((c .before .before .before .before .before .before .before .before .before .before .before .before .before .before .before .before .before .before .before .before .before .before .before .before .before .before .before .before .before .before .before .before .before) .pre .1) (c .before .before .before .before .before .before .before .before .before .before .before .before .before .before .before .before .before .before .before .before .before .before .before .before .before .before .head-of .ensures)) .is-kind ∙ q)) (first-of ((c .before .before .before .before .before .before .before .before .before .before .before .before .before .before .before .before .before .before .before .before .before .before .before .before .before .before .before .before .before .before .before .before .before) .pre .1) (c .before .before .before .before .before .before .before .before .before .before .before .before .before .before .before .before .before .before .before .before .before .before .before .before .before .before .head-of .ensures) (c .before .before .before .before .before .before .before .before .before .before .before .before .before .before .before .before .before .before .before .before .before .before .before .before .before .if1 .left) (c .before .before .before .before .before .before .before .before .before .before .before .before .before .before .before .before .before .before .before .before .before .before .before .before .zero-power .ensures)) ((head ((c .before .before .before .before .before .before .before .before .before .before .before .before .before .before .before .before .before .before .before .before .before .before .before .before .before .before .before .before .before .before .before .before .before) .pre .1) (c .before .before .before .before .before .before .before .before .before .before .before .before .before .before .before .before .before .before .before .before .before .before .before .before .before .before .head-of .ensures)) .onto .later) ((c .before .before .before .before .before .before .before .before .before .before .before .before .before .before .before .before .before .before .build) .ensures (firstOf ((c .before .before .before .before .before .before .before .before .before .before .before .before .before .before .before .before .before .before .before .before .before .before .before .before .before .before .before .before .before .before .before .before .before) .pre .1 .x)) (tailOf ((c .before .before .before .before .before .before .before .before .before .before .before .before .before .before .before .before .before .before .before .before .before .before .before .before .before .before .before .before .before .before .before .before .before) .pre .1 .x) ++ ((c .before .before .before .before .before .before .before .before .before .before .before .before .before .before .before .before .before .before .before .before .before .before .before .before .before .before .before .before .before .before .before .before .before) .pre .1 .rest)) (first-of ((c .before .before .before .before .before .before .before .before .before .before .before .before .before .before .before .before .before .before .before .before .before .before .before .before .before .before .before .before .before .before .before .before .before) .pre .1) (c .before .before .before .before .before .before .before .before .before .before .before .before .before .before .before .before .before .before .before .before .before .before .before .before .before .before .head-of .ensures) (c .before .before .before .before .before .before .before .before .before .before .before .before .before .before .before .before .before .before .before .before .before .before .before .before .before .if1 .left) (c .before .before .before .before .before .before .before .before .before .before .before .before .before .before .before .before .before .before .before .before .before .before .before .before .zero-power .ensures))) (c .before .before .before .before .before .before .before .before .past2 .ensures) (c .before .before .before .before .before .before .before .if4 .taken) (c .before .before .before .before .negate-front .ensures))
+build-returns-4 : (t : ℕ) → build-lts.Need-returns-4 (claims t) (build-at t) build.Post
+build-returns-4 t c = finished (((c .before .before .before .before .before .before .before .before .before .before .before .before .before .before .before .before .before .before .before .before .before .before .before .before .before .before .before .before .before .before .before .before .before) .pre .1) .stands) (negate-gives (((c .before .before .before .before .before .before .before .before .before .before .before .before .before .before .before .before .before .before .before .before .before .before .before .before .before .before .before .before .before .before .before .before .before) .pre .1) .proper) ((c .before .before .before .before .before .before .before .before .before .before .before .before .before .before .before .before .before .before .before .before .before .before .before .before .before .before .before .before .before .before .before .before .before) .pre .1 .x) ((c .before .before .before .before .before .before .before .before .before .before .before .before .before .before .before .before .before .before .before .before .before .before .before .before .before .before .before .before .before .before .before .before .before) .pre .1 .rest) (node t (c .before .before .before .before .before .before .before .before .before .before .before .before .before .before .before .before .before .before .before .before .before .before .before .before .before)) (not-power t (c .before .before .before .before .before .before .before .before .before)) (first t (c .before .before .before .before .before .before .before .before .before .before .before .before .before .before .before .before .before .before .before .before .before .before .before .before)) ((head-is t (c .before .before .before .before .before .before .before .before .before .before .before .before .before .before .before .before .before .before .before .before .before .before .before .before .before .before)) .onto .later) (done t (c .before .before .before .before .before .before .before .before .before .before .before .before .before .before .before .before .before .before)) (c .before .before .before .before .before .before .before .before .past2 .ensures) (c .before .before .before .before .before .before .before .if4 .taken) (c .before .before .before .before .negate-front .ensures))
 
--- src/lib.rt:353:32
-build-mul-build : (t : ℕ) → build-lts.Need-mul-build (
-  head-of-reads.Asked,
-  head-of-reads.Learnt,
-  leaf-form-reads.Asked,
-  leaf-form-reads.Learnt,
-  zero-power-reads.Asked,
-  zero-power-reads.Learnt,
-  build-below t,
-  build.Post,
-  exponent-at-reads.Asked,
-  exponent-at-reads.Learnt,
-  raise-reads.Asked,
-  raise-reads.Learnt,
-  past-reads.Asked,
-  past-reads.Learnt,
-  negate-front-reads.Asked,
-  negate-front-reads.Learnt,
-  combine-reads.Asked,
-  combine-reads.Learnt,
-) (build-at t) build.Post
-build-mul-build t c = omega (arith, begins-le (((c .before .before .before .before .before .before .before .before .before .before .before .build) .ensures (firstOf ((c .before .before .before .before .before .before .before .before .before .before .before .before .before .before .before .before .before .before .before .before .before .before .before .before .before .before) .pre .1 .x)) (tailOf ((c .before .before .before .before .before .before .before .before .before .before .before .before .before .before .before .before .before .before .before .before .before .before .before .before .before .before) .pre .1 .x) ++ ((c .before .before .before .before .before .before .before .before .before .before .before .before .before .before .before .before .before .before .before .before .before .before .before .before .before .before) .pre .1 .rest)) (first-of ((c .before .before .before .before .before .before .before .before .before .before .before .before .before .before .before .before .before .before .before .before .before .before .before .before .before .before) .pre .1) (c .before .before .before .before .before .before .before .before .before .before .before .before .before .before .before .before .before .before .before .head-of .ensures) (c .before .before .before .before .before .before .before .before .before .before .before .before .before .before .before .before .before .before .if1 .left) (c .before .before .before .before .before .before .before .before .before .before .before .before .before .before .before .before .before .zero-power .ensures))) .made), ((c .before .before .before .before .before .before .before .before .before .before .before .build) .kept .1 .1 .1 .0), (c .before .before .before .before .before .before .before .before .before .before .before .before .before .before .before .before .before .before .before .before .before .before .before .before .before .before) .good .1 .1 .1 .0)
+build-mul-build : (t : ℕ) → build-lts.Need-mul-build (claims t) (build-at t) build.Post
+build-mul-build t c = omega (arith, begins-le ((done t (c .before .before .before .before .before .before .before .before .before .before .before)) .made), ((c .before .before .before .before .before .before .before .before .before .before .before .build) .kept .1 .1 .1 .0), (c .before .before .before .before .before .before .before .before .before .before .before .before .before .before .before .before .before .before .before .before .before .before .before .before .before .before) .good .1 .1 .1 .0)
 
--- src/lib.rt:353:32
-build-sub-build : (t : ℕ) → build-lts.Need-sub-build (
-  head-of-reads.Asked,
-  head-of-reads.Learnt,
-  leaf-form-reads.Asked,
-  leaf-form-reads.Learnt,
-  zero-power-reads.Asked,
-  zero-power-reads.Learnt,
-  build-below t,
-  build.Post,
-  exponent-at-reads.Asked,
-  exponent-at-reads.Learnt,
-  raise-reads.Asked,
-  raise-reads.Learnt,
-  past-reads.Asked,
-  past-reads.Learnt,
-  negate-front-reads.Asked,
-  negate-front-reads.Learnt,
-  combine-reads.Asked,
-  combine-reads.Learnt,
-) (build-at t) build.Post
-build-sub-build t c = omega (arith, begins-le (((c .before .before .before .before .before .before .before .before .before .before .before .build) .ensures (firstOf ((c .before .before .before .before .before .before .before .before .before .before .before .before .before .before .before .before .before .before .before .before .before .before .before .before .before .before) .pre .1 .x)) (tailOf ((c .before .before .before .before .before .before .before .before .before .before .before .before .before .before .before .before .before .before .before .before .before .before .before .before .before .before) .pre .1 .x) ++ ((c .before .before .before .before .before .before .before .before .before .before .before .before .before .before .before .before .before .before .before .before .before .before .before .before .before .before) .pre .1 .rest)) (first-of ((c .before .before .before .before .before .before .before .before .before .before .before .before .before .before .before .before .before .before .before .before .before .before .before .before .before .before) .pre .1) (c .before .before .before .before .before .before .before .before .before .before .before .before .before .before .before .before .before .before .before .head-of .ensures) (c .before .before .before .before .before .before .before .before .before .before .before .before .before .before .before .before .before .before .if1 .left) (c .before .before .before .before .before .before .before .before .before .before .before .before .before .before .before .before .before .zero-power .ensures))) .made), ((c .before .before .before .before .before .before .before .before .before .before .before .build) .kept .1 .1 .1 .0), (c .before .before .before .before .before .before .before .before .before .before .before .before .before .before .before .before .before .before .before .before .before .before .before .before .before .before) .good .1 .1 .1 .0)
+build-sub-build : (t : ℕ) → build-lts.Need-sub-build (claims t) (build-at t) build.Post
+build-sub-build t c = omega (arith, begins-le ((done t (c .before .before .before .before .before .before .before .before .before .before .before)) .made), ((c .before .before .before .before .before .before .before .before .before .before .before .build) .kept .1 .1 .1 .0), (c .before .before .before .before .before .before .before .before .before .before .before .before .before .before .before .before .before .before .before .before .before .before .before .before .before .before) .good .1 .1 .1 .0)
 
--- src/lib.rt:353:32
-build-part-build-start : (t : ℕ) → build-lts.Need-part-build-start (
-  head-of-reads.Asked,
-  head-of-reads.Learnt,
-  leaf-form-reads.Asked,
-  leaf-form-reads.Learnt,
-  zero-power-reads.Asked,
-  zero-power-reads.Learnt,
-  build-below t,
-  build.Post,
-  exponent-at-reads.Asked,
-  exponent-at-reads.Learnt,
-  raise-reads.Asked,
-  raise-reads.Learnt,
-  past-reads.Asked,
-  past-reads.Learnt,
-  negate-front-reads.Asked,
-  negate-front-reads.Learnt,
-  combine-reads.Asked,
-  combine-reads.Learnt,
-) (build-at t) build.Post
-build-part-build-start t c = omega (arith, begins-le (((c .before .before .before .before .before .before .before .before .before .before .before .build) .ensures (firstOf ((c .before .before .before .before .before .before .before .before .before .before .before .before .before .before .before .before .before .before .before .before .before .before .before .before .before .before) .pre .1 .x)) (tailOf ((c .before .before .before .before .before .before .before .before .before .before .before .before .before .before .before .before .before .before .before .before .before .before .before .before .before .before) .pre .1 .x) ++ ((c .before .before .before .before .before .before .before .before .before .before .before .before .before .before .before .before .before .before .before .before .before .before .before .before .before .before) .pre .1 .rest)) (first-of ((c .before .before .before .before .before .before .before .before .before .before .before .before .before .before .before .before .before .before .before .before .before .before .before .before .before .before) .pre .1) (c .before .before .before .before .before .before .before .before .before .before .before .before .before .before .before .before .before .before .before .head-of .ensures) (c .before .before .before .before .before .before .before .before .before .before .before .before .before .before .before .before .before .before .if1 .left) (c .before .before .before .before .before .before .before .before .before .before .before .before .before .before .before .before .before .zero-power .ensures))) .made), ((c .before .before .before .before .before .before .before .before .before .before .before .build) .kept .1 .1 .1 .0), (c .before .before .before .before .before .before .before .before .before .before .before .before .before .before .before .before .before .before .before .before .before .before .before .before .before .before) .good .1 .1 .1 .0)
+build-part-build-start : (t : ℕ) → build-lts.Need-part-build-start (claims t) (build-at t) build.Post
+build-part-build-start t c = omega (arith, begins-le ((done t (c .before .before .before .before .before .before .before .before .before .before .before)) .made), ((c .before .before .before .before .before .before .before .before .before .before .before .build) .kept .1 .1 .1 .0), (c .before .before .before .before .before .before .before .before .before .before .before .before .before .before .before .before .before .before .before .before .before .before .before .before .before .before) .good .1 .1 .1 .0)
 
--- src/lib.rt:353:32
-build-part-build-end : (t : ℕ) → build-lts.Need-part-build-end (
-  head-of-reads.Asked,
-  head-of-reads.Learnt,
-  leaf-form-reads.Asked,
-  leaf-form-reads.Learnt,
-  zero-power-reads.Asked,
-  zero-power-reads.Learnt,
-  build-below t,
-  build.Post,
-  exponent-at-reads.Asked,
-  exponent-at-reads.Learnt,
-  raise-reads.Asked,
-  raise-reads.Learnt,
-  past-reads.Asked,
-  past-reads.Learnt,
-  negate-front-reads.Asked,
-  negate-front-reads.Learnt,
-  combine-reads.Asked,
-  combine-reads.Learnt,
-) (build-at t) build.Post
-build-part-build-end t c = omega (arith, begins-le (((c .before .before .before .before .before .before .before .before .before .before .before .build) .ensures (firstOf ((c .before .before .before .before .before .before .before .before .before .before .before .before .before .before .before .before .before .before .before .before .before .before .before .before .before .before) .pre .1 .x)) (tailOf ((c .before .before .before .before .before .before .before .before .before .before .before .before .before .before .before .before .before .before .before .before .before .before .before .before .before .before) .pre .1 .x) ++ ((c .before .before .before .before .before .before .before .before .before .before .before .before .before .before .before .before .before .before .before .before .before .before .before .before .before .before) .pre .1 .rest)) (first-of ((c .before .before .before .before .before .before .before .before .before .before .before .before .before .before .before .before .before .before .before .before .before .before .before .before .before .before) .pre .1) (c .before .before .before .before .before .before .before .before .before .before .before .before .before .before .before .before .before .before .before .head-of .ensures) (c .before .before .before .before .before .before .before .before .before .before .before .before .before .before .before .before .before .before .if1 .left) (c .before .before .before .before .before .before .before .before .before .before .before .before .before .before .before .before .before .zero-power .ensures))) .made), ((c .before .before .before .before .before .before .before .before .before .before .before .build) .kept .1 .1 .1 .0), (c .before .before .before .before .before .before .before .before .before .before .before .before .before .before .before .before .before .before .before .before .before .before .before .before .before .before) .good .1 .1 .1 .0)
+build-part-build-end : (t : ℕ) → build-lts.Need-part-build-end (claims t) (build-at t) build.Post
+build-part-build-end t c = omega (arith, begins-le ((done t (c .before .before .before .before .before .before .before .before .before .before .before)) .made), ((c .before .before .before .before .before .before .before .before .before .before .before .build) .kept .1 .1 .1 .0), (c .before .before .before .before .before .before .before .before .before .before .before .before .before .before .before .before .before .before .before .before .before .before .before .before .before .before) .good .1 .1 .1 .0)
 
--- src/lib.rt:353:9
-build-build-requires-2 : (t : ℕ) → build-lts.Need-build-requires-2 (
-  head-of-reads.Asked,
-  head-of-reads.Learnt,
-  leaf-form-reads.Asked,
-  leaf-form-reads.Learnt,
-  zero-power-reads.Asked,
-  zero-power-reads.Learnt,
-  build-below t,
-  build.Post,
-  exponent-at-reads.Asked,
-  exponent-at-reads.Learnt,
-  raise-reads.Asked,
-  raise-reads.Learnt,
-  past-reads.Asked,
-  past-reads.Learnt,
-  negate-front-reads.Asked,
-  negate-front-reads.Learnt,
-  combine-reads.Asked,
-  combine-reads.Learnt,
-) (build-at t) build.Post
-build-build-requires-2 t c κs = (omega (arith, (c .before .before .before .before .before .before .before .before .before .before .before .before .before .before .before .before .before .before .before .before .before .before .before .before .before .before .before .before .before .before) .pre .0, ((head ((c .before .before .before .before .before .before .before .before .before .before .before .before .before .before .before .before .before .before .before .before .before .before .before .before .before .before .before .before .before .before) .pre .1) (c .before .before .before .before .before .before .before .before .before .before .before .before .before .before .before .before .before .before .before .before .before .before .before .head-of .ensures)) .onto .later), ((c .before .before .before .before .before .before .before .before .before .before .before .before .before .before .before .build) .ensures (firstOf ((c .before .before .before .before .before .before .before .before .before .before .before .before .before .before .before .before .before .before .before .before .before .before .before .before .before .before .before .before .before .before) .pre .1 .x)) (tailOf ((c .before .before .before .before .before .before .before .before .before .before .before .before .before .before .before .before .before .before .before .before .before .before .before .before .before .before .before .before .before .before) .pre .1 .x) ++ ((c .before .before .before .before .before .before .before .before .before .before .before .before .before .before .before .before .before .before .before .before .before .before .before .before .before .before .before .before .before .before) .pre .1 .rest)) (first-of ((c .before .before .before .before .before .before .before .before .before .before .before .before .before .before .before .before .before .before .before .before .before .before .before .before .before .before .before .before .before .before) .pre .1) (c .before .before .before .before .before .before .before .before .before .before .before .before .before .before .before .before .before .before .before .before .before .before .before .head-of .ensures) (c .before .before .before .before .before .before .before .before .before .before .before .before .before .before .before .before .before .before .before .before .before .before .if1 .left) (c .before .before .before .before .before .before .before .before .before .before .before .before .before .before .before .before .before .before .before .before .before .zero-power .ensures))) .later, ((c .before .before .before .before .before .before .before .before .before .before .before .before .before .before .before .build) .ensures (firstOf ((c .before .before .before .before .before .before .before .before .before .before .before .before .before .before .before .before .before .before .before .before .before .before .before .before .before .before .before .before .before .before) .pre .1 .x)) (tailOf ((c .before .before .before .before .before .before .before .before .before .before .before .before .before .before .before .before .before .before .before .before .before .before .before .before .before .before .before .before .before .before) .pre .1 .x) ++ ((c .before .before .before .before .before .before .before .before .before .before .before .before .before .before .before .before .before .before .before .before .before .before .before .before .before .before .before .before .before .before) .pre .1 .rest)) (first-of ((c .before .before .before .before .before .before .before .before .before .before .before .before .before .before .before .before .before .before .before .before .before .before .before .before .before .before .before .before .before .before) .pre .1) (c .before .before .before .before .before .before .before .before .before .before .before .before .before .before .before .before .before .before .before .before .before .before .before .head-of .ensures) (c .before .before .before .before .before .before .before .before .before .before .before .before .before .before .before .before .before .before .before .before .before .before .if1 .left) (c .before .before .before .before .before .before .before .before .before .before .before .before .before .before .before .before .before .before .before .before .before .zero-power .ensures))) .inside), ready-as (sym (length-tail-part _ ((c .before .before .before .before .before .before .before .before .before .before .before .before .before .before .before .build) .last .1 .1 .1 .0))) refl refl refl (second-ready (((c .before .before .before .before .before .before .before .before .before .before .before .before .before .before .before .before .before .before .before .before .before .before .before .before .before .before .before .before .before .before) .pre .1) .proper) ((c .before .before .before .before .before .before .before .before .before .before .before .before .before .before .before .before .before .before .before .before .before .before .before .before .before .before .before .before .before .before) .pre .1 .x) ((c .before .before .before .before .before .before .before .before .before .before .before .before .before .before .before .before .before .before .before .before .before .before .before .before .before .before .before .before .before .before) .pre .1 .rest) (λ q. (c .before .before .before .before .before .before .before .before .before .before .before .before .before .before .before .before .before .before .before .before .before .before .if1 .left) ((head ((c .before .before .before .before .before .before .before .before .before .before .before .before .before .before .before .before .before .before .before .before .before .before .before .before .before .before .before .before .before .before) .pre .1) (c .before .before .before .before .before .before .before .before .before .before .before .before .before .before .before .before .before .before .before .before .before .before .before .head-of .ensures)) .is-kind ∙ q)) (λ q. c .before .before .before .before .before .before .if3 .left ((head ((c .before .before .before .before .before .before .before .before .before .before .before .before .before .before .before .before .before .before .before .before .before .before .before .before .before .before .before .before .before .before) .pre .1) (c .before .before .before .before .before .before .before .before .before .before .before .before .before .before .before .before .before .before .before .before .before .before .before .head-of .ensures)) .is-kind ∙ q)) (((c .before .before .before .before .before .before .before .before .before .before .before .before .before .before .before .before .before .before .before .before .before .before .before .before .before .before .before .before .before .before) .pre .1) .stands) ((c .before .before .before .before .before .before .before .before .before .before .before .before .before .before .before .build) .ensures (firstOf ((c .before .before .before .before .before .before .before .before .before .before .before .before .before .before .before .before .before .before .before .before .before .before .before .before .before .before .before .before .before .before) .pre .1 .x)) (tailOf ((c .before .before .before .before .before .before .before .before .before .before .before .before .before .before .before .before .before .before .before .before .before .before .before .before .before .before .before .before .before .before) .pre .1 .x) ++ ((c .before .before .before .before .before .before .before .before .before .before .before .before .before .before .before .before .before .before .before .before .before .before .before .before .before .before .before .before .before .before) .pre .1 .rest)) (first-of ((c .before .before .before .before .before .before .before .before .before .before .before .before .before .before .before .before .before .before .before .before .before .before .before .before .before .before .before .before .before .before) .pre .1) (c .before .before .before .before .before .before .before .before .before .before .before .before .before .before .before .before .before .before .before .before .before .before .before .head-of .ensures) (c .before .before .before .before .before .before .before .before .before .before .before .before .before .before .before .before .before .before .before .before .before .before .if1 .left) (c .before .before .before .before .before .before .before .before .before .before .before .before .before .before .before .before .before .before .before .before .before .zero-power .ensures))) (subst (Passed (now ((c .before .before .before .before .before .before .before .before .before .before .before .before .before .before .before .before .before .before .before .before .before .before .before .before .before .before .before .before .before .before) .args .s)) _) (c .before .before .before .before .if4 .left) (c .before .before .before .before .before .past2 .ensures)) (omega (arith, ((c .before .before .before .before .before .before .before .before .before .before .before .before .before .before .before .before .before .before .before .before .before .before .before .before .before .before .before .before .before .before) .pre .1) .room, ((c .before .before .before .before .before .before .before .before .before .before .before .before .before .before .before .build) .kept .1 .1 .1 .0))) (tables-as ((c .before .before .before .before .before .before .before .before .before .before .before .before .before .before .before .build) .kept .1 .1 .1 .1 .0) ((c .before .before .before .before .before .before .before .before .before .before .before .before .before .before .before .build) .kept .1 .1 .1 .1 .1 .0) ((c .before .before .before .before .before .before .before .before .before .before .before .before .before .before .before .build) .kept .1 .1 .1 .1 .1 .1 .0) (((c .before .before .before .before .before .before .before .before .before .before .before .before .before .before .before .before .before .before .before .before .before .before .before .before .before .before .before .before .before .before) .pre .1) .tables))))
+build-build-requires-2 : (t : ℕ) → build-lts.Need-build-requires-2 (claims t) (build-at t) build.Post
+build-build-requires-2 t c κs = (omega (arith, (c .before .before .before .before .before .before .before .before .before .before .before .before .before .before .before .before .before .before .before .before .before .before .before .before .before .before .before .before .before .before) .pre .0, (head-is t (c .before .before .before .before .before .before .before .before .before .before .before .before .before .before .before .before .before .before .before .before .before .before .before)) .onto .later, (done t (c .before .before .before .before .before .before .before .before .before .before .before .before .before .before .before)) .later, (done t (c .before .before .before .before .before .before .before .before .before .before .before .before .before .before .before)) .inside), ready-as (sym (length-tail-part ((c .before .before .before .before .before .before .before .before .before .before .before .before .before .before .before .build) .result .words) ((c .before .before .before .before .before .before .before .before .before .before .before .before .before .before .before .build) .last .1 .1 .1 .0))) refl refl refl (second-ready (((c .before .before .before .before .before .before .before .before .before .before .before .before .before .before .before .before .before .before .before .before .before .before .before .before .before .before .before .before .before .before) .pre .1) .proper) ((c .before .before .before .before .before .before .before .before .before .before .before .before .before .before .before .before .before .before .before .before .before .before .before .before .before .before .before .before .before .before) .pre .1 .x) ((c .before .before .before .before .before .before .before .before .before .before .before .before .before .before .before .before .before .before .before .before .before .before .before .before .before .before .before .before .before .before) .pre .1 .rest) (node t (c .before .before .before .before .before .before .before .before .before .before .before .before .before .before .before .before .before .before .before .before .before .before)) (not-power t (c .before .before .before .before .before .before)) (((c .before .before .before .before .before .before .before .before .before .before .before .before .before .before .before .before .before .before .before .before .before .before .before .before .before .before .before .before .before .before) .pre .1) .stands) (done t (c .before .before .before .before .before .before .before .before .before .before .before .before .before .before .before)) (no-close t (c .before .before .before .before)) (omega (arith, ((c .before .before .before .before .before .before .before .before .before .before .before .before .before .before .before .before .before .before .before .before .before .before .before .before .before .before .before .before .before .before) .pre .1) .room, ((c .before .before .before .before .before .before .before .before .before .before .before .before .before .before .before .build) .kept .1 .1 .1 .0))) (tables-as ((c .before .before .before .before .before .before .before .before .before .before .before .before .before .before .before .build) .kept .1 .1 .1 .1 .0) ((c .before .before .before .before .before .before .before .before .before .before .before .before .before .before .before .build) .kept .1 .1 .1 .1 .1 .0) ((c .before .before .before .before .before .before .before .before .before .before .before .before .before .before .before .build) .kept .1 .1 .1 .1 .1 .1 .0) (((c .before .before .before .before .before .before .before .before .before .before .before .before .before .before .before .before .before .before .before .before .before .before .before .before .before .before .before .before .before .before) .pre .1) .tables))))
 
--- src/lib.rt:354:9
-build-combine-requires : (t : ℕ) → build-lts.Need-combine-requires (
-  head-of-reads.Asked,
-  head-of-reads.Learnt,
-  leaf-form-reads.Asked,
-  leaf-form-reads.Learnt,
-  zero-power-reads.Asked,
-  zero-power-reads.Learnt,
-  build-below t,
-  build.Post,
-  exponent-at-reads.Asked,
-  exponent-at-reads.Learnt,
-  raise-reads.Asked,
-  raise-reads.Learnt,
-  past-reads.Asked,
-  past-reads.Learnt,
-  negate-front-reads.Asked,
-  negate-front-reads.Learnt,
-  combine-reads.Asked,
-  combine-reads.Learnt,
-) (build-at t) build.Post
-build-combine-requires t c κs = ((both (((c .before .before .before .before .before .before .before .before .before .before .before .before .before .before .before .before .before .before .before .before .before .before .before .before .before .before .before .before .before .before .before .before .before .before .before .before .before .before .before .before .before .before .before) .pre .1) .proper) (first-of ((c .before .before .before .before .before .before .before .before .before .before .before .before .before .before .before .before .before .before .before .before .before .before .before .before .before .before .before .before .before .before .before .before .before .before .before .before .before .before .before .before .before .before .before) .pre .1) (c .before .before .before .before .before .before .before .before .before .before .before .before .before .before .before .before .before .before .before .before .before .before .before .before .before .before .before .before .before .before .before .before .before .before .before .before .head-of .ensures) (c .before .before .before .before .before .before .before .before .before .before .before .before .before .before .before .before .before .before .before .before .before .before .before .before .before .before .before .before .before .before .before .before .before .before .before .if1 .left) (c .before .before .before .before .before .before .before .before .before .before .before .before .before .before .before .before .before .before .before .before .before .before .before .before .before .before .before .before .before .before .before .before .before .before .zero-power .ensures)) ((c .before .before .before .before .before .before .before .before .before .before .before .before .before .before .before .before .before .before .before .before .before .before .before .before .before .before .before .before .build) .ensures (firstOf ((c .before .before .before .before .before .before .before .before .before .before .before .before .before .before .before .before .before .before .before .before .before .before .before .before .before .before .before .before .before .before .before .before .before .before .before .before .before .before .before .before .before .before .before) .pre .1 .x)) (tailOf ((c .before .before .before .before .before .before .before .before .before .before .before .before .before .before .before .before .before .before .before .before .before .before .before .before .before .before .before .before .before .before .before .before .before .before .before .before .before .before .before .before .before .before .before) .pre .1 .x) ++ ((c .before .before .before .before .before .before .before .before .before .before .before .before .before .before .before .before .before .before .before .before .before .before .before .before .before .before .before .before .before .before .before .before .before .before .before .before .before .before .before .before .before .before .before) .pre .1 .rest)) (first-of ((c .before .before .before .before .before .before .before .before .before .before .before .before .before .before .before .before .before .before .before .before .before .before .before .before .before .before .before .before .before .before .before .before .before .before .before .before .before .before .before .before .before .before .before) .pre .1) (c .before .before .before .before .before .before .before .before .before .before .before .before .before .before .before .before .before .before .before .before .before .before .before .before .before .before .before .before .before .before .before .before .before .before .before .before .head-of .ensures) (c .before .before .before .before .before .before .before .before .before .before .before .before .before .before .before .before .before .before .before .before .before .before .before .before .before .before .before .before .before .before .before .before .before .before .before .if1 .left) (c .before .before .before .before .before .before .before .before .before .before .before .before .before .before .before .before .before .before .before .before .before .before .before .before .before .before .before .before .before .before .before .before .before .before .zero-power .ensures))) (second-of ((c .before .before .before .before .before .before .before .before .before .before .before .before .before .before .before .before .before .before .before .before .before .before .before .before .before .before .before .before .before .before .before .before .before .before .before .before .before .before .before .before .before .before .before) .pre .1 .x) ((c .before .before .before .before .before .before .before .before .before .before .before .before .before .before .before .before .before .before .before .before .before .before .before .before .before .before .before .before .before .before .before .before .before .before .before .before .before .before .before .before .before .before .before) .pre .1 .rest) (λ q. (c .before .before .before .before .before .before .before .before .before .before .before .before .before .before .before .before .before .before .before .before .before .before .before .before .before .before .before .before .before .before .before .before .before .before .before .if1 .left) ((head ((c .before .before .before .before .before .before .before .before .before .before .before .before .before .before .before .before .before .before .before .before .before .before .before .before .before .before .before .before .before .before .before .before .before .before .before .before .before .before .before .before .before .before .before) .pre .1) (c .before .before .before .before .before .before .before .before .before .before .before .before .before .before .before .before .before .before .before .before .before .before .before .before .before .before .before .before .before .before .before .before .before .before .before .before .head-of .ensures)) .is-kind ∙ q)) (λ q. c .before .before .before .before .before .before .before .before .before .before .before .before .before .before .before .before .before .before .before .if3 .left ((head ((c .before .before .before .before .before .before .before .before .before .before .before .before .before .before .before .before .before .before .before .before .before .before .before .before .before .before .before .before .before .before .before .before .before .before .before .before .before .before .before .before .before .before .before) .pre .1) (c .before .before .before .before .before .before .before .before .before .before .before .before .before .before .before .before .before .before .before .before .before .before .before .before .before .before .before .before .before .before .before .before .before .before .before .before .head-of .ensures)) .is-kind ∙ q)) (((c .before .before .before .before .before .before .before .before .before .before .before .before .before .before .before .before .before .before .before .before .before .before .before .before .before .before .before .before .before .before .before .before .before .before .before .before .before .before .before .before .before .before .before) .pre .1) .stands) ((c .before .before .before .before .before .before .before .before .before .before .before .before .before .before .before .before .before .before .before .before .before .before .before .before .before .before .before .before .build) .ensures (firstOf ((c .before .before .before .before .before .before .before .before .before .before .before .before .before .before .before .before .before .before .before .before .before .before .before .before .before .before .before .before .before .before .before .before .before .before .before .before .before .before .before .before .before .before .before) .pre .1 .x)) (tailOf ((c .before .before .before .before .before .before .before .before .before .before .before .before .before .before .before .before .before .before .before .before .before .before .before .before .before .before .before .before .before .before .before .before .before .before .before .before .before .before .before .before .before .before .before) .pre .1 .x) ++ ((c .before .before .before .before .before .before .before .before .before .before .before .before .before .before .before .before .before .before .before .before .before .before .before .before .before .before .before .before .before .before .before .before .before .before .before .before .before .before .before .before .before .before .before) .pre .1 .rest)) (first-of ((c .before .before .before .before .before .before .before .before .before .before .before .before .before .before .before .before .before .before .before .before .before .before .before .before .before .before .before .before .before .before .before .before .before .before .before .before .before .before .before .before .before .before .before) .pre .1) (c .before .before .before .before .before .before .before .before .before .before .before .before .before .before .before .before .before .before .before .before .before .before .before .before .before .before .before .before .before .before .before .before .before .before .before .before .head-of .ensures) (c .before .before .before .before .before .before .before .before .before .before .before .before .before .before .before .before .before .before .before .before .before .before .before .before .before .before .before .before .before .before .before .before .before .before .before .if1 .left) (c .before .before .before .before .before .before .before .before .before .before .before .before .before .before .before .before .before .before .before .before .before .before .before .before .before .before .before .before .before .before .before .before .before .before .zero-power .ensures))) (subst (Passed (now ((c .before .before .before .before .before .before .before .before .before .before .before .before .before .before .before .before .before .before .before .before .before .before .before .before .before .before .before .before .before .before .before .before .before .before .before .before .before .before .before .before .before .before .before) .args .s)) _) (c .before .before .before .before .before .before .before .before .before .before .before .before .before .before .before .before .before .if4 .left) (c .before .before .before .before .before .before .before .before .before .before .before .before .before .before .before .before .before .before .past2 .ensures))) ((c .before .before .before .before .before .before .before .before .before .before .before .before .build2) .ensures (secondOf ((c .before .before .before .before .before .before .before .before .before .before .before .before .before .before .before .before .before .before .before .before .before .before .before .before .before .before .before .before .before .before .before .before .before .before .before .before .before .before .before .before .before .before .before) .pre .1 .x)) (closeOf ((c .before .before .before .before .before .before .before .before .before .before .before .before .before .before .before .before .before .before .before .before .before .before .before .before .before .before .before .before .before .before .before .before .before .before .before .before .before .before .before .before .before .before .before) .pre .1 .x) ++ ((c .before .before .before .before .before .before .before .before .before .before .before .before .before .before .before .before .before .before .before .before .before .before .before .before .before .before .before .before .before .before .before .before .before .before .before .before .before .before .before .before .before .before .before) .pre .1 .rest)) (second-of ((c .before .before .before .before .before .before .before .before .before .before .before .before .before .before .before .before .before .before .before .before .before .before .before .before .before .before .before .before .before .before .before .before .before .before .before .before .before .before .before .before .before .before .before) .pre .1 .x) ((c .before .before .before .before .before .before .before .before .before .before .before .before .before .before .before .before .before .before .before .before .before .before .before .before .before .before .before .before .before .before .before .before .before .before .before .before .before .before .before .before .before .before .before) .pre .1 .rest) (λ q. (c .before .before .before .before .before .before .before .before .before .before .before .before .before .before .before .before .before .before .before .before .before .before .before .before .before .before .before .before .before .before .before .before .before .before .before .if1 .left) ((head ((c .before .before .before .before .before .before .before .before .before .before .before .before .before .before .before .before .before .before .before .before .before .before .before .before .before .before .before .before .before .before .before .before .before .before .before .before .before .before .before .before .before .before .before) .pre .1) (c .before .before .before .before .before .before .before .before .before .before .before .before .before .before .before .before .before .before .before .before .before .before .before .before .before .before .before .before .before .before .before .before .before .before .before .before .head-of .ensures)) .is-kind ∙ q)) (λ q. c .before .before .before .before .before .before .before .before .before .before .before .before .before .before .before .before .before .before .before .if3 .left ((head ((c .before .before .before .before .before .before .before .before .before .before .before .before .before .before .before .before .before .before .before .before .before .before .before .before .before .before .before .before .before .before .before .before .before .before .before .before .before .before .before .before .before .before .before) .pre .1) (c .before .before .before .before .before .before .before .before .before .before .before .before .before .before .before .before .before .before .before .before .before .before .before .before .before .before .before .before .before .before .before .before .before .before .before .before .head-of .ensures)) .is-kind ∙ q)) (((c .before .before .before .before .before .before .before .before .before .before .before .before .before .before .before .before .before .before .before .before .before .before .before .before .before .before .before .before .before .before .before .before .before .before .before .before .before .before .before .before .before .before .before) .pre .1) .stands) ((c .before .before .before .before .before .before .before .before .before .before .before .before .before .before .before .before .before .before .before .before .before .before .before .before .before .before .before .before .build) .ensures (firstOf ((c .before .before .before .before .before .before .before .before .before .before .before .before .before .before .before .before .before .before .before .before .before .before .before .before .before .before .before .before .before .before .before .before .before .before .before .before .before .before .before .before .before .before .before) .pre .1 .x)) (tailOf ((c .before .before .before .before .before .before .before .before .before .before .before .before .before .before .before .before .before .before .before .before .before .before .before .before .before .before .before .before .before .before .before .before .before .before .before .before .before .before .before .before .before .before .before) .pre .1 .x) ++ ((c .before .before .before .before .before .before .before .before .before .before .before .before .before .before .before .before .before .before .before .before .before .before .before .before .before .before .before .before .before .before .before .before .before .before .before .before .before .before .before .before .before .before .before) .pre .1 .rest)) (first-of ((c .before .before .before .before .before .before .before .before .before .before .before .before .before .before .before .before .before .before .before .before .before .before .before .before .before .before .before .before .before .before .before .before .before .before .before .before .before .before .before .before .before .before .before) .pre .1) (c .before .before .before .before .before .before .before .before .before .before .before .before .before .before .before .before .before .before .before .before .before .before .before .before .before .before .before .before .before .before .before .before .before .before .before .before .head-of .ensures) (c .before .before .before .before .before .before .before .before .before .before .before .before .before .before .before .before .before .before .before .before .before .before .before .before .before .before .before .before .before .before .before .before .before .before .before .if1 .left) (c .before .before .before .before .before .before .before .before .before .before .before .before .before .before .before .before .before .before .before .before .before .before .before .before .before .before .before .before .before .before .before .before .before .before .zero-power .ensures))) (subst (Passed (now ((c .before .before .before .before .before .before .before .before .before .before .before .before .before .before .before .before .before .before .before .before .before .before .before .before .before .before .before .before .before .before .before .before .before .before .before .before .before .before .before .before .before .before .before) .args .s)) _) (c .before .before .before .before .before .before .before .before .before .before .before .before .before .before .before .before .before .if4 .left) (c .before .before .before .before .before .before .before .before .before .before .before .before .before .before .before .before .before .before .past2 .ensures)))) ((c .before .before .before .before .before .before .before .before .before .before .before .before .build2) .kept .1 .1 .1 .0 ∙ length-tail-part _ ((c .before .before .before .before .before .before .before .before .before .before .before .before .before .before .before .before .before .before .before .before .before .before .before .before .before .before .before .before .build) .last .1 .1 .1 .0)) (c .before .before .before .before .before .before .before .before .before .before .before .stack5 .given .1)) .pair, both-combining (both (((c .before .before .before .before .before .before .before .before .before .before .before .before .before .before .before .before .before .before .before .before .before .before .before .before .before .before .before .before .before .before .before .before .before .before .before .before .before .before .before .before .before .before .before) .pre .1) .proper) (first-of ((c .before .before .before .before .before .before .before .before .before .before .before .before .before .before .before .before .before .before .before .before .before .before .before .before .before .before .before .before .before .before .before .before .before .before .before .before .before .before .before .before .before .before .before) .pre .1) (c .before .before .before .before .before .before .before .before .before .before .before .before .before .before .before .before .before .before .before .before .before .before .before .before .before .before .before .before .before .before .before .before .before .before .before .before .head-of .ensures) (c .before .before .before .before .before .before .before .before .before .before .before .before .before .before .before .before .before .before .before .before .before .before .before .before .before .before .before .before .before .before .before .before .before .before .before .if1 .left) (c .before .before .before .before .before .before .before .before .before .before .before .before .before .before .before .before .before .before .before .before .before .before .before .before .before .before .before .before .before .before .before .before .before .before .zero-power .ensures)) ((c .before .before .before .before .before .before .before .before .before .before .before .before .before .before .before .before .before .before .before .before .before .before .before .before .before .before .before .before .build) .ensures (firstOf ((c .before .before .before .before .before .before .before .before .before .before .before .before .before .before .before .before .before .before .before .before .before .before .before .before .before .before .before .before .before .before .before .before .before .before .before .before .before .before .before .before .before .before .before) .pre .1 .x)) (tailOf ((c .before .before .before .before .before .before .before .before .before .before .before .before .before .before .before .before .before .before .before .before .before .before .before .before .before .before .before .before .before .before .before .before .before .before .before .before .before .before .before .before .before .before .before) .pre .1 .x) ++ ((c .before .before .before .before .before .before .before .before .before .before .before .before .before .before .before .before .before .before .before .before .before .before .before .before .before .before .before .before .before .before .before .before .before .before .before .before .before .before .before .before .before .before .before) .pre .1 .rest)) (first-of ((c .before .before .before .before .before .before .before .before .before .before .before .before .before .before .before .before .before .before .before .before .before .before .before .before .before .before .before .before .before .before .before .before .before .before .before .before .before .before .before .before .before .before .before) .pre .1) (c .before .before .before .before .before .before .before .before .before .before .before .before .before .before .before .before .before .before .before .before .before .before .before .before .before .before .before .before .before .before .before .before .before .before .before .before .head-of .ensures) (c .before .before .before .before .before .before .before .before .before .before .before .before .before .before .before .before .before .before .before .before .before .before .before .before .before .before .before .before .before .before .before .before .before .before .before .if1 .left) (c .before .before .before .before .before .before .before .before .before .before .before .before .before .before .before .before .before .before .before .before .before .before .before .before .before .before .before .before .before .before .before .before .before .before .zero-power .ensures))) (second-of ((c .before .before .before .before .before .before .before .before .before .before .before .before .before .before .before .before .before .before .before .before .before .before .before .before .before .before .before .before .before .before .before .before .before .before .before .before .before .before .before .before .before .before .before) .pre .1 .x) ((c .before .before .before .before .before .before .before .before .before .before .before .before .before .before .before .before .before .before .before .before .before .before .before .before .before .before .before .before .before .before .before .before .before .before .before .before .before .before .before .before .before .before .before) .pre .1 .rest) (λ q. (c .before .before .before .before .before .before .before .before .before .before .before .before .before .before .before .before .before .before .before .before .before .before .before .before .before .before .before .before .before .before .before .before .before .before .before .if1 .left) ((head ((c .before .before .before .before .before .before .before .before .before .before .before .before .before .before .before .before .before .before .before .before .before .before .before .before .before .before .before .before .before .before .before .before .before .before .before .before .before .before .before .before .before .before .before) .pre .1) (c .before .before .before .before .before .before .before .before .before .before .before .before .before .before .before .before .before .before .before .before .before .before .before .before .before .before .before .before .before .before .before .before .before .before .before .before .head-of .ensures)) .is-kind ∙ q)) (λ q. c .before .before .before .before .before .before .before .before .before .before .before .before .before .before .before .before .before .before .before .if3 .left ((head ((c .before .before .before .before .before .before .before .before .before .before .before .before .before .before .before .before .before .before .before .before .before .before .before .before .before .before .before .before .before .before .before .before .before .before .before .before .before .before .before .before .before .before .before) .pre .1) (c .before .before .before .before .before .before .before .before .before .before .before .before .before .before .before .before .before .before .before .before .before .before .before .before .before .before .before .before .before .before .before .before .before .before .before .before .head-of .ensures)) .is-kind ∙ q)) (((c .before .before .before .before .before .before .before .before .before .before .before .before .before .before .before .before .before .before .before .before .before .before .before .before .before .before .before .before .before .before .before .before .before .before .before .before .before .before .before .before .before .before .before) .pre .1) .stands) ((c .before .before .before .before .before .before .before .before .before .before .before .before .before .before .before .before .before .before .before .before .before .before .before .before .before .before .before .before .build) .ensures (firstOf ((c .before .before .before .before .before .before .before .before .before .before .before .before .before .before .before .before .before .before .before .before .before .before .before .before .before .before .before .before .before .before .before .before .before .before .before .before .before .before .before .before .before .before .before) .pre .1 .x)) (tailOf ((c .before .before .before .before .before .before .before .before .before .before .before .before .before .before .before .before .before .before .before .before .before .before .before .before .before .before .before .before .before .before .before .before .before .before .before .before .before .before .before .before .before .before .before) .pre .1 .x) ++ ((c .before .before .before .before .before .before .before .before .before .before .before .before .before .before .before .before .before .before .before .before .before .before .before .before .before .before .before .before .before .before .before .before .before .before .before .before .before .before .before .before .before .before .before) .pre .1 .rest)) (first-of ((c .before .before .before .before .before .before .before .before .before .before .before .before .before .before .before .before .before .before .before .before .before .before .before .before .before .before .before .before .before .before .before .before .before .before .before .before .before .before .before .before .before .before .before) .pre .1) (c .before .before .before .before .before .before .before .before .before .before .before .before .before .before .before .before .before .before .before .before .before .before .before .before .before .before .before .before .before .before .before .before .before .before .before .before .head-of .ensures) (c .before .before .before .before .before .before .before .before .before .before .before .before .before .before .before .before .before .before .before .before .before .before .before .before .before .before .before .before .before .before .before .before .before .before .before .if1 .left) (c .before .before .before .before .before .before .before .before .before .before .before .before .before .before .before .before .before .before .before .before .before .before .before .before .before .before .before .before .before .before .before .before .before .before .zero-power .ensures))) (subst (Passed (now ((c .before .before .before .before .before .before .before .before .before .before .before .before .before .before .before .before .before .before .before .before .before .before .before .before .before .before .before .before .before .before .before .before .before .before .before .before .before .before .before .before .before .before .before) .args .s)) _) (c .before .before .before .before .before .before .before .before .before .before .before .before .before .before .before .before .before .if4 .left) (c .before .before .before .before .before .before .before .before .before .before .before .before .before .before .before .before .before .before .past2 .ensures))) ((c .before .before .before .before .before .before .before .before .before .before .before .before .build2) .ensures (secondOf ((c .before .before .before .before .before .before .before .before .before .before .before .before .before .before .before .before .before .before .before .before .before .before .before .before .before .before .before .before .before .before .before .before .before .before .before .before .before .before .before .before .before .before .before) .pre .1 .x)) (closeOf ((c .before .before .before .before .before .before .before .before .before .before .before .before .before .before .before .before .before .before .before .before .before .before .before .before .before .before .before .before .before .before .before .before .before .before .before .before .before .before .before .before .before .before .before) .pre .1 .x) ++ ((c .before .before .before .before .before .before .before .before .before .before .before .before .before .before .before .before .before .before .before .before .before .before .before .before .before .before .before .before .before .before .before .before .before .before .before .before .before .before .before .before .before .before .before) .pre .1 .rest)) (second-of ((c .before .before .before .before .before .before .before .before .before .before .before .before .before .before .before .before .before .before .before .before .before .before .before .before .before .before .before .before .before .before .before .before .before .before .before .before .before .before .before .before .before .before .before) .pre .1 .x) ((c .before .before .before .before .before .before .before .before .before .before .before .before .before .before .before .before .before .before .before .before .before .before .before .before .before .before .before .before .before .before .before .before .before .before .before .before .before .before .before .before .before .before .before) .pre .1 .rest) (λ q. (c .before .before .before .before .before .before .before .before .before .before .before .before .before .before .before .before .before .before .before .before .before .before .before .before .before .before .before .before .before .before .before .before .before .before .before .if1 .left) ((head ((c .before .before .before .before .before .before .before .before .before .before .before .before .before .before .before .before .before .before .before .before .before .before .before .before .before .before .before .before .before .before .before .before .before .before .before .before .before .before .before .before .before .before .before) .pre .1) (c .before .before .before .before .before .before .before .before .before .before .before .before .before .before .before .before .before .before .before .before .before .before .before .before .before .before .before .before .before .before .before .before .before .before .before .before .head-of .ensures)) .is-kind ∙ q)) (λ q. c .before .before .before .before .before .before .before .before .before .before .before .before .before .before .before .before .before .before .before .if3 .left ((head ((c .before .before .before .before .before .before .before .before .before .before .before .before .before .before .before .before .before .before .before .before .before .before .before .before .before .before .before .before .before .before .before .before .before .before .before .before .before .before .before .before .before .before .before) .pre .1) (c .before .before .before .before .before .before .before .before .before .before .before .before .before .before .before .before .before .before .before .before .before .before .before .before .before .before .before .before .before .before .before .before .before .before .before .before .head-of .ensures)) .is-kind ∙ q)) (((c .before .before .before .before .before .before .before .before .before .before .before .before .before .before .before .before .before .before .before .before .before .before .before .before .before .before .before .before .before .before .before .before .before .before .before .before .before .before .before .before .before .before .before) .pre .1) .stands) ((c .before .before .before .before .before .before .before .before .before .before .before .before .before .before .before .before .before .before .before .before .before .before .before .before .before .before .before .before .build) .ensures (firstOf ((c .before .before .before .before .before .before .before .before .before .before .before .before .before .before .before .before .before .before .before .before .before .before .before .before .before .before .before .before .before .before .before .before .before .before .before .before .before .before .before .before .before .before .before) .pre .1 .x)) (tailOf ((c .before .before .before .before .before .before .before .before .before .before .before .before .before .before .before .before .before .before .before .before .before .before .before .before .before .before .before .before .before .before .before .before .before .before .before .before .before .before .before .before .before .before .before) .pre .1 .x) ++ ((c .before .before .before .before .before .before .before .before .before .before .before .before .before .before .before .before .before .before .before .before .before .before .before .before .before .before .before .before .before .before .before .before .before .before .before .before .before .before .before .before .before .before .before) .pre .1 .rest)) (first-of ((c .before .before .before .before .before .before .before .before .before .before .before .before .before .before .before .before .before .before .before .before .before .before .before .before .before .before .before .before .before .before .before .before .before .before .before .before .before .before .before .before .before .before .before) .pre .1) (c .before .before .before .before .before .before .before .before .before .before .before .before .before .before .before .before .before .before .before .before .before .before .before .before .before .before .before .before .before .before .before .before .before .before .before .before .head-of .ensures) (c .before .before .before .before .before .before .before .before .before .before .before .before .before .before .before .before .before .before .before .before .before .before .before .before .before .before .before .before .before .before .before .before .before .before .before .if1 .left) (c .before .before .before .before .before .before .before .before .before .before .before .before .before .before .before .before .before .before .before .before .before .before .before .before .before .before .before .before .before .before .before .before .before .before .zero-power .ensures))) (subst (Passed (now ((c .before .before .before .before .before .before .before .before .before .before .before .before .before .before .before .before .before .before .before .before .before .before .before .before .before .before .before .before .before .before .before .before .before .before .before .before .before .before .before .before .before .before .before) .args .s)) _) (c .before .before .before .before .before .before .before .before .before .before .before .before .before .before .before .before .before .if4 .left) (c .before .before .before .before .before .before .before .before .before .before .before .before .before .before .before .before .before .before .past2 .ensures)))) ((c .before .before .before .before .before .before .before .before .before .before .before .before .build2) .kept .1 .1 .1 .0 ∙ length-tail-part _ ((c .before .before .before .before .before .before .before .before .before .before .before .before .before .before .before .before .before .before .before .before .before .before .before .before .before .before .before .before .build) .last .1 .1 .1 .0)) (c .before .before .before .before .before .before .before .before .before .before .before .stack5 .given .1)) (combining (((c .before .before .before .before .before .before .before .before .before .before .before .before .before .before .before .before .before .before .before .before .before .before .before .before .before .before .before .before .before .before .before .before .before .before .before .before .before .before .before .before .before .before .before) .pre .1) .proper) ((c .before .before .before .before .before .before .before .before .before .before .before .before .before .before .before .before .before .before .before .before .before .before .before .before .before .before .before .before .before .before .before .before .before .before .before .before .before .before .before .before .before .before .before) .pre .1 .x) ((c .before .before .before .before .before .before .before .before .before .before .before .before .before .before .before .before .before .before .before .before .before .before .before .before .before .before .before .before .before .before .before .before .before .before .before .before .before .before .before .before .before .before .before) .pre .1 .rest) ((head ((c .before .before .before .before .before .before .before .before .before .before .before .before .before .before .before .before .before .before .before .before .before .before .before .before .before .before .before .before .before .before .before .before .before .before .before .before .before .before .before .before .before .before .before) .pre .1) (c .before .before .before .before .before .before .before .before .before .before .before .before .before .before .before .before .before .before .before .before .before .before .before .before .before .before .before .before .before .before .before .before .before .before .before .before .head-of .ensures)) .is-kind) (λ q. (c .before .before .before .before .before .before .before .before .before .before .before .before .before .before .before .before .before .before .before .before .before .before .before .before .before .before .before .before .before .before .before .before .before .before .before .if1 .left) ((head ((c .before .before .before .before .before .before .before .before .before .before .before .before .before .before .before .before .before .before .before .before .before .before .before .before .before .before .before .before .before .before .before .before .before .before .before .before .before .before .before .before .before .before .before) .pre .1) (c .before .before .before .before .before .before .before .before .before .before .before .before .before .before .before .before .before .before .before .before .before .before .before .before .before .before .before .before .before .before .before .before .before .before .before .before .head-of .ensures)) .is-kind ∙ q)) (λ q. c .before .before .before .before .before .before .before .before .before .before .before .before .before .before .before .before .before .before .before .if3 .left ((head ((c .before .before .before .before .before .before .before .before .before .before .before .before .before .before .before .before .before .before .before .before .before .before .before .before .before .before .before .before .before .before .before .before .before .before .before .before .before .before .before .before .before .before .before) .pre .1) (c .before .before .before .before .before .before .before .before .before .before .before .before .before .before .before .before .before .before .before .before .before .before .before .before .before .before .before .before .before .before .before .before .before .before .before .before .head-of .ensures)) .is-kind ∙ q)) (((c .before .before .before .before .before .before .before .before .before .before .before .before .before .before .before .before .before .before .before .before .before .before .before .before .before .before .before .before .before .before .before .before .before .before .before .before .before .before .before .before .before .before .before) .pre .1) .stands) (first-of ((c .before .before .before .before .before .before .before .before .before .before .before .before .before .before .before .before .before .before .before .before .before .before .before .before .before .before .before .before .before .before .before .before .before .before .before .before .before .before .before .before .before .before .before) .pre .1) (c .before .before .before .before .before .before .before .before .before .before .before .before .before .before .before .before .before .before .before .before .before .before .before .before .before .before .before .before .before .before .before .before .before .before .before .before .head-of .ensures) (c .before .before .before .before .before .before .before .before .before .before .before .before .before .before .before .before .before .before .before .before .before .before .before .before .before .before .before .before .before .before .before .before .before .before .before .if1 .left) (c .before .before .before .before .before .before .before .before .before .before .before .before .before .before .before .before .before .before .before .before .before .before .before .before .before .before .before .before .before .before .before .before .before .before .zero-power .ensures)) (second-of ((c .before .before .before .before .before .before .before .before .before .before .before .before .before .before .before .before .before .before .before .before .before .before .before .before .before .before .before .before .before .before .before .before .before .before .before .before .before .before .before .before .before .before .before) .pre .1 .x) ((c .before .before .before .before .before .before .before .before .before .before .before .before .before .before .before .before .before .before .before .before .before .before .before .before .before .before .before .before .before .before .before .before .before .before .before .before .before .before .before .before .before .before .before) .pre .1 .rest) (λ q. (c .before .before .before .before .before .before .before .before .before .before .before .before .before .before .before .before .before .before .before .before .before .before .before .before .before .before .before .before .before .before .before .before .before .before .before .if1 .left) ((head ((c .before .before .before .before .before .before .before .before .before .before .before .before .before .before .before .before .before .before .before .before .before .before .before .before .before .before .before .before .before .before .before .before .before .before .before .before .before .before .before .before .before .before .before) .pre .1) (c .before .before .before .before .before .before .before .before .before .before .before .before .before .before .before .before .before .before .before .before .before .before .before .before .before .before .before .before .before .before .before .before .before .before .before .before .head-of .ensures)) .is-kind ∙ q)) (λ q. c .before .before .before .before .before .before .before .before .before .before .before .before .before .before .before .before .before .before .before .if3 .left ((head ((c .before .before .before .before .before .before .before .before .before .before .before .before .before .before .before .before .before .before .before .before .before .before .before .before .before .before .before .before .before .before .before .before .before .before .before .before .before .before .before .before .before .before .before) .pre .1) (c .before .before .before .before .before .before .before .before .before .before .before .before .before .before .before .before .before .before .before .before .before .before .before .before .before .before .before .before .before .before .before .before .before .before .before .before .head-of .ensures)) .is-kind ∙ q)) (((c .before .before .before .before .before .before .before .before .before .before .before .before .before .before .before .before .before .before .before .before .before .before .before .before .before .before .before .before .before .before .before .before .before .before .before .before .before .before .before .before .before .before .before) .pre .1) .stands) ((c .before .before .before .before .before .before .before .before .before .before .before .before .before .before .before .before .before .before .before .before .before .before .before .before .before .before .before .before .build) .ensures (firstOf ((c .before .before .before .before .before .before .before .before .before .before .before .before .before .before .before .before .before .before .before .before .before .before .before .before .before .before .before .before .before .before .before .before .before .before .before .before .before .before .before .before .before .before .before) .pre .1 .x)) (tailOf ((c .before .before .before .before .before .before .before .before .before .before .before .before .before .before .before .before .before .before .before .before .before .before .before .before .before .before .before .before .before .before .before .before .before .before .before .before .before .before .before .before .before .before .before) .pre .1 .x) ++ ((c .before .before .before .before .before .before .before .before .before .before .before .before .before .before .before .before .before .before .before .before .before .before .before .before .before .before .before .before .before .before .before .before .before .before .before .before .before .before .before .before .before .before .before) .pre .1 .rest)) (first-of ((c .before .before .before .before .before .before .before .before .before .before .before .before .before .before .before .before .before .before .before .before .before .before .before .before .before .before .before .before .before .before .before .before .before .before .before .before .before .before .before .before .before .before .before) .pre .1) (c .before .before .before .before .before .before .before .before .before .before .before .before .before .before .before .before .before .before .before .before .before .before .before .before .before .before .before .before .before .before .before .before .before .before .before .before .head-of .ensures) (c .before .before .before .before .before .before .before .before .before .before .before .before .before .before .before .before .before .before .before .before .before .before .before .before .before .before .before .before .before .before .before .before .before .before .before .if1 .left) (c .before .before .before .before .before .before .before .before .before .before .before .before .before .before .before .before .before .before .before .before .before .before .before .before .before .before .before .before .before .before .before .before .before .before .zero-power .ensures))) (subst (Passed (now ((c .before .before .before .before .before .before .before .before .before .before .before .before .before .before .before .before .before .before .before .before .before .before .before .before .before .before .before .before .before .before .before .before .before .before .before .before .before .before .before .before .before .before .before) .args .s)) _) (c .before .before .before .before .before .before .before .before .before .before .before .before .before .before .before .before .before .if4 .left) (c .before .before .before .before .before .before .before .before .before .before .before .before .before .before .before .before .before .before .past2 .ensures))) (((c .before .before .before .before .before .before .before .before .before .before .before .before .before .before .before .before .before .before .before .before .before .before .before .before .before .before .before .before .build) .ensures (firstOf ((c .before .before .before .before .before .before .before .before .before .before .before .before .before .before .before .before .before .before .before .before .before .before .before .before .before .before .before .before .before .before .before .before .before .before .before .before .before .before .before .before .before .before .before) .pre .1 .x)) (tailOf ((c .before .before .before .before .before .before .before .before .before .before .before .before .before .before .before .before .before .before .before .before .before .before .before .before .before .before .before .before .before .before .before .before .before .before .before .before .before .before .before .before .before .before .before) .pre .1 .x) ++ ((c .before .before .before .before .before .before .before .before .before .before .before .before .before .before .before .before .before .before .before .before .before .before .before .before .before .before .before .before .before .before .before .before .before .before .before .before .before .before .before .before .before .before .before) .pre .1 .rest)) (first-of ((c .before .before .before .before .before .before .before .before .before .before .before .before .before .before .before .before .before .before .before .before .before .before .before .before .before .before .before .before .before .before .before .before .before .before .before .before .before .before .before .before .before .before .before) .pre .1) (c .before .before .before .before .before .before .before .before .before .before .before .before .before .before .before .before .before .before .before .before .before .before .before .before .before .before .before .before .before .before .before .before .before .before .before .before .head-of .ensures) (c .before .before .before .before .before .before .before .before .before .before .before .before .before .before .before .before .before .before .before .before .before .before .before .before .before .before .before .before .before .before .before .before .before .before .before .if1 .left) (c .before .before .before .before .before .before .before .before .before .before .before .before .before .before .before .before .before .before .before .before .before .before .before .before .before .before .before .before .before .before .before .before .before .before .zero-power .ensures))) .made .size) (((c .before .before .before .before .before .before .before .before .before .before .before .before .build2) .ensures (secondOf ((c .before .before .before .before .before .before .before .before .before .before .before .before .before .before .before .before .before .before .before .before .before .before .before .before .before .before .before .before .before .before .before .before .before .before .before .before .before .before .before .before .before .before .before) .pre .1 .x)) (closeOf ((c .before .before .before .before .before .before .before .before .before .before .before .before .before .before .before .before .before .before .before .before .before .before .before .before .before .before .before .before .before .before .before .before .before .before .before .before .before .before .before .before .before .before .before) .pre .1 .x) ++ ((c .before .before .before .before .before .before .before .before .before .before .before .before .before .before .before .before .before .before .before .before .before .before .before .before .before .before .before .before .before .before .before .before .before .before .before .before .before .before .before .before .before .before .before) .pre .1 .rest)) (second-of ((c .before .before .before .before .before .before .before .before .before .before .before .before .before .before .before .before .before .before .before .before .before .before .before .before .before .before .before .before .before .before .before .before .before .before .before .before .before .before .before .before .before .before .before) .pre .1 .x) ((c .before .before .before .before .before .before .before .before .before .before .before .before .before .before .before .before .before .before .before .before .before .before .before .before .before .before .before .before .before .before .before .before .before .before .before .before .before .before .before .before .before .before .before) .pre .1 .rest) (λ q. (c .before .before .before .before .before .before .before .before .before .before .before .before .before .before .before .before .before .before .before .before .before .before .before .before .before .before .before .before .before .before .before .before .before .before .before .if1 .left) ((head ((c .before .before .before .before .before .before .before .before .before .before .before .before .before .before .before .before .before .before .before .before .before .before .before .before .before .before .before .before .before .before .before .before .before .before .before .before .before .before .before .before .before .before .before) .pre .1) (c .before .before .before .before .before .before .before .before .before .before .before .before .before .before .before .before .before .before .before .before .before .before .before .before .before .before .before .before .before .before .before .before .before .before .before .before .head-of .ensures)) .is-kind ∙ q)) (λ q. c .before .before .before .before .before .before .before .before .before .before .before .before .before .before .before .before .before .before .before .if3 .left ((head ((c .before .before .before .before .before .before .before .before .before .before .before .before .before .before .before .before .before .before .before .before .before .before .before .before .before .before .before .before .before .before .before .before .before .before .before .before .before .before .before .before .before .before .before) .pre .1) (c .before .before .before .before .before .before .before .before .before .before .before .before .before .before .before .before .before .before .before .before .before .before .before .before .before .before .before .before .before .before .before .before .before .before .before .before .head-of .ensures)) .is-kind ∙ q)) (((c .before .before .before .before .before .before .before .before .before .before .before .before .before .before .before .before .before .before .before .before .before .before .before .before .before .before .before .before .before .before .before .before .before .before .before .before .before .before .before .before .before .before .before) .pre .1) .stands) ((c .before .before .before .before .before .before .before .before .before .before .before .before .before .before .before .before .before .before .before .before .before .before .before .before .before .before .before .before .build) .ensures (firstOf ((c .before .before .before .before .before .before .before .before .before .before .before .before .before .before .before .before .before .before .before .before .before .before .before .before .before .before .before .before .before .before .before .before .before .before .before .before .before .before .before .before .before .before .before) .pre .1 .x)) (tailOf ((c .before .before .before .before .before .before .before .before .before .before .before .before .before .before .before .before .before .before .before .before .before .before .before .before .before .before .before .before .before .before .before .before .before .before .before .before .before .before .before .before .before .before .before) .pre .1 .x) ++ ((c .before .before .before .before .before .before .before .before .before .before .before .before .before .before .before .before .before .before .before .before .before .before .before .before .before .before .before .before .before .before .before .before .before .before .before .before .before .before .before .before .before .before .before) .pre .1 .rest)) (first-of ((c .before .before .before .before .before .before .before .before .before .before .before .before .before .before .before .before .before .before .before .before .before .before .before .before .before .before .before .before .before .before .before .before .before .before .before .before .before .before .before .before .before .before .before) .pre .1) (c .before .before .before .before .before .before .before .before .before .before .before .before .before .before .before .before .before .before .before .before .before .before .before .before .before .before .before .before .before .before .before .before .before .before .before .before .head-of .ensures) (c .before .before .before .before .before .before .before .before .before .before .before .before .before .before .before .before .before .before .before .before .before .before .before .before .before .before .before .before .before .before .before .before .before .before .before .if1 .left) (c .before .before .before .before .before .before .before .before .before .before .before .before .before .before .before .before .before .before .before .before .before .before .before .before .before .before .before .before .before .before .before .before .before .before .zero-power .ensures))) (subst (Passed (now ((c .before .before .before .before .before .before .before .before .before .before .before .before .before .before .before .before .before .before .before .before .before .before .before .before .before .before .before .before .before .before .before .before .before .before .before .before .before .before .before .before .before .before .before) .args .s)) _) (c .before .before .before .before .before .before .before .before .before .before .before .before .before .before .before .before .before .if4 .left) (c .before .before .before .before .before .before .before .before .before .before .before .before .before .before .before .before .before .before .past2 .ensures)))) .made .size) (omega (arith, ((c .before .before .before .before .before .before .before .before .before .before .before .before .before .before .before .before .before .before .before .before .before .before .before .before .before .before .before .before .before .before .before .before .before .before .before .before .before .before .before .before .before .before .before) .pre .1) .room, ((c .before .before .before .before .before .before .before .before .before .before .before .before .before .before .before .before .before .before .before .before .before .before .before .before .before .before .before .before .build) .kept .1 .1 .1 .0), (c .before .before .before .before .before .before .before .before .before .before .before .stack5 .given .1))) (tables-as ((c .before .before .before .before .before .before .before .before .before .before .before .before .build2) .kept .1 .1 .1 .1 .0 ∙ ((c .before .before .before .before .before .before .before .before .before .before .before .before .before .before .before .before .before .before .before .before .before .before .before .before .before .before .before .before .build) .kept .1 .1 .1 .1 .0)) ((c .before .before .before .before .before .before .before .before .before .before .before .before .build2) .kept .1 .1 .1 .1 .1 .0 ∙ ((c .before .before .before .before .before .before .before .before .before .before .before .before .before .before .before .before .before .before .before .before .before .before .before .before .before .before .before .before .build) .kept .1 .1 .1 .1 .1 .0)) ((c .before .before .before .before .before .before .before .before .before .before .before .before .build2) .kept .1 .1 .1 .1 .1 .1 .0 ∙ ((c .before .before .before .before .before .before .before .before .before .before .before .before .before .before .before .before .before .before .before .before .before .before .before .before .before .before .before .before .build) .kept .1 .1 .1 .1 .1 .1 .0)) (((c .before .before .before .before .before .before .before .before .before .before .before .before .before .before .before .before .before .before .before .before .before .before .before .before .before .before .before .before .before .before .before .before .before .before .before .before .before .before .before .before .before .before .before) .pre .1) .tables))))
+build-combine-requires : (t : ℕ) → build-lts.Need-combine-requires (claims t) (build-at t) build.Post
+build-combine-requires t c κs = ((both-at t (c .before .before .before .before .before .before .before .before .before .before .before)) .pair, both-combining (both-at t (c .before .before .before .before .before .before .before .before .before .before .before)) (combining (((c .before .before .before .before .before .before .before .before .before .before .before .before .before .before .before .before .before .before .before .before .before .before .before .before .before .before .before .before .before .before .before .before .before .before .before .before .before .before .before .before .before .before .before) .pre .1) .proper) ((c .before .before .before .before .before .before .before .before .before .before .before .before .before .before .before .before .before .before .before .before .before .before .before .before .before .before .before .before .before .before .before .before .before .before .before .before .before .before .before .before .before .before .before) .pre .1 .x) ((c .before .before .before .before .before .before .before .before .before .before .before .before .before .before .before .before .before .before .before .before .before .before .before .before .before .before .before .before .before .before .before .before .before .before .before .before .before .before .before .before .before .before .before) .pre .1 .rest) ((head-is t (c .before .before .before .before .before .before .before .before .before .before .before .before .before .before .before .before .before .before .before .before .before .before .before .before .before .before .before .before .before .before .before .before .before .before .before .before)) .is-kind) (node t (c .before .before .before .before .before .before .before .before .before .before .before .before .before .before .before .before .before .before .before .before .before .before .before .before .before .before .before .before .before .before .before .before .before .before .before)) (not-power t (c .before .before .before .before .before .before .before .before .before .before .before .before .before .before .before .before .before .before .before)) (((c .before .before .before .before .before .before .before .before .before .before .before .before .before .before .before .before .before .before .before .before .before .before .before .before .before .before .before .before .before .before .before .before .before .before .before .before .before .before .before .before .before .before .before) .pre .1) .stands) (first t (c .before .before .before .before .before .before .before .before .before .before .before .before .before .before .before .before .before .before .before .before .before .before .before .before .before .before .before .before .before .before .before .before .before .before)) (second t (c .before .before .before .before .before .before .before .before .before .before .before .before .before .before .before .before .before)) ((done t (c .before .before .before .before .before .before .before .before .before .before .before .before .before .before .before .before .before .before .before .before .before .before .before .before .before .before .before .before)) .made .size) ((done-2 t (c .before .before .before .before .before .before .before .before .before .before .before .before)) .made .size) (omega (arith, ((c .before .before .before .before .before .before .before .before .before .before .before .before .before .before .before .before .before .before .before .before .before .before .before .before .before .before .before .before .before .before .before .before .before .before .before .before .before .before .before .before .before .before .before) .pre .1) .room, ((c .before .before .before .before .before .before .before .before .before .before .before .before .before .before .before .before .before .before .before .before .before .before .before .before .before .before .before .before .build) .kept .1 .1 .1 .0), (c .before .before .before .before .before .before .before .before .before .before .before .stack5 .given .1))) (tables-as ((c .before .before .before .before .before .before .before .before .before .before .before .before .build2) .kept .1 .1 .1 .1 .0 ∙ ((c .before .before .before .before .before .before .before .before .before .before .before .before .before .before .before .before .before .before .before .before .before .before .before .before .before .before .before .before .build) .kept .1 .1 .1 .1 .0)) ((c .before .before .before .before .before .before .before .before .before .before .before .before .build2) .kept .1 .1 .1 .1 .1 .0 ∙ ((c .before .before .before .before .before .before .before .before .before .before .before .before .before .before .before .before .before .before .before .before .before .before .before .before .before .before .before .before .build) .kept .1 .1 .1 .1 .1 .0)) ((c .before .before .before .before .before .before .before .before .before .before .before .before .build2) .kept .1 .1 .1 .1 .1 .1 .0 ∙ ((c .before .before .before .before .before .before .before .before .before .before .before .before .before .before .before .before .before .before .before .before .before .before .before .before .before .before .before .before .build) .kept .1 .1 .1 .1 .1 .1 .0)) (((c .before .before .before .before .before .before .before .before .before .before .before .before .before .before .before .before .before .before .before .before .before .before .before .before .before .before .before .before .before .before .before .before .before .before .before .before .before .before .before .before .before .before .before) .pre .1) .tables))))
 
--- src/lib.rt:355:9
-build-past-requires-3 : (t : ℕ) → build-lts.Need-past-requires-3 (
-  head-of-reads.Asked,
-  head-of-reads.Learnt,
-  leaf-form-reads.Asked,
-  leaf-form-reads.Learnt,
-  zero-power-reads.Asked,
-  zero-power-reads.Learnt,
-  build-below t,
-  build.Post,
-  exponent-at-reads.Asked,
-  exponent-at-reads.Learnt,
-  raise-reads.Asked,
-  raise-reads.Learnt,
-  past-reads.Asked,
-  past-reads.Learnt,
-  negate-front-reads.Asked,
-  negate-front-reads.Learnt,
-  combine-reads.Asked,
-  combine-reads.Learnt,
-) (build-at t) build.Post
-build-past-requires-3 t c κs = ((c .before .before .before .before .before .before .before .before .before .before .before .before .before .before .before .before .before .before .before .before .before .build2) .ensures (secondOf ((c .before .before .before .before .before .before .before .before .before .before .before .before .before .before .before .before .before .before .before .before .before .before .before .before .before .before .before .before .before .before .before .before .before .before .before .before .before .before .before .before .before .before .before .before .before .before .before .before .before .before .before .before) .pre .1 .x)) (closeOf ((c .before .before .before .before .before .before .before .before .before .before .before .before .before .before .before .before .before .before .before .before .before .before .before .before .before .before .before .before .before .before .before .before .before .before .before .before .before .before .before .before .before .before .before .before .before .before .before .before .before .before .before .before) .pre .1 .x) ++ ((c .before .before .before .before .before .before .before .before .before .before .before .before .before .before .before .before .before .before .before .before .before .before .before .before .before .before .before .before .before .before .before .before .before .before .before .before .before .before .before .before .before .before .before .before .before .before .before .before .before .before .before .before) .pre .1 .rest)) (second-of ((c .before .before .before .before .before .before .before .before .before .before .before .before .before .before .before .before .before .before .before .before .before .before .before .before .before .before .before .before .before .before .before .before .before .before .before .before .before .before .before .before .before .before .before .before .before .before .before .before .before .before .before .before) .pre .1 .x) ((c .before .before .before .before .before .before .before .before .before .before .before .before .before .before .before .before .before .before .before .before .before .before .before .before .before .before .before .before .before .before .before .before .before .before .before .before .before .before .before .before .before .before .before .before .before .before .before .before .before .before .before .before) .pre .1 .rest) (λ q. (c .before .before .before .before .before .before .before .before .before .before .before .before .before .before .before .before .before .before .before .before .before .before .before .before .before .before .before .before .before .before .before .before .before .before .before .before .before .before .before .before .before .before .before .before .if1 .left) ((head ((c .before .before .before .before .before .before .before .before .before .before .before .before .before .before .before .before .before .before .before .before .before .before .before .before .before .before .before .before .before .before .before .before .before .before .before .before .before .before .before .before .before .before .before .before .before .before .before .before .before .before .before .before) .pre .1) (c .before .before .before .before .before .before .before .before .before .before .before .before .before .before .before .before .before .before .before .before .before .before .before .before .before .before .before .before .before .before .before .before .before .before .before .before .before .before .before .before .before .before .before .before .before .head-of .ensures)) .is-kind ∙ q)) (λ q. c .before .before .before .before .before .before .before .before .before .before .before .before .before .before .before .before .before .before .before .before .before .before .before .before .before .before .before .before .if3 .left ((head ((c .before .before .before .before .before .before .before .before .before .before .before .before .before .before .before .before .before .before .before .before .before .before .before .before .before .before .before .before .before .before .before .before .before .before .before .before .before .before .before .before .before .before .before .before .before .before .before .before .before .before .before .before) .pre .1) (c .before .before .before .before .before .before .before .before .before .before .before .before .before .before .before .before .before .before .before .before .before .before .before .before .before .before .before .before .before .before .before .before .before .before .before .before .before .before .before .before .before .before .before .before .before .head-of .ensures)) .is-kind ∙ q)) (((c .before .before .before .before .before .before .before .before .before .before .before .before .before .before .before .before .before .before .before .before .before .before .before .before .before .before .before .before .before .before .before .before .before .before .before .before .before .before .before .before .before .before .before .before .before .before .before .before .before .before .before .before) .pre .1) .stands) ((c .before .before .before .before .before .before .before .before .before .before .before .before .before .before .before .before .before .before .before .before .before .before .before .before .before .before .before .before .before .before .before .before .before .before .before .before .before .build) .ensures (firstOf ((c .before .before .before .before .before .before .before .before .before .before .before .before .before .before .before .before .before .before .before .before .before .before .before .before .before .before .before .before .before .before .before .before .before .before .before .before .before .before .before .before .before .before .before .before .before .before .before .before .before .before .before .before) .pre .1 .x)) (tailOf ((c .before .before .before .before .before .before .before .before .before .before .before .before .before .before .before .before .before .before .before .before .before .before .before .before .before .before .before .before .before .before .before .before .before .before .before .before .before .before .before .before .before .before .before .before .before .before .before .before .before .before .before .before) .pre .1 .x) ++ ((c .before .before .before .before .before .before .before .before .before .before .before .before .before .before .before .before .before .before .before .before .before .before .before .before .before .before .before .before .before .before .before .before .before .before .before .before .before .before .before .before .before .before .before .before .before .before .before .before .before .before .before .before) .pre .1 .rest)) (first-of ((c .before .before .before .before .before .before .before .before .before .before .before .before .before .before .before .before .before .before .before .before .before .before .before .before .before .before .before .before .before .before .before .before .before .before .before .before .before .before .before .before .before .before .before .before .before .before .before .before .before .before .before .before) .pre .1) (c .before .before .before .before .before .before .before .before .before .before .before .before .before .before .before .before .before .before .before .before .before .before .before .before .before .before .before .before .before .before .before .before .before .before .before .before .before .before .before .before .before .before .before .before .before .head-of .ensures) (c .before .before .before .before .before .before .before .before .before .before .before .before .before .before .before .before .before .before .before .before .before .before .before .before .before .before .before .before .before .before .before .before .before .before .before .before .before .before .before .before .before .before .before .before .if1 .left) (c .before .before .before .before .before .before .before .before .before .before .before .before .before .before .before .before .before .before .before .before .before .before .before .before .before .before .before .before .before .before .before .before .before .before .before .before .before .before .before .before .before .before .before .zero-power .ensures))) (subst (Passed (now ((c .before .before .before .before .before .before .before .before .before .before .before .before .before .before .before .before .before .before .before .before .before .before .before .before .before .before .before .before .before .before .before .before .before .before .before .before .before .before .before .before .before .before .before .before .before .before .before .before .before .before .before .before) .args .s)) _) (c .before .before .before .before .before .before .before .before .before .before .before .before .before .before .before .before .before .before .before .before .before .before .before .before .before .before .if4 .left) (c .before .before .before .before .before .before .before .before .before .before .before .before .before .before .before .before .before .before .before .before .before .before .before .before .before .before .before .past2 .ensures)))) .inside
+build-past-requires-3 : (t : ℕ) → build-lts.Need-past-requires-3 (claims t) (build-at t) build.Post
+build-past-requires-3 t c κs = (done-2 t (c .before .before .before .before .before .before .before .before .before .before .before .before .before .before .before .before .before .before .before .before .before)) .inside
 
--- src/lib.rt:307:1
-build-same-length-11 : (t : ℕ) → build-lts.Need-same-length-11 (
-  head-of-reads.Asked,
-  head-of-reads.Learnt,
-  leaf-form-reads.Asked,
-  leaf-form-reads.Learnt,
-  zero-power-reads.Asked,
-  zero-power-reads.Learnt,
-  build-below t,
-  build.Post,
-  exponent-at-reads.Asked,
-  exponent-at-reads.Learnt,
-  raise-reads.Asked,
-  raise-reads.Learnt,
-  past-reads.Asked,
-  past-reads.Learnt,
-  negate-front-reads.Asked,
-  negate-front-reads.Learnt,
-  combine-reads.Asked,
-  combine-reads.Learnt,
-) (build-at t) build.Post
+build-same-length-11 : (t : ℕ) → build-lts.Need-same-length-11 (claims t) (build-at t) build.Post
 build-same-length-11 t c = c .before .before .before .before .before .before .before .before .before .combine .kept .1 .0 ∙ (c .before .before .before .before .before .before .before .before .before .before .before .before .before .before .before .before .before .before .before .before .before .stack5 .given .1) ∙ ((c .before .before .before .before .before .before .before .before .before .before .before .before .before .before .before .before .before .before .before .before .before .before .before .before .before .before .before .before .before .before .before .before .before .before .before .before .before .before .build) .kept .1 .1 .1 .0)
 
--- src/lib.rt:307:1
-build-same-length-12 : (t : ℕ) → build-lts.Need-same-length-12 (
-  head-of-reads.Asked,
-  head-of-reads.Learnt,
-  leaf-form-reads.Asked,
-  leaf-form-reads.Learnt,
-  zero-power-reads.Asked,
-  zero-power-reads.Learnt,
-  build-below t,
-  build.Post,
-  exponent-at-reads.Asked,
-  exponent-at-reads.Learnt,
-  raise-reads.Asked,
-  raise-reads.Learnt,
-  past-reads.Asked,
-  past-reads.Learnt,
-  negate-front-reads.Asked,
-  negate-front-reads.Learnt,
-  combine-reads.Asked,
-  combine-reads.Learnt,
-) (build-at t) build.Post
+build-same-length-12 : (t : ℕ) → build-lts.Need-same-length-12 (claims t) (build-at t) build.Post
 build-same-length-12 t c = c .before .before .before .before .before .before .before .before .before .combine .kept .1 .1 .1 .1 .0 ∙ ((c .before .before .before .before .before .before .before .before .before .before .before .before .before .before .before .before .before .before .before .before .before .before .build2) .kept .1 .1 .1 .1 .0 ∙ ((c .before .before .before .before .before .before .before .before .before .before .before .before .before .before .before .before .before .before .before .before .before .before .before .before .before .before .before .before .before .before .before .before .before .before .before .before .before .before .build) .kept .1 .1 .1 .1 .0))
 
--- src/lib.rt:307:1
-build-same-length-13 : (t : ℕ) → build-lts.Need-same-length-13 (
-  head-of-reads.Asked,
-  head-of-reads.Learnt,
-  leaf-form-reads.Asked,
-  leaf-form-reads.Learnt,
-  zero-power-reads.Asked,
-  zero-power-reads.Learnt,
-  build-below t,
-  build.Post,
-  exponent-at-reads.Asked,
-  exponent-at-reads.Learnt,
-  raise-reads.Asked,
-  raise-reads.Learnt,
-  past-reads.Asked,
-  past-reads.Learnt,
-  negate-front-reads.Asked,
-  negate-front-reads.Learnt,
-  combine-reads.Asked,
-  combine-reads.Learnt,
-) (build-at t) build.Post
+build-same-length-13 : (t : ℕ) → build-lts.Need-same-length-13 (claims t) (build-at t) build.Post
 build-same-length-13 t c = c .before .before .before .before .before .before .before .before .before .combine .kept .1 .1 .1 .1 .1 .0 ∙ ((c .before .before .before .before .before .before .before .before .before .before .before .before .before .before .before .before .before .before .before .before .before .before .build2) .kept .1 .1 .1 .1 .1 .0 ∙ ((c .before .before .before .before .before .before .before .before .before .before .before .before .before .before .before .before .before .before .before .before .before .before .before .before .before .before .before .before .before .before .before .before .before .before .before .before .before .before .build) .kept .1 .1 .1 .1 .1 .0))
 
--- src/lib.rt:307:1
-build-same-length-14 : (t : ℕ) → build-lts.Need-same-length-14 (
-  head-of-reads.Asked,
-  head-of-reads.Learnt,
-  leaf-form-reads.Asked,
-  leaf-form-reads.Learnt,
-  zero-power-reads.Asked,
-  zero-power-reads.Learnt,
-  build-below t,
-  build.Post,
-  exponent-at-reads.Asked,
-  exponent-at-reads.Learnt,
-  raise-reads.Asked,
-  raise-reads.Learnt,
-  past-reads.Asked,
-  past-reads.Learnt,
-  negate-front-reads.Asked,
-  negate-front-reads.Learnt,
-  combine-reads.Asked,
-  combine-reads.Learnt,
-) (build-at t) build.Post
+build-same-length-14 : (t : ℕ) → build-lts.Need-same-length-14 (claims t) (build-at t) build.Post
 build-same-length-14 t c = c .before .before .before .before .before .before .before .before .before .combine .kept .1 .1 .1 .1 .1 .1 .0 ∙ ((c .before .before .before .before .before .before .before .before .before .before .before .before .before .before .before .before .before .before .before .before .before .before .build2) .kept .1 .1 .1 .1 .1 .1 .0 ∙ ((c .before .before .before .before .before .before .before .before .before .before .before .before .before .before .before .before .before .before .before .before .before .before .before .before .before .before .before .before .before .before .before .before .before .before .before .before .before .before .build) .kept .1 .1 .1 .1 .1 .1 .0))
 
--- src/lib.rt:307:1
-build-returns-5 : (t : ℕ) → build-lts.Need-returns-5 (
-  head-of-reads.Asked,
-  head-of-reads.Learnt,
-  leaf-form-reads.Asked,
-  leaf-form-reads.Learnt,
-  zero-power-reads.Asked,
-  zero-power-reads.Learnt,
-  build-below t,
-  build.Post,
-  exponent-at-reads.Asked,
-  exponent-at-reads.Learnt,
-  raise-reads.Asked,
-  raise-reads.Learnt,
-  past-reads.Asked,
-  past-reads.Learnt,
-  negate-front-reads.Asked,
-  negate-front-reads.Learnt,
-  combine-reads.Asked,
-  combine-reads.Learnt,
-) (build-at t) build.Post
-build-returns-5 t c = finished (((c .before .before .before .before .before .before .before .before .before .before .before .before .before .before .before .before .before .before .before .before .before .before .before .before .before .before .before .before .before .before .before .before .before .before .before .before .before .before .before .before .before .before .before .before .before .before .before .before .before .before .before .before .before) .pre .1) .stands) (combine-gives ((c .before .before .before .before .before .before .before .before .before .before .before .before .before .before .before .before .before .before .before .before .before .before .before .before .before .before .before .before .before .before .before .before .before .before .before .before .before .before .before .before .before .before .before .before .before .before .before .before .before .before .before .before .before) .pre .1 .x) ((c .before .before .before .before .before .before .before .before .before .before .before .before .before .before .before .before .before .before .before .before .before .before .before .before .before .before .before .before .before .before .before .before .before .before .before .before .before .before .before .before .before .before .before .before .before .before .before .before .before .before .before .before .before) .pre .1 .rest) ((head ((c .before .before .before .before .before .before .before .before .before .before .before .before .before .before .before .before .before .before .before .before .before .before .before .before .before .before .before .before .before .before .before .before .before .before .before .before .before .before .before .before .before .before .before .before .before .before .before .before .before .before .before .before .before) .pre .1) (c .before .before .before .before .before .before .before .before .before .before .before .before .before .before .before .before .before .before .before .before .before .before .before .before .before .before .before .before .before .before .before .before .before .before .before .before .before .before .before .before .before .before .before .before .before .before .head-of .ensures)) .is-kind) (λ q. (c .before .before .before .before .before .before .before .before .before .before .before .before .before .before .before .before .before .before .before .before .before .before .before .before .before .before .before .before .before .before .before .before .before .before .before .before .before .before .before .before .before .before .before .before .before .if1 .left) ((head ((c .before .before .before .before .before .before .before .before .before .before .before .before .before .before .before .before .before .before .before .before .before .before .before .before .before .before .before .before .before .before .before .before .before .before .before .before .before .before .before .before .before .before .before .before .before .before .before .before .before .before .before .before .before) .pre .1) (c .before .before .before .before .before .before .before .before .before .before .before .before .before .before .before .before .before .before .before .before .before .before .before .before .before .before .before .before .before .before .before .before .before .before .before .before .before .before .before .before .before .before .before .before .before .before .head-of .ensures)) .is-kind ∙ q)) (λ q. c .before .before .before .before .before .before .before .before .before .before .before .before .before .before .before .before .before .before .before .before .before .before .before .before .before .before .before .before .before .if3 .left ((head ((c .before .before .before .before .before .before .before .before .before .before .before .before .before .before .before .before .before .before .before .before .before .before .before .before .before .before .before .before .before .before .before .before .before .before .before .before .before .before .before .before .before .before .before .before .before .before .before .before .before .before .before .before .before) .pre .1) (c .before .before .before .before .before .before .before .before .before .before .before .before .before .before .before .before .before .before .before .before .before .before .before .before .before .before .before .before .before .before .before .before .before .before .before .before .before .before .before .before .before .before .before .before .before .before .head-of .ensures)) .is-kind ∙ q)) ((head ((c .before .before .before .before .before .before .before .before .before .before .before .before .before .before .before .before .before .before .before .before .before .before .before .before .before .before .before .before .before .before .before .before .before .before .before .before .before .before .before .before .before .before .before .before .before .before .before .before .before .before .before .before .before) .pre .1) (c .before .before .before .before .before .before .before .before .before .before .before .before .before .before .before .before .before .before .before .before .before .before .before .before .before .before .before .before .before .before .before .before .before .before .before .before .before .before .before .before .before .before .before .before .before .before .head-of .ensures)) .onto .later) ((c .before .before .before .before .before .before .before .before .before .before .before .before .before .before .before .before .before .before .before .before .before .before .before .before .before .before .before .before .before .before .before .before .before .before .before .before .before .before .build) .ensures (firstOf ((c .before .before .before .before .before .before .before .before .before .before .before .before .before .before .before .before .before .before .before .before .before .before .before .before .before .before .before .before .before .before .before .before .before .before .before .before .before .before .before .before .before .before .before .before .before .before .before .before .before .before .before .before .before) .pre .1 .x)) (tailOf ((c .before .before .before .before .before .before .before .before .before .before .before .before .before .before .before .before .before .before .before .before .before .before .before .before .before .before .before .before .before .before .before .before .before .before .before .before .before .before .before .before .before .before .before .before .before .before .before .before .before .before .before .before .before) .pre .1 .x) ++ ((c .before .before .before .before .before .before .before .before .before .before .before .before .before .before .before .before .before .before .before .before .before .before .before .before .before .before .before .before .before .before .before .before .before .before .before .before .before .before .before .before .before .before .before .before .before .before .before .before .before .before .before .before .before) .pre .1 .rest)) (first-of ((c .before .before .before .before .before .before .before .before .before .before .before .before .before .before .before .before .before .before .before .before .before .before .before .before .before .before .before .before .before .before .before .before .before .before .before .before .before .before .before .before .before .before .before .before .before .before .before .before .before .before .before .before .before) .pre .1) (c .before .before .before .before .before .before .before .before .before .before .before .before .before .before .before .before .before .before .before .before .before .before .before .before .before .before .before .before .before .before .before .before .before .before .before .before .before .before .before .before .before .before .before .before .before .before .head-of .ensures) (c .before .before .before .before .before .before .before .before .before .before .before .before .before .before .before .before .before .before .before .before .before .before .before .before .before .before .before .before .before .before .before .before .before .before .before .before .before .before .before .before .before .before .before .before .before .if1 .left) (c .before .before .before .before .before .before .before .before .before .before .before .before .before .before .before .before .before .before .before .before .before .before .before .before .before .before .before .before .before .before .before .before .before .before .before .before .before .before .before .before .before .before .before .before .zero-power .ensures))) (subst (Passed (now ((c .before .before .before .before .before .before .before .before .before .before .before .before .before .before .before .before .before .before .before .before .before .before .before .before .before .before .before .before .before .before .before .before .before .before .before .before .before .before .before .before .before .before .before .before .before .before .before .before .before .before .before .before .before) .args .s)) _) (c .before .before .before .before .before .before .before .before .before .before .before .before .before .before .before .before .before .before .before .before .before .before .before .before .before .before .before .if4 .left) (c .before .before .before .before .before .before .before .before .before .before .before .before .before .before .before .before .before .before .before .before .before .before .before .before .before .before .before .before .past2 .ensures)) ((c .before .before .before .before .before .before .before .before .before .before .before .before .before .before .before .before .before .before .before .before .before .before .build2) .ensures (secondOf ((c .before .before .before .before .before .before .before .before .before .before .before .before .before .before .before .before .before .before .before .before .before .before .before .before .before .before .before .before .before .before .before .before .before .before .before .before .before .before .before .before .before .before .before .before .before .before .before .before .before .before .before .before .before) .pre .1 .x)) (closeOf ((c .before .before .before .before .before .before .before .before .before .before .before .before .before .before .before .before .before .before .before .before .before .before .before .before .before .before .before .before .before .before .before .before .before .before .before .before .before .before .before .before .before .before .before .before .before .before .before .before .before .before .before .before .before) .pre .1 .x) ++ ((c .before .before .before .before .before .before .before .before .before .before .before .before .before .before .before .before .before .before .before .before .before .before .before .before .before .before .before .before .before .before .before .before .before .before .before .before .before .before .before .before .before .before .before .before .before .before .before .before .before .before .before .before .before) .pre .1 .rest)) (second-of ((c .before .before .before .before .before .before .before .before .before .before .before .before .before .before .before .before .before .before .before .before .before .before .before .before .before .before .before .before .before .before .before .before .before .before .before .before .before .before .before .before .before .before .before .before .before .before .before .before .before .before .before .before .before) .pre .1 .x) ((c .before .before .before .before .before .before .before .before .before .before .before .before .before .before .before .before .before .before .before .before .before .before .before .before .before .before .before .before .before .before .before .before .before .before .before .before .before .before .before .before .before .before .before .before .before .before .before .before .before .before .before .before .before) .pre .1 .rest) (λ q. (c .before .before .before .before .before .before .before .before .before .before .before .before .before .before .before .before .before .before .before .before .before .before .before .before .before .before .before .before .before .before .before .before .before .before .before .before .before .before .before .before .before .before .before .before .before .if1 .left) ((head ((c .before .before .before .before .before .before .before .before .before .before .before .before .before .before .before .before .before .before .before .before .before .before .before .before .before .before .before .before .before .before .before .before .before .before .before .before .before .before .before .before .before .before .before .before .before .before .before .before .before .before .before .before .before) .pre .1) (c .before .before .before .before .before .before .before .before .before .before .before .before .before .before .before .before .before .before .before .before .before .before .before .before .before .before .before .before .before .before .before .before .before .before .before .before .before .before .before .before .before .before .before .before .before .before .head-of .ensures)) .is-kind ∙ q)) (λ q. c .before .before .before .before .before .before .before .before .before .before .before .before .before .before .before .before .before .before .before .before .before .before .before .before .before .before .before .before .before .if3 .left ((head ((c .before .before .before .before .before .before .before .before .before .before .before .before .before .before .before .before .before .before .before .before .before .before .before .before .before .before .before .before .before .before .before .before .before .before .before .before .before .before .before .before .before .before .before .before .before .before .before .before .before .before .before .before .before) .pre .1) (c .before .before .before .before .before .before .before .before .before .before .before .before .before .before .before .before .before .before .before .before .before .before .before .before .before .before .before .before .before .before .before .before .before .before .before .before .before .before .before .before .before .before .before .before .before .before .head-of .ensures)) .is-kind ∙ q)) (((c .before .before .before .before .before .before .before .before .before .before .before .before .before .before .before .before .before .before .before .before .before .before .before .before .before .before .before .before .before .before .before .before .before .before .before .before .before .before .before .before .before .before .before .before .before .before .before .before .before .before .before .before .before) .pre .1) .stands) ((c .before .before .before .before .before .before .before .before .before .before .before .before .before .before .before .before .before .before .before .before .before .before .before .before .before .before .before .before .before .before .before .before .before .before .before .before .before .before .build) .ensures (firstOf ((c .before .before .before .before .before .before .before .before .before .before .before .before .before .before .before .before .before .before .before .before .before .before .before .before .before .before .before .before .before .before .before .before .before .before .before .before .before .before .before .before .before .before .before .before .before .before .before .before .before .before .before .before .before) .pre .1 .x)) (tailOf ((c .before .before .before .before .before .before .before .before .before .before .before .before .before .before .before .before .before .before .before .before .before .before .before .before .before .before .before .before .before .before .before .before .before .before .before .before .before .before .before .before .before .before .before .before .before .before .before .before .before .before .before .before .before) .pre .1 .x) ++ ((c .before .before .before .before .before .before .before .before .before .before .before .before .before .before .before .before .before .before .before .before .before .before .before .before .before .before .before .before .before .before .before .before .before .before .before .before .before .before .before .before .before .before .before .before .before .before .before .before .before .before .before .before .before) .pre .1 .rest)) (first-of ((c .before .before .before .before .before .before .before .before .before .before .before .before .before .before .before .before .before .before .before .before .before .before .before .before .before .before .before .before .before .before .before .before .before .before .before .before .before .before .before .before .before .before .before .before .before .before .before .before .before .before .before .before .before) .pre .1) (c .before .before .before .before .before .before .before .before .before .before .before .before .before .before .before .before .before .before .before .before .before .before .before .before .before .before .before .before .before .before .before .before .before .before .before .before .before .before .before .before .before .before .before .before .before .before .head-of .ensures) (c .before .before .before .before .before .before .before .before .before .before .before .before .before .before .before .before .before .before .before .before .before .before .before .before .before .before .before .before .before .before .before .before .before .before .before .before .before .before .before .before .before .before .before .before .before .if1 .left) (c .before .before .before .before .before .before .before .before .before .before .before .before .before .before .before .before .before .before .before .before .before .before .before .before .before .before .before .before .before .before .before .before .before .before .before .before .before .before .before .before .before .before .before .before .zero-power .ensures))) (subst (Passed (now ((c .before .before .before .before .before .before .before .before .before .before .before .before .before .before .before .before .before .before .before .before .before .before .before .before .before .before .before .before .before .before .before .before .before .before .before .before .before .before .before .before .before .before .before .before .before .before .before .before .before .before .before .before .before) .args .s)) _) (c .before .before .before .before .before .before .before .before .before .before .before .before .before .before .before .before .before .before .before .before .before .before .before .before .before .before .before .if4 .left) (c .before .before .before .before .before .before .before .before .before .before .before .before .before .before .before .before .before .before .before .before .before .before .before .before .before .before .before .before .past2 .ensures)))) (both-made (both (((c .before .before .before .before .before .before .before .before .before .before .before .before .before .before .before .before .before .before .before .before .before .before .before .before .before .before .before .before .before .before .before .before .before .before .before .before .before .before .before .before .before .before .before .before .before .before .before .before .before .before .before .before .before) .pre .1) .proper) (first-of ((c .before .before .before .before .before .before .before .before .before .before .before .before .before .before .before .before .before .before .before .before .before .before .before .before .before .before .before .before .before .before .before .before .before .before .before .before .before .before .before .before .before .before .before .before .before .before .before .before .before .before .before .before .before) .pre .1) (c .before .before .before .before .before .before .before .before .before .before .before .before .before .before .before .before .before .before .before .before .before .before .before .before .before .before .before .before .before .before .before .before .before .before .before .before .before .before .before .before .before .before .before .before .before .before .head-of .ensures) (c .before .before .before .before .before .before .before .before .before .before .before .before .before .before .before .before .before .before .before .before .before .before .before .before .before .before .before .before .before .before .before .before .before .before .before .before .before .before .before .before .before .before .before .before .before .if1 .left) (c .before .before .before .before .before .before .before .before .before .before .before .before .before .before .before .before .before .before .before .before .before .before .before .before .before .before .before .before .before .before .before .before .before .before .before .before .before .before .before .before .before .before .before .before .zero-power .ensures)) ((c .before .before .before .before .before .before .before .before .before .before .before .before .before .before .before .before .before .before .before .before .before .before .before .before .before .before .before .before .before .before .before .before .before .before .before .before .before .before .build) .ensures (firstOf ((c .before .before .before .before .before .before .before .before .before .before .before .before .before .before .before .before .before .before .before .before .before .before .before .before .before .before .before .before .before .before .before .before .before .before .before .before .before .before .before .before .before .before .before .before .before .before .before .before .before .before .before .before .before) .pre .1 .x)) (tailOf ((c .before .before .before .before .before .before .before .before .before .before .before .before .before .before .before .before .before .before .before .before .before .before .before .before .before .before .before .before .before .before .before .before .before .before .before .before .before .before .before .before .before .before .before .before .before .before .before .before .before .before .before .before .before) .pre .1 .x) ++ ((c .before .before .before .before .before .before .before .before .before .before .before .before .before .before .before .before .before .before .before .before .before .before .before .before .before .before .before .before .before .before .before .before .before .before .before .before .before .before .before .before .before .before .before .before .before .before .before .before .before .before .before .before .before) .pre .1 .rest)) (first-of ((c .before .before .before .before .before .before .before .before .before .before .before .before .before .before .before .before .before .before .before .before .before .before .before .before .before .before .before .before .before .before .before .before .before .before .before .before .before .before .before .before .before .before .before .before .before .before .before .before .before .before .before .before .before) .pre .1) (c .before .before .before .before .before .before .before .before .before .before .before .before .before .before .before .before .before .before .before .before .before .before .before .before .before .before .before .before .before .before .before .before .before .before .before .before .before .before .before .before .before .before .before .before .before .before .head-of .ensures) (c .before .before .before .before .before .before .before .before .before .before .before .before .before .before .before .before .before .before .before .before .before .before .before .before .before .before .before .before .before .before .before .before .before .before .before .before .before .before .before .before .before .before .before .before .before .if1 .left) (c .before .before .before .before .before .before .before .before .before .before .before .before .before .before .before .before .before .before .before .before .before .before .before .before .before .before .before .before .before .before .before .before .before .before .before .before .before .before .before .before .before .before .before .before .zero-power .ensures))) (second-of ((c .before .before .before .before .before .before .before .before .before .before .before .before .before .before .before .before .before .before .before .before .before .before .before .before .before .before .before .before .before .before .before .before .before .before .before .before .before .before .before .before .before .before .before .before .before .before .before .before .before .before .before .before .before) .pre .1 .x) ((c .before .before .before .before .before .before .before .before .before .before .before .before .before .before .before .before .before .before .before .before .before .before .before .before .before .before .before .before .before .before .before .before .before .before .before .before .before .before .before .before .before .before .before .before .before .before .before .before .before .before .before .before .before) .pre .1 .rest) (λ q. (c .before .before .before .before .before .before .before .before .before .before .before .before .before .before .before .before .before .before .before .before .before .before .before .before .before .before .before .before .before .before .before .before .before .before .before .before .before .before .before .before .before .before .before .before .before .if1 .left) ((head ((c .before .before .before .before .before .before .before .before .before .before .before .before .before .before .before .before .before .before .before .before .before .before .before .before .before .before .before .before .before .before .before .before .before .before .before .before .before .before .before .before .before .before .before .before .before .before .before .before .before .before .before .before .before) .pre .1) (c .before .before .before .before .before .before .before .before .before .before .before .before .before .before .before .before .before .before .before .before .before .before .before .before .before .before .before .before .before .before .before .before .before .before .before .before .before .before .before .before .before .before .before .before .before .before .head-of .ensures)) .is-kind ∙ q)) (λ q. c .before .before .before .before .before .before .before .before .before .before .before .before .before .before .before .before .before .before .before .before .before .before .before .before .before .before .before .before .before .if3 .left ((head ((c .before .before .before .before .before .before .before .before .before .before .before .before .before .before .before .before .before .before .before .before .before .before .before .before .before .before .before .before .before .before .before .before .before .before .before .before .before .before .before .before .before .before .before .before .before .before .before .before .before .before .before .before .before) .pre .1) (c .before .before .before .before .before .before .before .before .before .before .before .before .before .before .before .before .before .before .before .before .before .before .before .before .before .before .before .before .before .before .before .before .before .before .before .before .before .before .before .before .before .before .before .before .before .before .head-of .ensures)) .is-kind ∙ q)) (((c .before .before .before .before .before .before .before .before .before .before .before .before .before .before .before .before .before .before .before .before .before .before .before .before .before .before .before .before .before .before .before .before .before .before .before .before .before .before .before .before .before .before .before .before .before .before .before .before .before .before .before .before .before) .pre .1) .stands) ((c .before .before .before .before .before .before .before .before .before .before .before .before .before .before .before .before .before .before .before .before .before .before .before .before .before .before .before .before .before .before .before .before .before .before .before .before .before .before .build) .ensures (firstOf ((c .before .before .before .before .before .before .before .before .before .before .before .before .before .before .before .before .before .before .before .before .before .before .before .before .before .before .before .before .before .before .before .before .before .before .before .before .before .before .before .before .before .before .before .before .before .before .before .before .before .before .before .before .before) .pre .1 .x)) (tailOf ((c .before .before .before .before .before .before .before .before .before .before .before .before .before .before .before .before .before .before .before .before .before .before .before .before .before .before .before .before .before .before .before .before .before .before .before .before .before .before .before .before .before .before .before .before .before .before .before .before .before .before .before .before .before) .pre .1 .x) ++ ((c .before .before .before .before .before .before .before .before .before .before .before .before .before .before .before .before .before .before .before .before .before .before .before .before .before .before .before .before .before .before .before .before .before .before .before .before .before .before .before .before .before .before .before .before .before .before .before .before .before .before .before .before .before) .pre .1 .rest)) (first-of ((c .before .before .before .before .before .before .before .before .before .before .before .before .before .before .before .before .before .before .before .before .before .before .before .before .before .before .before .before .before .before .before .before .before .before .before .before .before .before .before .before .before .before .before .before .before .before .before .before .before .before .before .before .before) .pre .1) (c .before .before .before .before .before .before .before .before .before .before .before .before .before .before .before .before .before .before .before .before .before .before .before .before .before .before .before .before .before .before .before .before .before .before .before .before .before .before .before .before .before .before .before .before .before .before .head-of .ensures) (c .before .before .before .before .before .before .before .before .before .before .before .before .before .before .before .before .before .before .before .before .before .before .before .before .before .before .before .before .before .before .before .before .before .before .before .before .before .before .before .before .before .before .before .before .before .if1 .left) (c .before .before .before .before .before .before .before .before .before .before .before .before .before .before .before .before .before .before .before .before .before .before .before .before .before .before .before .before .before .before .before .before .before .before .before .before .before .before .before .before .before .before .before .before .zero-power .ensures))) (subst (Passed (now ((c .before .before .before .before .before .before .before .before .before .before .before .before .before .before .before .before .before .before .before .before .before .before .before .before .before .before .before .before .before .before .before .before .before .before .before .before .before .before .before .before .before .before .before .before .before .before .before .before .before .before .before .before .before) .args .s)) _) (c .before .before .before .before .before .before .before .before .before .before .before .before .before .before .before .before .before .before .before .before .before .before .before .before .before .before .before .if4 .left) (c .before .before .before .before .before .before .before .before .before .before .before .before .before .before .before .before .before .before .before .before .before .before .before .before .before .before .before .before .past2 .ensures))) ((c .before .before .before .before .before .before .before .before .before .before .before .before .before .before .before .before .before .before .before .before .before .before .build2) .ensures (secondOf ((c .before .before .before .before .before .before .before .before .before .before .before .before .before .before .before .before .before .before .before .before .before .before .before .before .before .before .before .before .before .before .before .before .before .before .before .before .before .before .before .before .before .before .before .before .before .before .before .before .before .before .before .before .before) .pre .1 .x)) (closeOf ((c .before .before .before .before .before .before .before .before .before .before .before .before .before .before .before .before .before .before .before .before .before .before .before .before .before .before .before .before .before .before .before .before .before .before .before .before .before .before .before .before .before .before .before .before .before .before .before .before .before .before .before .before .before) .pre .1 .x) ++ ((c .before .before .before .before .before .before .before .before .before .before .before .before .before .before .before .before .before .before .before .before .before .before .before .before .before .before .before .before .before .before .before .before .before .before .before .before .before .before .before .before .before .before .before .before .before .before .before .before .before .before .before .before .before) .pre .1 .rest)) (second-of ((c .before .before .before .before .before .before .before .before .before .before .before .before .before .before .before .before .before .before .before .before .before .before .before .before .before .before .before .before .before .before .before .before .before .before .before .before .before .before .before .before .before .before .before .before .before .before .before .before .before .before .before .before .before) .pre .1 .x) ((c .before .before .before .before .before .before .before .before .before .before .before .before .before .before .before .before .before .before .before .before .before .before .before .before .before .before .before .before .before .before .before .before .before .before .before .before .before .before .before .before .before .before .before .before .before .before .before .before .before .before .before .before .before) .pre .1 .rest) (λ q. (c .before .before .before .before .before .before .before .before .before .before .before .before .before .before .before .before .before .before .before .before .before .before .before .before .before .before .before .before .before .before .before .before .before .before .before .before .before .before .before .before .before .before .before .before .before .if1 .left) ((head ((c .before .before .before .before .before .before .before .before .before .before .before .before .before .before .before .before .before .before .before .before .before .before .before .before .before .before .before .before .before .before .before .before .before .before .before .before .before .before .before .before .before .before .before .before .before .before .before .before .before .before .before .before .before) .pre .1) (c .before .before .before .before .before .before .before .before .before .before .before .before .before .before .before .before .before .before .before .before .before .before .before .before .before .before .before .before .before .before .before .before .before .before .before .before .before .before .before .before .before .before .before .before .before .before .head-of .ensures)) .is-kind ∙ q)) (λ q. c .before .before .before .before .before .before .before .before .before .before .before .before .before .before .before .before .before .before .before .before .before .before .before .before .before .before .before .before .before .if3 .left ((head ((c .before .before .before .before .before .before .before .before .before .before .before .before .before .before .before .before .before .before .before .before .before .before .before .before .before .before .before .before .before .before .before .before .before .before .before .before .before .before .before .before .before .before .before .before .before .before .before .before .before .before .before .before .before) .pre .1) (c .before .before .before .before .before .before .before .before .before .before .before .before .before .before .before .before .before .before .before .before .before .before .before .before .before .before .before .before .before .before .before .before .before .before .before .before .before .before .before .before .before .before .before .before .before .before .head-of .ensures)) .is-kind ∙ q)) (((c .before .before .before .before .before .before .before .before .before .before .before .before .before .before .before .before .before .before .before .before .before .before .before .before .before .before .before .before .before .before .before .before .before .before .before .before .before .before .before .before .before .before .before .before .before .before .before .before .before .before .before .before .before) .pre .1) .stands) ((c .before .before .before .before .before .before .before .before .before .before .before .before .before .before .before .before .before .before .before .before .before .before .before .before .before .before .before .before .before .before .before .before .before .before .before .before .before .before .build) .ensures (firstOf ((c .before .before .before .before .before .before .before .before .before .before .before .before .before .before .before .before .before .before .before .before .before .before .before .before .before .before .before .before .before .before .before .before .before .before .before .before .before .before .before .before .before .before .before .before .before .before .before .before .before .before .before .before .before) .pre .1 .x)) (tailOf ((c .before .before .before .before .before .before .before .before .before .before .before .before .before .before .before .before .before .before .before .before .before .before .before .before .before .before .before .before .before .before .before .before .before .before .before .before .before .before .before .before .before .before .before .before .before .before .before .before .before .before .before .before .before) .pre .1 .x) ++ ((c .before .before .before .before .before .before .before .before .before .before .before .before .before .before .before .before .before .before .before .before .before .before .before .before .before .before .before .before .before .before .before .before .before .before .before .before .before .before .before .before .before .before .before .before .before .before .before .before .before .before .before .before .before) .pre .1 .rest)) (first-of ((c .before .before .before .before .before .before .before .before .before .before .before .before .before .before .before .before .before .before .before .before .before .before .before .before .before .before .before .before .before .before .before .before .before .before .before .before .before .before .before .before .before .before .before .before .before .before .before .before .before .before .before .before .before) .pre .1) (c .before .before .before .before .before .before .before .before .before .before .before .before .before .before .before .before .before .before .before .before .before .before .before .before .before .before .before .before .before .before .before .before .before .before .before .before .before .before .before .before .before .before .before .before .before .before .head-of .ensures) (c .before .before .before .before .before .before .before .before .before .before .before .before .before .before .before .before .before .before .before .before .before .before .before .before .before .before .before .before .before .before .before .before .before .before .before .before .before .before .before .before .before .before .before .before .before .if1 .left) (c .before .before .before .before .before .before .before .before .before .before .before .before .before .before .before .before .before .before .before .before .before .before .before .before .before .before .before .before .before .before .before .before .before .before .before .before .before .before .before .before .before .before .before .before .zero-power .ensures))) (subst (Passed (now ((c .before .before .before .before .before .before .before .before .before .before .before .before .before .before .before .before .before .before .before .before .before .before .before .before .before .before .before .before .before .before .before .before .before .before .before .before .before .before .before .before .before .before .before .before .before .before .before .before .before .before .before .before .before) .args .s)) _) (c .before .before .before .before .before .before .before .before .before .before .before .before .before .before .before .before .before .before .before .before .before .before .before .before .before .before .before .if4 .left) (c .before .before .before .before .before .before .before .before .before .before .before .before .before .before .before .before .before .before .before .before .before .before .before .before .before .before .before .before .past2 .ensures)))) ((c .before .before .before .before .before .before .before .before .before .before .before .before .before .before .before .before .before .before .before .before .before .before .build2) .kept .1 .1 .1 .0 ∙ length-tail-part _ ((c .before .before .before .before .before .before .before .before .before .before .before .before .before .before .before .before .before .before .before .before .before .before .before .before .before .before .before .before .before .before .before .before .before .before .before .before .before .before .build) .last .1 .1 .1 .0)) (c .before .before .before .before .before .before .before .before .before .before .before .before .before .before .before .before .before .before .before .before .before .stack5 .given .1)) (c .before .before .before .before .before .before .before .before .before .before .before .before .before .before .before .before .before .before .before .before .before .before .before .before .before .before .before .before .before .before .before .before .before .before .before .before .before .before .before .before .before .before .before .before .before .before .head-of .result .kind) (c .before .before .before .before .before .before .before .before .before .combine .ensures)) (c .past3 .ensures))
+build-returns-5 : (t : ℕ) → build-lts.Need-returns-5 (claims t) (build-at t) build.Post
+build-returns-5 t c = finished (((c .before .before .before .before .before .before .before .before .before .before .before .before .before .before .before .before .before .before .before .before .before .before .before .before .before .before .before .before .before .before .before .before .before .before .before .before .before .before .before .before .before .before .before .before .before .before .before .before .before .before .before .before .before) .pre .1) .stands) (combine-gives ((c .before .before .before .before .before .before .before .before .before .before .before .before .before .before .before .before .before .before .before .before .before .before .before .before .before .before .before .before .before .before .before .before .before .before .before .before .before .before .before .before .before .before .before .before .before .before .before .before .before .before .before .before .before) .pre .1 .x) ((c .before .before .before .before .before .before .before .before .before .before .before .before .before .before .before .before .before .before .before .before .before .before .before .before .before .before .before .before .before .before .before .before .before .before .before .before .before .before .before .before .before .before .before .before .before .before .before .before .before .before .before .before .before) .pre .1 .rest) ((head-is t (c .before .before .before .before .before .before .before .before .before .before .before .before .before .before .before .before .before .before .before .before .before .before .before .before .before .before .before .before .before .before .before .before .before .before .before .before .before .before .before .before .before .before .before .before .before .before)) .is-kind) (node t (c .before .before .before .before .before .before .before .before .before .before .before .before .before .before .before .before .before .before .before .before .before .before .before .before .before .before .before .before .before .before .before .before .before .before .before .before .before .before .before .before .before .before .before .before .before)) (not-power t (c .before .before .before .before .before .before .before .before .before .before .before .before .before .before .before .before .before .before .before .before .before .before .before .before .before .before .before .before .before)) ((head-is t (c .before .before .before .before .before .before .before .before .before .before .before .before .before .before .before .before .before .before .before .before .before .before .before .before .before .before .before .before .before .before .before .before .before .before .before .before .before .before .before .before .before .before .before .before .before .before)) .onto .later) (done t (c .before .before .before .before .before .before .before .before .before .before .before .before .before .before .before .before .before .before .before .before .before .before .before .before .before .before .before .before .before .before .before .before .before .before .before .before .before .before)) (no-close t (c .before .before .before .before .before .before .before .before .before .before .before .before .before .before .before .before .before .before .before .before .before .before .before .before .before .before .before)) (done-2 t (c .before .before .before .before .before .before .before .before .before .before .before .before .before .before .before .before .before .before .before .before .before .before)) (both-made (both-at t (c .before .before .before .before .before .before .before .before .before .before .before .before .before .before .before .before .before .before .before .before .before)) ((c .before .before .before .before .before .before .before .before .before .before .before .before .before .before .before .before .before .before .before .before .before .before .before .before .before .before .before .before .before .before .before .before .before .before .before .before .before .before .before .before .before .before .before .before .before .before .head-of) .result .kind) (c .before .before .before .before .before .before .before .before .before .combine .ensures)) (c .past3 .ensures))
 
 pub +build-spec : {M : Type 1} → statement M
-+build-spec = close μ-build λ t. build-lts.spec (
-  head-of-reads.Asked,
-  head-of-reads.Learnt,
-  leaf-form-reads.Asked,
-  leaf-form-reads.Learnt,
-  zero-power-reads.Asked,
-  zero-power-reads.Learnt,
-  build-below t,
-  build.Post,
-  exponent-at-reads.Asked,
-  exponent-at-reads.Learnt,
-  raise-reads.Asked,
-  raise-reads.Learnt,
-  past-reads.Asked,
-  past-reads.Learnt,
-  negate-front-reads.Asked,
-  negate-front-reads.Learnt,
-  combine-reads.Asked,
-  combine-reads.Learnt,
-)
-    (build-at t)
++build-spec = close μ-build λ t. build-lts.spec (claims t) (build-at t)
     build.Post
     (build-head-of-requires t)
     (build-sub-leaf-form t)

@@ -1,6 +1,6 @@
 -- `building::add` meets its contract: the sum is made in out, and copied to the front.
-use mathlib.Core.Path.{_≡_, sym, ap, subst, _∙_}
-use Prim.Native.Nat.{_+_}
+-- Assumes nothing.
+use mathlib.Core.Path.{sym}
 use native.Mathlib.Omega.{arith}
 use lib.ListN.{length, take, drop}
 use lib.Seq.{length-take-le}
@@ -13,51 +13,37 @@ use Rattle.building.proofs.Stacks.{both-length, both-coded, both-sum, s
 use borrow.Author.Needs.{needs}
 use Rattle.building.proofs.add.Statement.{statement}
 use Rattle.building.proofs.add.Tie as tie
-use Rattle.building.proofs.add.Reads as reads
-use Rattle.building.proofs.add.Lts as lts
-use Rattle.building.proofs.sum_parts.Reads as sum-parts-reads
-use Rattle.coded.proofs.copy.Reads as copy-reads
 
 made : (c : tie.After-sum-parts) → Begins (c .sum-parts .result) (enc 0 (sumOf 0 (left (c .before .before .before .before .before .args .a) (c .before .before .before .before .before .args .stack .now)) (right (c .before .before .before .before .before .args .a) (c .before .before .before .before .before .args .b) (c .before .before .before .before .before .args .stack .now)))) (c .sum-parts .last .1 .1 .0)
 made c = begins-as (c .sum-parts .ensures) (both-sum (c .before .before .before .before .before .args .a) (c .before .before .before .before .before .args .b) (c .before .before .before .before .before .args .stack .now))
 
--- src/lib.rt:237:13
 add-e : tie.Need-add-e
 add-e c = search needs
 
--- src/lib.rt:238:23
 slice-reshare-prefix-sum-parts : tie.Need-slice-reshare-prefix-sum-parts
 slice-reshare-prefix-sum-parts c = search needs
 
--- src/lib.rt:238:23
 slice-aggregate-sum-parts : tie.Need-slice-aggregate-sum-parts
 slice-aggregate-sum-parts c = sym (both-length (c .before .before .before .pre .0))
 
--- src/lib.rt:238:9
 sum-parts-requires : tie.Need-sum-parts-requires
 sum-parts-requires c κs = (omega (arith, both-length (c .before .before .before .before .pre .0)), (both-coded (c .before .before .before .before .pre .0), omega (arith, both-length (c .before .before .before .before .pre .0), c .before .before .before .before .pre .1)))
 
--- src/lib.rt:239:17
 slice-reshare-prefix-copy : tie.Need-slice-reshare-prefix-copy
 slice-reshare-prefix-copy c = begins-le (made (c .before .before))
 
--- src/lib.rt:239:17
 slice-aggregate-copy : tie.Need-slice-aggregate-copy
 slice-aggregate-copy c = sym (length-take-le (c .before .before .before .sum-parts .result) (c .before .before .before .sum-parts .last .1 .1 .0) (begins-le (made (c .before .before .before))))
 
--- src/lib.rt:239:5
 copy-requires : tie.Need-copy-requires
 copy-requires c κs = omega (arith, length-take-le (c .before .before .before .before .sum-parts .result) (c .before .before .before .before .sum-parts .last .1 .1 .0) (begins-le (made (c .before .before .before .before))), made (c .before .before .before .before) .size, sum-fits (c .before .before .before .before .before .before .before .before .before .pre .0))
 
--- src/lib.rt:232:1
 same-length : tie.Need-same-length
 same-length c = search needs
 
--- src/lib.rt:232:1
 same-length-2 : tie.Need-same-length-2
 same-length-2 c = search needs
 
--- src/lib.rt:232:1
 returns : tie.Need-returns
 returns c = copied-front (drop (length (take (c .before .before .before .before .before .before .before .sum-parts .result) (c .before .before .before .before .before .before .before .sum-parts .last .1 .1 .0))) (c .before .before .before .before .before .before .before .before .before .before .before .before .args .stack .now)) (made (c .before .before .before .before .before .before .before)) (c .before .before .copy .ensures)
 

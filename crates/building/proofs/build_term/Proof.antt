@@ -4,31 +4,22 @@ use Rattle.building.specs.laws.Accepted.{accepted-stands, given-ready}
 use borrow.Author.Needs.{needs}
 use Rattle.building.proofs.build_term.Statement.{statement}
 use Rattle.building.proofs.build_term.Tie as tie
-use Rattle.building.proofs.build_term.Reads as reads
-use Rattle.building.proofs.build_term.Lts as lts
-use Rattle.building.proofs.build.Reads as build-reads
 
--- src/lib.rt:372:9
 build-requires : tie.Need-build-requires
 build-requires c κs = given-ready (c .before .before .before .before .before .before .before .before .before .before .pre .0) (c .before .before .before .before .before .before .before .before .before .before .pre .1)
 
--- src/lib.rt:360:1
 same-length : tie.Need-same-length
 same-length c = search needs
 
--- src/lib.rt:360:1
 same-length-2 : tie.Need-same-length-2
 same-length-2 c = search needs
 
--- src/lib.rt:360:1
 same-length-3 : tie.Need-same-length-3
 same-length-3 c = search needs
 
--- src/lib.rt:360:1
 same-length-4 : tie.Need-same-length-4
 same-length-4 c = search needs
 
--- src/lib.rt:360:1
 returns : tie.Need-returns
 returns c = λ x e. c .before .before .before .before .before .before .before .before .build .ensures x _ (accepted-stands x e) .made
 

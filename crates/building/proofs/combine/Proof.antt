@@ -1,74 +1,53 @@
 -- `building::combine` meets its contract, operator by operator.
-use mathlib.Core.Bool.{true, false}
-use mathlib.Core.Path.{_≡_, sym, ap, subst, _∙_}
+-- Assumes nothing.
+use mathlib.Core.Path.{sym, ap}
 use native.Mathlib.Omega.{arith}
-use borrow.Author.Tests.{eq-eqb, ne-eqb}
 use Rattle.coded.specs.Coding.{enc}
-use Rattle.coded.specs.Operations.{sumOf, negateOf}
 use Rattle.coded.proofs.Lists.{begins-as}
 use Rattle.building.specs.laws.Combining.{combined-product, combined-difference, combined-sum}
 use borrow.Author.Needs.{needs}
 use Rattle.building.proofs.combine.Statement.{statement}
 use Rattle.building.proofs.combine.Tie as tie
-use Rattle.building.proofs.combine.Reads as reads
-use Rattle.building.proofs.combine.Lts as lts
-use Rattle.building.proofs.add.Reads as add-reads
-use Rattle.building.proofs.multiply.Reads as multiply-reads
-use Rattle.building.proofs.subtract.Reads as subtract-reads
 
--- src/lib.rt:298:9
 multiply-requires : tie.Need-multiply-requires
 multiply-requires c κs = (c .before .before .before .before .before .before .before .before .before .pre .0, (c .before .before .before .before .before .before .before .before .before .pre .1 .space (c .before .before .before .before .if1 .taken), c .before .before .before .before .before .before .before .before .before .pre .1 .words (c .before .before .before .before .if1 .taken)))
 
--- src/lib.rt:298:9
 same-length : tie.Need-same-length
 same-length c = search needs
 
--- src/lib.rt:298:9
 same-length-2 : tie.Need-same-length-2
 same-length-2 c = search needs
 
--- src/lib.rt:298:9
 same-length-3 : tie.Need-same-length-3
 same-length-3 c = search needs
 
--- src/lib.rt:298:9
 same-length-4 : tie.Need-same-length-4
 same-length-4 c = search needs
 
--- src/lib.rt:298:9
 returns : tie.Need-returns
 returns c = begins-as (c .before .before .before .before .before .before .before .before .multiply .ensures) (ap (enc 0) (sym (combined-product _ _ _ (c .before .before .before .before .before .before .before .before .before .before .before .before .before .if1 .taken))))
 
--- src/lib.rt:301:9
 subtract-requires : tie.Need-subtract-requires
 subtract-requires c κs = (c .before .before .before .before .before .before .before .before .pre .0, record { fits = omega (arith, c .before .before .before .before .before .before .before .before .pre .1 .room); small = omega (arith, c .before .before .before .before .before .before .before .before .pre .1 .small) })
 
--- src/lib.rt:301:9
 same-length-5 : tie.Need-same-length-5
 same-length-5 c = search needs
 
--- src/lib.rt:301:9
 same-length-6 : tie.Need-same-length-6
 same-length-6 c = search needs
 
--- src/lib.rt:301:9
 returns-2 : tie.Need-returns-2
 returns-2 c = begins-as (c .before .before .before .before .subtract .ensures) (ap (enc 0) (sym (combined-difference _ _ _ (c .before .before .before .before .before .before .before .if2 .taken))))
 
--- src/lib.rt:303:5
 add-requires : tie.Need-add-requires
 add-requires c κs = (c .before .before .before .before .before .before .before .before .pre .0, record { fits = omega (arith, c .before .before .before .before .before .before .before .before .pre .1 .room); small = omega (arith, c .before .before .before .before .before .before .before .before .pre .1 .small) })
 
--- src/lib.rt:284:1
 same-length-7 : tie.Need-same-length-7
 same-length-7 c = search needs
 
--- src/lib.rt:284:1
 same-length-8 : tie.Need-same-length-8
 same-length-8 c = search needs
 
--- src/lib.rt:284:1
 returns-3 : tie.Need-returns-3
 returns-3 c = begins-as (c .before .before .before .before .add .ensures) (ap (enc 0) (sym (combined-sum _ _ _ (c .before .before .before .before .before .before .before .before .if1 .left) (c .before .before .before .before .before .before .before .if2 .left))))
 

@@ -1,5 +1,6 @@
 -- `building::exponent_at` meets its contract.
-use mathlib.Core.Path.{_≡_, sym, ap, _∙_}
+-- Assumes nothing.
+use mathlib.Core.Path.{sym, _∙_}
 use native.Mathlib.Omega.{arith}
 use denote.Ref.{now}
 use Rattle.tokens.specs.declared.Step.the-variants.{Word}
@@ -9,40 +10,28 @@ use Rattle.building.proofs.Answers.{not-word}
 use borrow.Author.Needs.{needs}
 use Rattle.building.proofs.exponent_at.Statement.{statement}
 use Rattle.building.proofs.exponent_at.Tie as tie
-use Rattle.building.proofs.exponent_at.Reads as reads
-use Rattle.building.proofs.exponent_at.Lts as lts
-use Rattle.tokens.proofs.Reader.next.Reads as next-reads
-use Rattle.words.proofs.cut_value.Reads as cut-value-reads
 
--- src/lib.rt:178:9
 next-requires : tie.Need-next-requires
 next-requires c κs = search needs
 
--- src/lib.rt:179:22
 enum-known-step : tie.Need-enum-known-step
 enum-known-step c = search needs
 
--- src/lib.rt:180:9
 returns : tie.Need-returns
 returns c = λ q n ks h. not-word (c .match .keys2) (c .before .next .ensures) h
 
--- src/lib.rt:183:34
 sub-cut-value : tie.Need-sub-cut-value
 sub-cut-value c = omega (arith, told (now (c .before .before .before .before .before .args .s)) _ (c .before .before .before .before .before .pre .inside) (Word _ _) (sym (c .before .before .before .next .ensures) ∙ c .before .step .given .1) .past .more)
 
--- src/lib.rt:183:34
 part-cut-value-start : tie.Need-part-cut-value-start
 part-cut-value-start c = let o = told (now (c .before .before .before .before .before .args .s)) _ (c .before .before .before .before .before .pre .inside) (Word _ _) (sym (c .before .before .before .next .ensures) ∙ c .before .step .given .1) in omega (arith, o .past .more, o .past .inside)
 
--- src/lib.rt:183:34
 part-cut-value-end : tie.Need-part-cut-value-end
 part-cut-value-end c = let o = told (now (c .before .before .before .before .before .args .s)) _ (c .before .before .before .before .before .pre .inside) (Word _ _) (sym (c .before .before .before .next .ensures) ∙ c .before .step .given .1) in omega (arith, o .past .more, o .past .inside)
 
--- src/lib.rt:183:9
 cut-value-requires : tie.Need-cut-value-requires
 cut-value-requires c κs = exponent-digits (now (c .before .before .before .before .before .before .args .s)) _ (c .before .before .before .before .before .before .pre .inside) _ _ (sym (c .before .before .before .before .next .ensures) ∙ c .before .before .step .given .1) (c .before .before .before .before .before .before .pre)
 
--- src/lib.rt:174:1
 returns-2 : tie.Need-returns-2
 returns-2 c = exponent-is (now (c .before .before .before .before .before .before .before .args .s)) _ (c .before .before .before .before .before .before .before .pre .inside) _ _ (sym (c .before .before .before .before .before .next .ensures) ∙ c .before .before .before .step .given .1) _ (c .cut-value .ensures)
 

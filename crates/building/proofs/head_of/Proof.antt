@@ -1,54 +1,40 @@
 -- `building::head_of` meets its contract, case by case.
-use mathlib.Core.Path.{_≡_, sym, ap, _∙_}
-use native.Mathlib.Omega.{arith}
+-- Assumes nothing.
+use mathlib.Core.Path.{sym, _∙_}
 use denote.Ref.{now}
-use Rattle.tokens.specs.declared.Step.the-variants.{Open, Word}
+use Rattle.tokens.specs.declared.Step.the-variants.{Open}
 use Rattle.building.specs.laws.Reading.{told, head-word, head-open, head-close, head-end}
 use borrow.Author.Needs.{needs}
 use Rattle.building.proofs.head_of.Statement.{statement}
 use Rattle.building.proofs.head_of.Tie as tie
-use Rattle.building.proofs.head_of.Reads as reads
-use Rattle.building.proofs.head_of.Lts as lts
-use Rattle.building.proofs.operator.Reads as operator-reads
-use Rattle.tokens.proofs.Reader.next.Reads as next-reads
 
--- src/lib.rt:74:9
 next-requires : tie.Need-next-requires
 next-requires c κs = search needs
 
--- src/lib.rt:76:22
 enum-known-step : tie.Need-enum-known-step
 enum-known-step c = search needs
 
--- src/lib.rt:81:23
 enum-known-step-2 : tie.Need-enum-known-step-2
 enum-known-step-2 c = search needs
 
--- src/lib.rt:81:32
 operator-requires : tie.Need-operator-requires
 operator-requires c κs = told (now (c .before .before .before .before .before .args .s)) _ (c .before .before .before .before .before .pre) (Open _ _) (sym (c .before .before .before .next .ensures) ∙ c .before .step2 .given .1) .past .inside
 
--- src/lib.rt:82:30
 enum-told : tie.Need-enum-told
 enum-told c = search needs
 
--- src/lib.rt:87:22
 enum-told-2 : tie.Need-enum-told-2
 enum-told-2 c = search needs
 
--- src/lib.rt:70:1
 returns : tie.Need-returns
 returns c = head-word (now (c .before .before .before .before .before .args .s)) _ (c .before .before .before .before .before .pre) _ _ (sym (c .before .before .before .next .ensures) ∙ c .before .step .given .1)
 
--- src/lib.rt:70:1
 returns-2 : tie.Need-returns-2
 returns-2 c = head-open (now (c .before .before .before .before .before .before .args .s)) _ (c .before .before .before .before .before .before .pre) _ _ _ _ _ (sym (c .before .before .before .before .next .ensures) ∙ c .before .before .step2 .given .1) (c .operator .ensures)
 
--- src/lib.rt:70:1
 returns-3 : tie.Need-returns-3
 returns-3 c = head-close (now (c .before .before .before .before .args .s)) _ (c .before .before .before .before .pre) _ _ _ _ _ (sym (c .before .before .next .ensures) ∙ c .enum-told .given .1)
 
--- src/lib.rt:70:1
 returns-4 : tie.Need-returns-4
 returns-4 c = head-end (now (c .before .before .before .before .args .s)) _ (c .before .before .before .before .pre) _ _ _ (sym (c .before .before .next .ensures) ∙ c .enum-told2 .given .1)
 

@@ -1,63 +1,45 @@
 -- `building::leaf_form` meets its contract: a capital is a letter of the row, any other word an integer.
-use mathlib.Core.Path.{_≡_, sym, ap, _∙_}
+-- Assumes nothing.
+use mathlib.Core.Path.{sym, _∙_}
 use native.Mathlib.Omega.{arith}
 use Rattle.building.specs.laws.Leaves.{leaf-some, letter-index, letter-made, leaf-integer, integer-made}
 use borrow.Author.Needs.{needs}
 use Rattle.building.proofs.leaf_form.Statement.{statement}
 use Rattle.building.proofs.leaf_form.Tie as tie
-use Rattle.building.proofs.leaf_form.Reads as reads
-use Rattle.building.proofs.leaf_form.Lts as lts
-use Rattle.building.proofs.residue.Reads as residue-reads
-use Rattle.walks.proofs.integer.Reads as integer-reads
-use Rattle.walks.proofs.letter.Reads as letter-reads
-use Rattle.words.proofs.index_in.Reads as index-in-reads
-use Rattle.words.proofs.is_capital.Reads as is-capital-reads
 
--- src/lib.rt:203:26
 shared-slice-read-is-capital : tie.Need-shared-slice-read-is-capital
 shared-slice-read-is-capital c = leaf-some (c .before .before .before .before .pre)
 
--- src/lib.rt:203:8
 is-capital-requires : tie.Need-is-capital-requires
 is-capital-requires c κs = search needs
 
--- src/lib.rt:204:38
 shared-slice-read-index-in : tie.Need-shared-slice-read-index-in
 shared-slice-read-index-in c = leaf-some (c .before .before .before .before .before .before .before .pre)
 
--- src/lib.rt:204:13
 index-in-requires : tie.Need-index-in-requires
 index-in-requires c κs = search needs
 
--- src/lib.rt:205:33
 cast-letter : tie.Need-cast-letter
 cast-letter c = omega (arith, c .index-in .ensures, letter-index (c .before .before .before .before .before .before .before .before .pre) (sym (c .before .before .before .is-capital .ensures) ∙ c .before .before .if1 .taken))
 
--- src/lib.rt:205:9
 letter-requires : tie.Need-letter-requires
 letter-requires c κs = (omega (arith, c .before .index-in .ensures, letter-index (c .before .before .before .before .before .before .before .before .before .pre) (sym (c .before .before .before .before .is-capital .ensures) ∙ c .before .before .before .if1 .taken)), c .before .before .before .before .before .before .before .before .before .pre .room)
 
--- src/lib.rt:205:9
 same-length : tie.Need-same-length
 same-length c = search needs
 
--- src/lib.rt:205:9
 returns : tie.Need-returns
 returns c = letter-made (c .before .before .before .before .before .before .before .before .before .before .before .before .pre) _ _ _ (sym (c .before .before .before .before .before .before .before .is-capital .ensures) ∙ c .before .before .before .before .before .before .if1 .taken) (c .before .before .before .before .index-in .ensures) (c .before .before .letter .ensures)
 
--- src/lib.rt:207:23
 residue-requires : tie.Need-residue-requires
 residue-requires c κs = leaf-integer (c .before .before .before .before .before .before .pre) (sym (c .before .is-capital .ensures) ∙ c .if1 .left)
 
--- src/lib.rt:207:5
 integer-requires : tie.Need-integer-requires
 integer-requires c κs = (c .before .residue .ensures .0, omega (arith, c .before .before .before .before .before .before .before .before .pre .room))
 
--- src/lib.rt:199:1
 same-length-2 : tie.Need-same-length-2
 same-length-2 c = search needs
 
--- src/lib.rt:199:1
 returns-2 : tie.Need-returns-2
 returns-2 c = integer-made (c .before .before .before .before .before .before .before .before .before .before .before .pre) _ _ _ (sym (c .before .before .before .before .before .before .is-capital .ensures) ∙ c .before .before .before .before .before .if1 .left) (c .before .before .before .before .residue .ensures .1) (c .before .before .integer .ensures)
 

@@ -1,6 +1,6 @@
 -- `building::multiply` meets its contract: the product is made in out, and copied to the front.
-use mathlib.Core.Path.{_≡_, sym, ap, subst, _∙_}
-use Prim.Native.Nat.{_+_}
+-- Assumes nothing.
+use mathlib.Core.Path.{sym}
 use native.Mathlib.Omega.{arith}
 use lib.ListN.{length, take, drop}
 use lib.Seq.{length-take-le}
@@ -13,59 +13,43 @@ use Rattle.building.proofs.Stacks.{both-length, both-coded, both-produc
 use borrow.Author.Needs.{needs}
 use Rattle.building.proofs.multiply.Statement.{statement}
 use Rattle.building.proofs.multiply.Tie as tie
-use Rattle.building.proofs.multiply.Reads as reads
-use Rattle.building.proofs.multiply.Lts as lts
-use Rattle.building.proofs.product_parts.Reads as product-parts-reads
-use Rattle.coded.proofs.copy.Reads as copy-reads
 
 made : (c : tie.After-product-parts) → Begins (c .product-parts .result) (enc 0 (prodOf 0 (left (c .before .before .before .before .before .before .before .before .before .args .a) (c .before .before .before .before .before .before .before .before .before .args .stack .now)) (right (c .before .before .before .before .before .before .before .before .before .args .a) (c .before .before .before .before .before .before .before .before .before .args .b) (c .before .before .before .before .before .before .before .before .before .args .stack .now)))) (c .product-parts .last .1 .1 .0)
 made c = begins-as (c .product-parts .ensures) (both-product (c .before .before .before .before .before .before .before .before .before .args .a) (c .before .before .before .before .before .before .before .before .before .args .b) (c .before .before .before .before .before .before .before .before .before .args .stack .now))
 
--- src/lib.rt:277:13
 add-e : tie.Need-add-e
 add-e c = search needs
 
--- src/lib.rt:278:27
 slice-reshare-prefix-product-parts : tie.Need-slice-reshare-prefix-product-parts
 slice-reshare-prefix-product-parts c = search needs
 
--- src/lib.rt:278:27
 slice-aggregate-product-parts : tie.Need-slice-aggregate-product-parts
 slice-aggregate-product-parts c = sym (both-length (c .before .before .before .before .before .pre .0))
 
--- src/lib.rt:278:9
 product-parts-requires : tie.Need-product-parts-requires
 product-parts-requires c κs = (omega (arith, both-length (c .before .before .before .before .before .before .before .before .pre .0)), (both-coded (c .before .before .before .before .before .before .before .before .pre .0), both-space (c .before .before .before .before .before .before .before .before .args .a) (c .before .before .before .before .before .before .before .before .args .b) (c .before .before .before .before .before .before .before .before .args .stack .now) (c .before .before .before .before .before .before .before .before .pre .1 .0)))
 
--- src/lib.rt:279:17
 slice-reshare-prefix-copy : tie.Need-slice-reshare-prefix-copy
 slice-reshare-prefix-copy c = begins-le (made (c .before .before .before .before .before .before))
 
--- src/lib.rt:279:17
 slice-aggregate-copy : tie.Need-slice-aggregate-copy
 slice-aggregate-copy c = sym (length-take-le (c .before .before .before .before .before .before .before .product-parts .result) (c .before .before .before .before .before .before .before .product-parts .last .1 .1 .0) (begins-le (made (c .before .before .before .before .before .before .before))))
 
--- src/lib.rt:279:5
 copy-requires : tie.Need-copy-requires
 copy-requires c κs = omega (arith, length-take-le (c .before .before .before .before .before .before .before .before .product-parts .result) (c .before .before .before .before .before .before .before .before .product-parts .last .1 .1 .0) (begins-le (made (c .before .before .before .before .before .before .before .before))), made (c .before .before .before .before .before .before .before .before) .size, c .before .before .before .before .before .before .before .before .before .before .before .before .before .before .before .before .before .pre .1 .1)
 
--- src/lib.rt:264:1
 same-length : tie.Need-same-length
 same-length c = search needs
 
--- src/lib.rt:264:1
 same-length-2 : tie.Need-same-length-2
 same-length-2 c = search needs
 
--- src/lib.rt:264:1
 same-length-3 : tie.Need-same-length-3
 same-length-3 c = search needs
 
--- src/lib.rt:264:1
 same-length-4 : tie.Need-same-length-4
 same-length-4 c = search needs
 
--- src/lib.rt:264:1
 returns : tie.Need-returns
 returns c = copied-front (drop (length (take (c .before .before .before .before .before .before .before .before .before .before .before .product-parts .result) (c .before .before .before .before .before .before .before .before .before .before .before .product-parts .last .1 .1 .0))) (c .before .before .before .before .before .before .before .before .before .before .before .before .before .before .before .before .before .before .before .before .args .stack .now)) (made (c .before .before .before .before .before .before .before .before .before .before .before)) (c .before .before .copy .ensures)
 

@@ -1,5 +1,6 @@
 -- `building::negate_front` meets its contract: the negative is made in out, and copied back.
-use mathlib.Core.Path.{_≡_, sym, ap, subst, _∙_}
+-- Assumes nothing.
+use mathlib.Core.Path.{sym}
 use native.Mathlib.Omega.{arith}
 use lib.ListN.{length, take, drop}
 use lib.Seq.{length-take-le}
@@ -11,44 +12,31 @@ use Rattle.products.proofs.Products.{copied-front}
 use borrow.Author.Needs.{needs}
 use Rattle.building.proofs.negate_front.Statement.{statement}
 use Rattle.building.proofs.negate_front.Tie as tie
-use Rattle.building.proofs.negate_front.Reads as reads
-use Rattle.building.proofs.negate_front.Lts as lts
-use Rattle.coded.proofs.copy.Reads as copy-reads
-use Rattle.walks.proofs.negate.Reads as negate-reads
 
--- src/lib.rt:216:30
 slice-reshare-prefix-negate : tie.Need-slice-reshare-prefix-negate
 slice-reshare-prefix-negate c = search needs
 
--- src/lib.rt:216:30
 slice-aggregate-negate : tie.Need-slice-aggregate-negate
 slice-aggregate-negate c = sym (length-take-le (c .before .before .before .args .n) (c .before .before .before .args .stack .now) (c .before .before .before .pre .0 .0))
 
--- src/lib.rt:216:9
 negate-requires : tie.Need-negate-requires
 negate-requires c κs = (c .before .before .before .before .pre .1, omega (arith, length-take-le (c .before .before .before .before .args .n) (c .before .before .before .before .args .stack .now) (c .before .before .before .before .pre .0 .0), c .before .before .before .before .pre .0 .1))
 
--- src/lib.rt:217:17
 slice-reshare-prefix-copy : tie.Need-slice-reshare-prefix-copy
 slice-reshare-prefix-copy c = begins-le (c .before .before .negate .ensures)
 
--- src/lib.rt:217:17
 slice-aggregate-copy : tie.Need-slice-aggregate-copy
 slice-aggregate-copy c = sym (length-take-le (c .before .before .before .negate .result) (c .before .before .before .negate .last .1 .1 .0) (begins-le (c .before .before .before .negate .ensures)))
 
--- src/lib.rt:217:5
 copy-requires : tie.Need-copy-requires
 copy-requires c κs = omega (arith, length-take-le (c .before .before .before .before .negate .result) (c .before .before .before .before .negate .last .1 .1 .0) (begins-le (c .before .before .before .before .negate .ensures)), c .before .before .before .before .negate .ensures .size, negate-length 0 (dec 0 (take (c .before .before .before .before .before .before .before .before .before .args .n) (c .before .before .before .before .before .before .before .before .before .args .stack .now))), codes-length (c .before .before .before .before .before .before .before .before .before .pre .1), length-take-le (c .before .before .before .before .before .before .before .before .before .args .n) (c .before .before .before .before .before .before .before .before .before .args .stack .now) (c .before .before .before .before .before .before .before .before .before .pre .0 .0), c .before .before .before .before .before .before .before .before .before .pre .0 .0)
 
--- src/lib.rt:211:1
 same-length : tie.Need-same-length
 same-length c = search needs
 
--- src/lib.rt:211:1
 same-length-2 : tie.Need-same-length-2
 same-length-2 c = search needs
 
--- src/lib.rt:211:1
 returns : tie.Need-returns
 returns c = copied-front (drop (length (take (c .before .before .before .before .before .before .before .negate .result) (c .before .before .before .before .before .before .before .negate .last .1 .1 .0))) (c .before .before .before .before .before .before .before .before .before .before .before .before .args .stack .now)) (c .before .before .before .before .before .before .before .negate .ensures) (c .before .before .copy .ensures)
 

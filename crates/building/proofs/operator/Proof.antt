@@ -1,5 +1,6 @@
 -- `building::operator` meets its contract: the word that stands there, or none.
-use mathlib.Core.Path.{_≡_, sym, ap, _∙_}
+-- Assumes nothing.
+use mathlib.Core.Path.{sym, _∙_}
 use native.Mathlib.Omega.{arith}
 use denote.Ref.{now}
 use Rattle.tokens.specs.declared.Step.the-variants.{Word}
@@ -8,40 +9,28 @@ use Rattle.building.proofs.Answers.{not-word}
 use borrow.Author.Needs.{needs}
 use Rattle.building.proofs.operator.Statement.{statement}
 use Rattle.building.proofs.operator.Tie as tie
-use Rattle.building.proofs.operator.Reads as reads
-use Rattle.building.proofs.operator.Lts as lts
-use Rattle.tokens.proofs.Reader.next.Reads as next-reads
-use Rattle.words.proofs.operator_of.Reads as operator-of-reads
 
--- src/lib.rt:52:9
 next-requires : tie.Need-next-requires
 next-requires c κs = search needs
 
--- src/lib.rt:53:22
 enum-known-step : tie.Need-enum-known-step
 enum-known-step c = search needs
 
--- src/lib.rt:54:9
 returns : tie.Need-returns
 returns c = λ p w ks h. not-word (c .match .keys2) (c .before .next .ensures) h
 
--- src/lib.rt:61:35
 sub-operator-of : tie.Need-sub-operator-of
 sub-operator-of c = omega (arith, told (now (c .before .before .before .before .before .args .s)) _ (c .before .before .before .before .before .pre) (Word _ _) (sym (c .before .before .before .next .ensures) ∙ c .before .step .given .1) .past .more)
 
--- src/lib.rt:61:35
 part-operator-of-start : tie.Need-part-operator-of-start
 part-operator-of-start c = let o = told (now (c .before .before .before .before .before .args .s)) _ (c .before .before .before .before .before .pre) (Word _ _) (sym (c .before .before .before .next .ensures) ∙ c .before .step .given .1) in omega (arith, o .past .more, o .past .inside)
 
--- src/lib.rt:61:35
 part-operator-of-end : tie.Need-part-operator-of-end
 part-operator-of-end c = let o = told (now (c .before .before .before .before .before .args .s)) _ (c .before .before .before .before .before .pre) (Word _ _) (sym (c .before .before .before .next .ensures) ∙ c .before .step .given .1) in omega (arith, o .past .more, o .past .inside)
 
--- src/lib.rt:61:9
 operator-of-requires : tie.Need-operator-of-requires
 operator-of-requires c κs = search needs
 
--- src/lib.rt:48:1
 returns-2 : tie.Need-returns-2
 returns-2 c = operator-is (now (c .before .before .before .before .before .before .before .args .s)) _ (c .before .before .before .before .before .before .before .pre) _ _ _ (sym (c .before .before .before .before .before .next .ensures) ∙ c .before .before .before .step .given .1) (c .operator-of .ensures)
 

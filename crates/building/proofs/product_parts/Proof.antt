@@ -1,7 +1,7 @@
 -- `building::product_parts` meets its contract: `products::product` of the two parts.
-use mathlib.Core.Path.{_≡_, sym, ap, subst, _∙_}
-use native.Mathlib.Omega.{arith}
-use lib.ListN.{length, take, drop}
+-- Assumes nothing.
+use mathlib.Core.Path.{sym, ap, subst}
+use lib.ListN.{length, take}
 use lib.Seq.{length-take-le}
 use Rattle.coded.specs.Coding.{Coded, dec, enc}
 use Rattle.coded.specs.laws.Codes.{tail-part}
@@ -11,47 +11,34 @@ use Rattle.fits.specs.Tables.{Space}
 use borrow.Author.Needs.{needs}
 use Rattle.building.proofs.product_parts.Statement.{statement}
 use Rattle.building.proofs.product_parts.Tie as tie
-use Rattle.building.proofs.product_parts.Reads as reads
-use Rattle.building.proofs.product_parts.Lts as lts
-use Rattle.products.proofs.product.Reads as product-reads
 
--- src/lib.rt:260:26
 slice-aggregate-product : tie.Need-slice-aggregate-product
 slice-aggregate-product c = sym (length-take-le (c .before .before .before .before .before .args .n) (c .before .before .before .before .before .args .s .now) (c .before .before .before .before .before .pre .0))
 
--- src/lib.rt:260:35
 mul-product : tie.Need-mul-product
 mul-product c = search needs
 
--- src/lib.rt:260:35
 sub-product : tie.Need-sub-product
 sub-product c = search needs
 
--- src/lib.rt:260:35
 part-product-start : tie.Need-part-product-start
 part-product-start c = search needs
 
--- src/lib.rt:260:35
 part-product-end : tie.Need-part-product-end
 part-product-end c = search needs
 
--- src/lib.rt:260:5
 product-requires : tie.Need-product-requires
 product-requires c κs = ((c .before .before .before .before .before .before .before .before .before .pre .1 .0 .0, subst (Coded 0) (sym (tail-part (c .before .before .before .before .before .before .before .before .before .args .n) (c .before .before .before .before .before .before .before .before .before .args .s .now))) (c .before .before .before .before .before .before .before .before .before .pre .1 .0 .1)), subst (λ l. Space 0 (dec 0 (take (c .before .before .before .before .before .before .before .before .before .args .n) (c .before .before .before .before .before .before .before .before .before .args .s .now))) (dec 0 l) (length (c .before .before .before .before .before .before .before .before .before .args .out .now)) (length (c .before .before .before .before .before .before .before .before .before .args .t .now)) (length (c .before .before .before .before .before .before .before .before .before .args .u .now))) (sym (tail-part (c .before .before .before .before .before .before .before .before .before .args .n) (c .before .before .before .before .before .before .before .before .before .args .s .now))) (c .before .before .before .before .before .before .before .before .before .pre .1 .1))
 
--- src/lib.rt:254:1
 same-length : tie.Need-same-length
 same-length c = search needs
 
--- src/lib.rt:254:1
 same-length-2 : tie.Need-same-length-2
 same-length-2 c = search needs
 
--- src/lib.rt:254:1
 same-length-3 : tie.Need-same-length-3
 same-length-3 c = search needs
 
--- src/lib.rt:254:1
 returns : tie.Need-returns
 returns c = begins-as (c .before .before .before .before .before .before .product .ensures) (ap (λ l. enc 0 (prodOf 0 (dec 0 (take (c .before .before .before .before .before .before .before .before .before .before .before .before .before .before .before .before .args .n) (c .before .before .before .before .before .before .before .before .before .before .before .before .before .before .before .before .args .s .now))) (dec 0 l))) (tail-part (c .before .before .before .before .before .before .before .before .before .before .before .before .before .before .before .before .args .n) (c .before .before .before .before .before .before .before .before .before .before .before .before .before .before .before .before .args .s .now)))
 

@@ -1,7 +1,8 @@
 -- `building::subtract` meets its contract: the second form is negated in its place, and added.
-use mathlib.Core.Path.{_≡_, sym, ap, subst, _∙_}
+-- Assumes nothing.
+use mathlib.Core.Path.{sym, subst}
 use native.Mathlib.Omega.{arith}
-use lib.ListN.{length, take, drop}
+use lib.ListN.{take}
 use Rattle.coded.specs.Coding.{Coded}
 use Rattle.coded.specs.laws.Codes.{tail-part}
 use Rattle.coded.proofs.Lists.{begins-as, length-tail-part}
@@ -9,44 +10,31 @@ use Rattle.building.proofs.Stacks.{left-some, negated-size, negated-pai
 use borrow.Author.Needs.{needs}
 use Rattle.building.proofs.subtract.Statement.{statement}
 use Rattle.building.proofs.subtract.Tie as tie
-use Rattle.building.proofs.subtract.Reads as reads
-use Rattle.building.proofs.subtract.Lts as lts
-use Rattle.building.proofs.add.Reads as add-reads
-use Rattle.building.proofs.negate_front.Reads as negate-front-reads
 
--- src/lib.rt:249:26
 mul-negate-front : tie.Need-mul-negate-front
 mul-negate-front c = search needs
 
--- src/lib.rt:249:26
 sub-negate-front : tie.Need-sub-negate-front
 sub-negate-front c = search needs
 
--- src/lib.rt:249:26
 part-negate-front-start : tie.Need-part-negate-front-start
 part-negate-front-start c = search needs
 
--- src/lib.rt:249:26
 part-negate-front-end : tie.Need-part-negate-front-end
 part-negate-front-end c = search needs
 
--- src/lib.rt:249:9
 negate-front-requires : tie.Need-negate-front-requires
 negate-front-requires c κs = ((omega (arith, length-tail-part (c .before .before .before .before .args .a) (c .before .before .before .before .args .stack .now), c .before .before .before .before .pre .0 .fits), omega (arith, left-some (c .before .before .before .before .pre .0), c .before .before .before .before .pre .1)), subst (λ l. Coded 0 (take (c .before .before .before .before .args .b) l)) (sym (tail-part (c .before .before .before .before .args .a) (c .before .before .before .before .args .stack .now))) (c .before .before .before .before .pre .0 .coded-right))
 
--- src/lib.rt:250:5
 add-requires : tie.Need-add-requires
 add-requires c κs = (negated-pair (c .before .before .before .before .before .before .before .before .before .before .before .pre .0) (c .before .before .before .before .before .before .negate-front .ensures) (c .before .before .before .before .before .stack .given .1), omega (arith, negated-size (c .before .before .before .before .before .before .before .before .before .before .before .pre .0) (c .before .before .before .before .before .before .negate-front .ensures), c .before .before .before .before .before .before .before .before .before .before .before .pre .1))
 
--- src/lib.rt:244:1
 same-length : tie.Need-same-length
 same-length c = search needs
 
--- src/lib.rt:244:1
 same-length-2 : tie.Need-same-length-2
 same-length-2 c = search needs
 
--- src/lib.rt:244:1
 returns : tie.Need-returns
 returns c = begins-as (c .before .before .before .before .add .ensures) (negated-sum (c .before .before .before .before .before .before .before .before .before .before .before .before .before .before .before .before .pre .0) (c .before .before .before .before .before .before .before .before .before .before .before .negate-front .ensures))
 

@@ -1,7 +1,8 @@
 -- `building::sum_parts` meets its contract: `sums::sum` of the two parts.
-use mathlib.Core.Path.{_≡_, sym, ap, subst, _∙_}
+-- Assumes nothing.
+use mathlib.Core.Path.{sym, ap, subst}
 use native.Mathlib.Omega.{arith}
-use lib.ListN.{length, take, drop}
+use lib.ListN.{take}
 use lib.Seq.{length-take-le}
 use Rattle.coded.specs.Coding.{Coded, dec, enc}
 use Rattle.coded.specs.Operations.{sumOf}
@@ -10,39 +11,28 @@ use Rattle.coded.proofs.Lists.{begins-as, length-tail-part}
 use borrow.Author.Needs.{needs}
 use Rattle.building.proofs.sum_parts.Statement.{statement}
 use Rattle.building.proofs.sum_parts.Tie as tie
-use Rattle.building.proofs.sum_parts.Reads as reads
-use Rattle.building.proofs.sum_parts.Lts as lts
-use Rattle.sums.proofs.sum.Reads as sum-reads
 
--- src/lib.rt:228:18
 slice-aggregate-sum : tie.Need-slice-aggregate-sum
 slice-aggregate-sum c = sym (length-take-le (c .before .before .before .args .n) (c .before .before .before .args .s .now) (c .before .before .before .pre .0))
 
--- src/lib.rt:228:27
 mul-sum : tie.Need-mul-sum
 mul-sum c = search needs
 
--- src/lib.rt:228:27
 sub-sum : tie.Need-sub-sum
 sub-sum c = search needs
 
--- src/lib.rt:228:27
 part-sum-start : tie.Need-part-sum-start
 part-sum-start c = search needs
 
--- src/lib.rt:228:27
 part-sum-end : tie.Need-part-sum-end
 part-sum-end c = search needs
 
--- src/lib.rt:228:5
 sum-requires : tie.Need-sum-requires
 sum-requires c κs = ((c .before .before .before .before .before .pre .1 .0 .0, subst (Coded 0) (sym (tail-part (c .before .before .before .before .before .args .n) (c .before .before .before .before .before .args .s .now))) (c .before .before .before .before .before .pre .1 .0 .1)), omega (arith, c .before .before .before .before .before .pre .0, length-take-le (c .before .before .before .before .before .args .n) (c .before .before .before .before .before .args .s .now) (c .before .before .before .before .before .pre .0), length-tail-part (c .before .before .before .before .before .args .n) (c .before .before .before .before .before .args .s .now), c .before .before .before .before .before .pre .1 .1))
 
--- src/lib.rt:222:1
 same-length : tie.Need-same-length
 same-length c = search needs
 
--- src/lib.rt:222:1
 returns : tie.Need-returns
 returns c = begins-as (c .before .before .sum .ensures) (ap (λ l. enc 0 (sumOf 0 (dec 0 (take (c .before .before .before .before .before .before .before .before .args .n) (c .before .before .before .before .before .before .before .before .args .s .now))) (dec 0 l))) (tail-part (c .before .before .before .before .before .before .before .before .args .n) (c .before .before .before .before .before .before .before .before .args .s .now)))
 

@@ -1,6 +1,6 @@
 -- `building::zero_power` meets its contract: the word behind the base begins with `0` exactly where the exponent is 0.
-use mathlib.Core.Path.{_≡_, sym, ap, subst, _∙_}
-use native.Mathlib.Omega.{arith}
+-- Assumes nothing.
+use mathlib.Core.Path.{sym, subst, _∙_}
 use denote.Ref.{now}
 use Rattle.building.specs.Standing.{Zeroed}
 use Rattle.building.specs.laws.Exponents.{zero-other, zero-no-word, word-inside, next-inside, zero-more, zero-yes}
@@ -8,45 +8,31 @@ use Rattle.building.proofs.Answers.{not-word}
 use borrow.Author.Needs.{needs}
 use Rattle.building.proofs.zero_power.Statement.{statement}
 use Rattle.building.proofs.zero_power.Tie as tie
-use Rattle.building.proofs.zero_power.Reads as reads
-use Rattle.building.proofs.zero_power.Lts as lts
-use Rattle.building.proofs.past.Reads as past-reads
-use Rattle.building.proofs.skip.Reads as skip-reads
-use Rattle.tokens.proofs.Reader.next.Reads as next-reads
 
--- src/lib.rt:160:9
 returns : tie.Need-returns
 returns c = zero-other (now (c .before .before .args .s)) _ _ (c .if1 .taken)
 
--- src/lib.rt:162:9
 skip-requires : tie.Need-skip-requires
 skip-requires c κs = search needs
 
--- src/lib.rt:163:9
 next-requires : tie.Need-next-requires
 next-requires c κs = search needs
 
--- src/lib.rt:164:22
 enum-known-step : tie.Need-enum-known-step
 enum-known-step c = search needs
 
--- src/lib.rt:165:9
 returns-2 : tie.Need-returns-2
 returns-2 c = subst (λ g. Zeroed (now (c .before .before .before .before .before .args .s)) g (c .before .before .before .before .before .args .at) 0) (sym (c .before .before .before .if1 .left)) (zero-no-word (now (c .before .before .before .before .before .args .s)) _ _ (c .before .before .skip .ensures) (λ p w ks h. not-word (c .match .keys2) (c .before .next .ensures) h))
 
--- src/lib.rt:167:8
 shared-slice-read-if2 : tie.Need-shared-slice-read-if2
 shared-slice-read-if2 c = word-inside (now (c .before .before .before .before .before .before .before .before .args .s)) _ _ (c .before .before .before .before .before .skip .ensures) _ _ (sym (c .before .before .before .before .next .ensures) ∙ c .before .before .step .given .1)
 
--- src/lib.rt:168:9
 returns-3 : tie.Need-returns-3
 returns-3 c = subst (λ g. Zeroed (now (c .before .before .before .before .before .before .before .before .before .args .s)) g (c .before .before .before .before .before .before .before .before .before .args .at) 0) (sym (c .before .before .before .before .before .before .before .if1 .left)) (zero-more (now (c .before .before .before .before .before .before .before .before .before .args .s)) _ _ (c .before .before .before .before .before .before .skip .ensures) _ _ (sym (c .before .before .before .before .before .next .ensures) ∙ c .before .before .before .step .given .1) (c .if2 .taken))
 
--- src/lib.rt:170:5
 past-requires : tie.Need-past-requires
 past-requires c κs = next-inside (now (c .before .before .before .before .before .before .before .before .before .args .s)) _ _ (c .before .before .before .before .before .before .skip .ensures) _ _ (sym (c .before .before .before .before .before .next .ensures) ∙ c .before .before .before .step .given .1)
 
--- src/lib.rt:155:1
 returns-4 : tie.Need-returns-4
 returns-4 c = subst (λ g. Zeroed (now (c .before .before .before .before .before .before .before .before .before .before .args .s)) g (c .before .before .before .before .before .before .before .before .before .before .args .at) (c .past .result)) (sym (c .before .before .before .before .before .before .before .before .if1 .left)) (zero-yes (now (c .before .before .before .before .before .before .before .before .before .before .args .s)) _ _ (c .before .before .before .before .before .before .before .skip .ensures) _ _ (sym (c .before .before .before .before .before .before .next .ensures) ∙ c .before .before .before .before .step .given .1) _ (c .before .if2 .left) (c .past .ensures))
 

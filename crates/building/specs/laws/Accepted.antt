@@ -1,9 +1,8 @@
 -- An accepted term stands at the beginning of its text, and its stack has room.
-use mathlib.Core.List.{List, [], _∷_, _++_, append-nil}
-use mathlib.Core.Path.{_≡_, refl, sym, ap, _∙_}
-use Prim.Native.Nat.{ℕ, _≤_}
+use mathlib.Core.List.{List, [], append-nil}
+use mathlib.Core.Path.{_≡_, sym, _∙_}
+use Prim.Native.Nat.{ℕ}
 use native.Mathlib.Omega.{arith}
-use lib.ListN.{length, drop}
 use Rattle.texts.specs.definitions.Answer.{read}
 use Rattle.texts.specs.definitions.Limits.{acceptTerm}
 use Rattle.texts.specs.definitions.Tokens.{tokens}

@@ -1,15 +1,14 @@
 -- A term built from its parts: what each step asks for, and what it gives.
-use mathlib.Core.Bool.{Bool, true, false, true≢false, _&&_}
+use mathlib.Core.Bool.{true, false, true≢false}
 use mathlib.Core.List.{List, [], _∷_, _++_, append-assoc}
 use mathlib.Core.Path.{_≡_, refl, sym, ap, _∙_, subst}
-use Prim.Native.Nat.{ℕ, zero, suc, _+_, _-_, _≤_, _<_, min, max}
+use Prim.Native.Nat.{ℕ, zero, suc, _+_, _-_, _≤_, _<_, min}
 use native.Mathlib.Omega.{arith}
 use borrow.Author.Tests.{leb-true}
-use borrow.Rule.Slice.PartMut.{putMid, take-put}
-use lib.ListN.{length, take, drop, set}
+use lib.ListN.{length, take, drop}
 use Rattle.horner.specs.definitions.Form.{Form}
 use Rattle.horner.specs.definitions.Residues.{redℤ, prime, prime-pos}
-use Rattle.horner.specs.definitions.Term.{Term, Over, normP}
+use Rattle.horner.specs.definitions.Term.{Over, normP}
 use Rattle.horner.specs.laws.Degree.{bounded-mono}
 use Rattle.horner.specs.laws.Limits.{length-degreesOf}
 use Rattle.coded.specs.Coding.{enc, dec, Good, Codes, Coded, Begins, Made}
@@ -17,27 +16,27 @@ use Rattle.coded.specs.Operations.{sumOf, negateOf}
 use Rattle.coded.specs.Widths.{Leaf}
 use Rattle.coded.specs.laws.Codes.{dec-enc, coded}
 use Rattle.coded.specs.laws.Good.{good-at}
-use Rattle.fits.specs.Fit.{prodOf, Held}
-use Rattle.fits.specs.Tables.{wordsFor, Tables, Space}
+use Rattle.fits.specs.Fit.{prodOf}
+use Rattle.fits.specs.Tables.{Tables, Space}
 use Rattle.fits.specs.laws.Lists.{below-limits}
 use Rattle.fits.specs.laws.Tables.{tables-for}
 use Rattle.fits.specs.laws.Terms.{term-within, terms-fit}
 use Rattle.horner.specs.laws.Room.{words-3073}
-use Rattle.horner.specs.definitions.Measures.{degreesOf, termsOf, AllLe}
+use Rattle.horner.specs.definitions.Measures.{degreesOf}
 use Rattle.coded.specs.Widths.{ringOf}
 use Rattle.coded.specs.laws.Sizes.{size-enc}
 use Rattle.powers.specs.Raise.{raiseOf, Raising}
 use Rattle.powers.specs.laws.Terms.{term-raising}
-use Rattle.texts.specs.definitions.Bytes.{isRow, capital, inRow}
+use Rattle.texts.specs.definitions.Bytes.{isRow}
 use Rattle.texts.specs.definitions.Numerals.{dec as decimal}
-use Rattle.texts.specs.definitions.Parts.{Part, itself, in-neg, in-left, in-right, in-base, Fits}
-use Rattle.texts.specs.definitions.Tokens.{Token, opening, closing, word}
+use Rattle.texts.specs.definitions.Parts.{itself, in-neg, in-left, in-right, in-base, Fits}
+use Rattle.texts.specs.definitions.Tokens.{Token, closing, word}
 use Rattle.texts.specs.definitions.Tree.{Sign, add, sub, mul, Tree, num, letter, neg, two, power, placed, termOf, letters}
 use Rattle.textlaws.specs.laws.Bytes.{and-l, and-r}
 use Rattle.textlaws.specs.laws.Rows.{row-length, letters-over}
 use Rattle.tokens.specs.Views.{from}
-use Rattle.building.specs.Standing.{signKind, kindOf, leafWord, firstOf, secondOf, inner, tailOf, isZero, zeroPower, Onto, HeadIs, Headed, Passed, ZeroIs, Zeroed, Raised, ExponentRead, fit, OneLeaf, LeafMade}
-use Rattle.building.specs.Stack.{left, right, Pair, combined, Combining, wordsOf, lowerWords, need, Stands, ReadyAt, Done, Finished}
+use Rattle.building.specs.Standing.{signKind, kindOf, firstOf, secondOf, inner, tailOf, zeroPower, HeadIs, Headed, Passed, ZeroIs, Zeroed, Raised, ExponentRead, fit, OneLeaf, LeafMade}
+use Rattle.building.specs.Stack.{combined, Combining, wordsOf, lowerWords, need, Stands, ReadyAt, Done, Finished}
 use Rattle.building.specs.laws.Same.{same-term}
 use Rattle.building.specs.laws.Words.{lower-words}
 

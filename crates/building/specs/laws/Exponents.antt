@@ -1,21 +1,21 @@
 -- The exponent of a power: read as a number, and told to be 0 before the base is built.
-use mathlib.Core.Bool.{Bool, true, false}
+use mathlib.Core.Bool.{true, false}
 use mathlib.Core.List.{List, [], _∷_, _++_, append-assoc}
-use mathlib.Core.Path.{_≡_, refl, sym, ap, _∙_, subst}
+use mathlib.Core.Path.{_≡_, refl, sym, ap, _∙_}
 use Prim.Native.Nat.{ℕ, zero, suc, _+_, _-_, _≤_, _<_, min}
 use native.Mathlib.Omega.{arith}
 use lib.ListN.{length, take, drop, getD}
 use lib.Seq.{getD-take, getD-drop}
 use Rattle.texts.specs.definitions.Bytes.{digit, all}
 use Rattle.texts.specs.definitions.Numerals.{dec, valueFrom}
-use Rattle.texts.specs.definitions.Tokens.{Token, opening, closing, word}
+use Rattle.texts.specs.definitions.Tokens.{Token, closing, word}
 use Rattle.texts.specs.definitions.Tree.{Sign, add, sub, mul, Tree, num, letter, neg, two, power, placed}
 use Rattle.textlaws.specs.laws.Numerals.{value-dec}
 use Rattle.tokens.specs.declared.Reader.{Reader}
 use Rattle.tokens.specs.declared.Step.the-variants.{Word}
 use Rattle.tokens.specs.Steps.{stepOf}
 use Rattle.tokens.specs.Views.{from, Worded}
-use Rattle.building.specs.Standing.{kindOf, signKind, inner, isZero, zeroPower, Onto, Passed, Skipped, ZeroIs, Zeroed, Raised, ExponentRead}
+use Rattle.building.specs.Standing.{kindOf, signKind, inner, isZero, zeroPower, Onto, Passed, Skipped, Zeroed, Raised, ExponentRead}
 use Rattle.building.specs.laws.Leaves.{dec-zero, dec-digits, dec-more}
 use Rattle.building.specs.laws.Reading.{told}
 

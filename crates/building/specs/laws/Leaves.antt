@@ -1,21 +1,19 @@
 -- What the words of a term stand for: integers by their remainders, letters by their places in the row, exponents.
-use mathlib.Core.Bool.{Bool, true, false, true≢false, _&&_}
-use mathlib.Core.List.{List, [], _∷_, _++_}
+use mathlib.Core.Bool.{true, false, true≢false}
+use mathlib.Core.List.{List, [], _∷_}
 use mathlib.Core.Path.{_≡_, refl, sym, ap, _∙_, subst}
-use Prim.Native.Nat.{ℕ, zero, suc, _+_, _-_, _≤_, _<_, min, _%_}
+use Prim.Native.Nat.{ℕ, zero, suc, _-_, _≤_, _<_, min, _%_}
 use native.Mathlib.Nat as NatL
 use native.Mathlib.Omega.{arith}
-use borrow.Author.Tests.{eqb-false, leb-true}
-use lib.Dec.{eqb}
+use borrow.Author.Tests.{eqb-false}
 use lib.IntN.{ℤ, pos, negsuc, natAbs}
-use lib.ListN.{length, take, drop, getD}
-use Rattle.horner.specs.definitions.Form.{Form, int}
-use Rattle.horner.specs.definitions.Residues.{Res, red, redℤ, prime, prime-pos}
-use Rattle.horner.specs.definitions.Term.{normP}
+use lib.ListN.{length, drop, getD}
+use Rattle.horner.specs.definitions.Form.{int}
+use Rattle.horner.specs.definitions.Residues.{red, redℤ, prime, prime-pos}
 use Rattle.coded.specs.Coding.{Begins, enc}
-use Rattle.coded.specs.Widths.{Leaf, leaf}
+use Rattle.coded.specs.Widths.{leaf}
 use Rattle.walks.specs.Shapes.{letterOf}
-use Rattle.texts.specs.definitions.Bytes.{digit, all, capital, inRow, isRow, indexIn}
+use Rattle.texts.specs.definitions.Bytes.{digit, all, capital, inRow, indexIn}
 use Rattle.texts.specs.definitions.Numerals.{dec, writeInt, readInt, valueFrom}
 use Rattle.texts.specs.definitions.Tree.{Tree, num, letter, neg, two, power, Sign, add, sub, mul, termOf, letters}
 use Rattle.textlaws.specs.laws.Bytes.{and-l, and-r, and-i, digit-range}

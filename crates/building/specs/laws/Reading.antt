@@ -1,12 +1,11 @@
 -- What the tokens of a term say, to a reader that knows that a term stands there.
-use mathlib.Core.Bool.{Bool, true, false}
 use mathlib.Core.List.{List, [], _∷_, _++_, append-assoc}
 use mathlib.Core.Path.{_≡_, refl, sym, ap, _∙_, subst}
-use Prim.Native.Nat.{ℕ, zero, suc, _+_, _-_, _≤_, _<_, min}
+use Prim.Native.Nat.{ℕ, zero, suc, _+_, _-_, _≤_, _<_}
 use native.Mathlib.Omega.{arith}
-use lib.ListN.{length, take, drop, getD}
+use lib.ListN.{length, take, drop}
 use Rattle.texts.specs.definitions.Bytes.{bytes}
-use Rattle.texts.specs.definitions.Numerals.{dec, writeInt}
+use Rattle.texts.specs.definitions.Numerals.{dec}
 use Rattle.texts.specs.definitions.Tokens.{Token, opening, closing, word}
 use Rattle.texts.specs.definitions.Tree.{Sign, add, sub, mul, signText, Tree, num, letter, neg, two, power, placed}
 use Rattle.tokens.specs.declared.Reader.{Reader}
@@ -15,7 +14,7 @@ use Rattle.tokens.specs.declared.Step.the-variants.{Open, Close, Word, End}
 use Rattle.tokens.specs.Steps.{stepOf}
 use Rattle.tokens.specs.Views.{from, Says, says, Opened, Closed, Worded}
 use Rattle.words.specs.Words.{operatorOf}
-use Rattle.building.specs.Standing.{signKind, kindOf, leafWord, firstOf, secondOf, inner, tailOf, isZero, zeroPower, Onto, Operated, HeadIs, Headed, Passed, skipBy, skips, skipOne, Turned, Skipped, ZeroIs, Zeroed}
+use Rattle.building.specs.Standing.{signKind, Onto, Operated, Headed, Passed, skips, skipOne, Turned}
 
 -- ---- tokens that differ
 opening-word : {p q : ℕ} {w : List ℕ} {ks ls : List Token} {P : Type 0} → opening p ∷ ks ≡ word q w ∷ ls → P

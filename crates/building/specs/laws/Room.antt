@@ -1,14 +1,14 @@
 -- The stack that an accepted term asks for: 12 words for each of its terms, 766 for each nesting, and 4.
-use mathlib.Core.Bool.{true, _&&_}
+use mathlib.Core.Bool.{true}
 use mathlib.Core.List.{List, [], _∷_}
 use mathlib.Core.Path.{_≡_, refl, sym, ap, _∙_}
-use Prim.Native.Nat.{ℕ, zero, suc, _+_, _*_, _^_, _≤_, _<_, min, max}
+use Prim.Native.Nat.{ℕ, zero, suc, _+_, _*_, _^_, _≤_, min, max}
 use native.Mathlib.Nat as NatL
 use native.Mathlib.Omega.{arith}
 use lib.ListN.{length}
 use Rattle.horner.specs.definitions.Measures.{multiples, maxs, sums, box, boxOf, degreesOf, termsOf}
-use Rattle.horner.specs.definitions.Term.{Term, plus, diff, times, expt, Over}
-use Rattle.horner.specs.laws.Degree.{Below, maxs-left, maxs-right}
+use Rattle.horner.specs.definitions.Term.{Term, expt, Over}
+use Rattle.horner.specs.laws.Degree.{maxs-left, maxs-right}
 use Rattle.horner.specs.laws.Limits.{length-degreesOf, termsOf-pos}
 use Rattle.fits.specs.laws.Lists.{box-below, sums-left, sums-right}
 use Rattle.powers.specs.laws.Raise.{below-multiples, power-pos}
@@ -17,8 +17,8 @@ use Rattle.texts.specs.definitions.Tree.{Sign, add, sub, mul, Tree, num, letter
 use Rattle.textlaws.specs.laws.Bytes.{and-l, and-r}
 use Rattle.textlaws.specs.laws.Rows.{letters-over}
 use Rattle.building.specs.Standing.{fit}
-use Rattle.building.specs.Stack.{wordsOf, lowerWords, need}
-use Rattle.building.specs.laws.Words.{words-by-terms, words-by-box, terms-by-box, lower-terms}
+use Rattle.building.specs.Stack.{wordsOf, need}
+use Rattle.building.specs.laws.Words.{words-by-terms, words-by-box, terms-by-box}
 
 -- ---- boxes of operands
 module _ (n : ℕ) (s t : Term) (p : Over n s) (q : Over n t) where

@@ -1,21 +1,23 @@
 -- A form fits with each of its powers below one that fits.
 use mathlib.Core.List.{List, [], _∷_}
 use mathlib.Core.Path.{_≡_, refl, sym, _∙_, ap, ap₂, subst}
-use Prim.Native.Nat.{ℕ, zero, suc, _+_, _-_, _*_, _^_, _<_, _≤_, min}
+use Prim.Native.Nat.{ℕ, zero, suc, _+_, _-_, _^_, _<_, _≤_}
 use native.Mathlib.Nat as NatL
 use native.Mathlib.Omega.{arith}
 use lib.ListN.{length}
 use Rattle.horner.specs.definitions.Form.{Form, int, raise}
-use Rattle.horner.specs.definitions.Measures.{sums, multiples, box, AllLe, one-if, count}
+use Rattle.horner.specs.definitions.Measures.{sums, multiples, box, AllLe, one-if}
 use Rattle.horner.specs.laws.Bounds.{bounded-raise}
 use Rattle.horner.specs.laws.Count.{count-size, one-if-le}
 use Rattle.horner.specs.laws.Degree.{Below, all-le-below}
 use Rattle.horner.specs.laws.Measure.{meas-raise}
 use Rattle.horner.specs.laws.Normal.{normal-raise}
+use Rattle.coded.specs.Coding.{enc}
 use Rattle.coded.specs.Widths.{Leaf, ringOf}
+use Rattle.coded.specs.laws.Good.{good-int}
 use Rattle.coded.specs.laws.Sizes.{enc-pos}
 use Rattle.fits.specs.Fit.{prodOf, Within, Fit, Held}
-use Rattle.fits.specs.Tables.{wordsFor, Tables, Space}
+use Rattle.fits.specs.Tables.{Space}
 use Rattle.fits.specs.laws.Fit.{fit-prod}
 use Rattle.fits.specs.laws.Lists.{first-le, box-below}
 use Rattle.powers.specs.Raise.{raiseOf, Raising}
@@ -104,3 +106,14 @@ module _ {w k n s o t u : ℕ} {x : Form (Leaf w)} (r : Raising w x k n s o t u)
 
   pub raise-behind : 0 < k → n < s
   raise-behind l = omega (arith, enc-pos w (raiseOf w x 0), r .lower 0 l, r .fits)
+
+-- the power itself
+one-held : (w : ℕ) (x : Form (Leaf w)) → Held w (raiseOf w x 0)
+unfolding raiseOf enc
+one-held w x = record { good = good-int w (ringOf w .unit); words = omega arith }
+
+pub raise-held : {w n s o t u : ℕ} {x : Form (Leaf w)} (k : ℕ) → Raising w x k n s o t u → Held w (raiseOf w x k)
+raise-held {w} {x = x} zero r = one-held w x
+raise-held {w} {x = x} (suc k) r =
+    let e : k + 1 ≡ suc k = omega arith in
+    subst (Held w) (raise-more w x k ∙ ap (raiseOf w x) e) (fit-prod (raise-fit r k (omega arith)))
