@@ -1,0 +1,26 @@
+-- The calls on one term: its form's text, and its remainder at a point.
+use mathlib.Core.List.{List}
+use Prim.Native.Nat.{ℕ}
+use lib.Dec.{eqb}
+use lib.IntN.{ℤ}
+use lib.ListN.{length}
+use Rattle.horner.specs.definitions.Residues.{redℤ, prime, prime-pos}
+use Rattle.horner.specs.definitions.Term.{normℤ, evalℤ}
+use Rattle.texts.specs.definitions.FormText.{text}
+use Rattle.texts.specs.definitions.Limits.{acceptTerm}
+use Rattle.texts.specs.definitions.Tree.{termOf}
+use Rattle.calls.specs.definitions.Reply.{Reply, gives, left, asked, readAs, opened, fitted}
+
+-- "reads a term and writes its form": the term s over the row, into n bytes
+unfoldable pub formReply : (row tables s : List ℕ) (n : ℕ) → Reply (List ℕ)
+formReply row tables s n = opened row tables (λ u. readAs left (acceptTerm row s) (λ t. fitted n (text (normℤ (termOf row t)))))
+
+-- "A remainder is from 0 to P - 1, also for negative values."
+abbrev pub remainder : ℤ → ℕ
+remainder z = redℤ prime prime-pos z .0
+
+-- "gives the remainder of a term .. at a point"; "12: point to evaluate at has another length than the row"
+unfoldable pub remainderReply : (row tables s : List ℕ) (N : List ℤ) → Reply ℕ
+remainderReply row tables s N =
+    opened row tables
+    (λ u. asked (eqb (length N) (length row)) 12 (λ v. readAs left (acceptTerm row s) (λ t. gives (remainder (evalℤ (termOf row t) N)))))

@@ -1,0 +1,69 @@
+use denote.Ref.{now}
+use Rattle.opening.specs.laws.Opening.{built}
+-- `opening::read_term` meets its contract: what is refused, and what is built.
+use mathlib.Core.Path.{_≡_, refl, sym, _∙_}
+use Rattle.textlaws.specs.laws.Rows.{row-length}
+use Rattle.opening.specs.Opening.{form}
+use Rattle.opening.specs.laws.Opening.{read-refused, accepted-given, long-lent}
+use borrow.Author.Needs.{needs}
+use Rattle.opening.proofs.read_term.Statement.{statement}
+use Rattle.opening.proofs.read_term.Tie as tie
+use Rattle.opening.proofs.read_term.Reads as reads
+use Rattle.opening.proofs.read_term.Lts as lts
+use Rattle.building.proofs.build_term.Reads as build-term-reads
+use Rattle.measures.proofs.accept_term.Reads as accept-term-reads
+
+-- src/lib.rt:109:9
+accept-term-requires : tie.Need-accept-term-requires
+accept-term-requires c κs = row-length (now (c .before .before .before .before .before .before .args .row)) (c .before .before .before .before .before .before .pre .0) .1
+
+-- src/lib.rt:111:25
+enum-known-reading : tie.Need-enum-known-reading
+enum-known-reading c = search needs
+
+-- src/lib.rt:113:50
+enum-told : tie.Need-enum-told
+enum-told c = search needs
+
+-- src/lib.rt:113:17
+build-term-requires : tie.Need-build-term-requires
+build-term-requires c κs = (accepted-given _ _ (c .before .before .before .before .before .before .before .before .before .before .before .before .before .pre .0) (sym (c .before .before .before .before .before .before .accept-term .ensures) ∙ c .before .before .before .before .enum-told .given .1), long-lent (c .before .before .before .before .before .before .before .before .before .before .before .before .before .pre .1))
+
+-- src/lib.rt:97:1
+returns : tie.Need-returns
+returns c = read-refused _ _ _ _ _ (sym (c .before .before .before .accept-term .ensures) ∙ c .before .reading .given .1)
+
+-- src/lib.rt:97:1
+same-length : tie.Need-same-length
+same-length c = search needs
+
+-- src/lib.rt:97:1
+same-length-2 : tie.Need-same-length-2
+same-length-2 c = search needs
+
+-- src/lib.rt:97:1
+same-length-3 : tie.Need-same-length-3
+same-length-3 c = search needs
+
+-- src/lib.rt:97:1
+same-length-4 : tie.Need-same-length-4
+same-length-4 c = search needs
+
+-- src/lib.rt:97:1
+returns-2 : tie.Need-returns-2
+returns-2 c = built (c .before .before .before .before .before .before .before .before .before .before .before .before .before .before .before .before .before .before .before .before .before .before .pre .0) (sym (c .before .before .before .before .before .before .before .before .before .before .before .before .before .before .before .accept-term .ensures) ∙ c .before .before .before .before .before .before .before .before .before .before .before .before .before .enum-told .given .1) (c .before .before .before .before .before .before .before .before .build-term .ensures)
+
+pub read-term-spec : {M : Type 1} → statement M
+read-term-spec =
+    tie.close
+    (tie.spec
+    accept-term-requires
+    enum-known-reading
+    enum-told
+    build-term-requires
+    returns
+    same-length
+    same-length-2
+    same-length-3
+    same-length-4
+    returns-2)
