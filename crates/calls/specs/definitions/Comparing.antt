@@ -34,13 +34,14 @@ verdictOf n f g =
       | false ↦ different (pointOf n f g) (evalP f (pointOf n f g) .0) (evalP g (pointOf n f g) .0)
     ]
 
+abbrev pub compareOf : (row s t : List ℕ) → Reply Verdict
+compareOf row s t =
+    readAs left (acceptTerm row s)
+    (λ f. readAs right (acceptTerm row t) (λ g. gives (verdictOf (length row) (termOf row f) (termOf row g))))
+
 -- k is the length of the point buffer: "2: .. point buffer under the row's length"
 unfoldable pub compareReply : (row tables : List ℕ) (k : ℕ) (s t : List ℕ) → Reply Verdict
-compareReply row tables k s t =
-    opened row tables
-    (λ u. asked (leb (length row) k) 2
-    (λ v. readAs left (acceptTerm row s)
-    (λ f. readAs right (acceptTerm row t) (λ g. gives (verdictOf (length row) (termOf row f) (termOf row g))))))
+compareReply row tables k s t = opened row tables (λ u. asked (leb (length row) k) 2 (λ v. compareOf row s t))
 
 -- "on 'different' the first numbers of the point buffer"
 abbrev pub pointWith : Verdict → List ℕ → List ℕ
@@ -66,9 +67,10 @@ multiplesOf m (pop i p) = multiplesOf m p
 multiplesOf m (pow i p q) = multiplesOf m p && multiplesOf m q
 
 -- "It answers 'same' when each coefficient of the difference is a multiple of 2 to the width, else 'different', with no point." 14: "counter width not 0, 8 or 16"
+abbrev pub countersOf : (row : List ℕ) (w : ℕ) (s t : List ℕ) → Reply Bool
+countersOf row w s t =
+    readAs left (acceptTerm row s)
+    (λ f. readAs right (acceptTerm row t) (λ g. gives (multiplesOf (2 ^ bits w) (normℤ (diff (termOf row f) (termOf row g))))))
+
 unfoldable pub countersReply : (row tables : List ℕ) (w : ℕ) (s t : List ℕ) → Reply Bool
-countersReply row tables w s t =
-    opened row tables
-    (λ u. asked (isWidth w) 14
-    (λ v. readAs left (acceptTerm row s)
-    (λ f. readAs right (acceptTerm row t) (λ g. gives (multiplesOf (2 ^ bits w) (normℤ (diff (termOf row f) (termOf row g))))))))
+countersReply row tables w s t = opened row tables (λ u. asked (isWidth w) 14 (λ v. countersOf row w s t))

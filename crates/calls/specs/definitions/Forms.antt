@@ -43,30 +43,36 @@ limited m r =
     (λ u. asked (leb (m .heavy) 1073741823) 9 (λ v. asked (leb (min (m .many) (box (m .powers))) 256) 10 r))
 
 -- ---- the operations: form texts in, form text out, into n bytes
+abbrev pub negateOf : (row s : List ℕ) (n : ℕ) → Reply (List ℕ)
+negateOf row s n = readAs left (acceptForm (length row) s) (λ x. fitted n (text (negate ℤ-ring x)))
+
 unfoldable pub negateReply : (row tables s : List ℕ) (n : ℕ) → Reply (List ℕ)
-negateReply row tables s n = opened row tables (λ u. readAs left (acceptForm (length row) s) (λ x. fitted n (text (negate ℤ-ring x))))
+negateReply row tables s n = opened row tables (λ u. negateOf row s n)
+
+-- of two forms: how the result is measured, and what it is
+abbrev pub twoOf : (Form ℤ → Form ℤ → Measured) → (Form ℤ → Form ℤ → Form ℤ) → (row s t : List ℕ) (n : ℕ) → Reply (List ℕ)
+twoOf measured op row s t n =
+    readAs left (acceptForm (length row) s)
+    (λ x. readAs right (acceptForm (length row) t) (λ y. limited (measured x y) (λ v. fitted n (text (op x y)))))
 
 unfoldable pub addReply : (row tables s t : List ℕ) (n : ℕ) → Reply (List ℕ)
-addReply row tables s t n =
-    opened row tables
-    (λ u. readAs left (acceptForm (length row) s)
-    (λ x. readAs right (acceptForm (length row) t) (λ y. limited (ofSum (length row) x y) (λ v. fitted n (text (sum ℤ-ring x y))))))
+addReply row tables s t n = opened row tables (λ u. twoOf (ofSum (length row)) (sum ℤ-ring) row s t n)
 
 unfoldable pub multiplyReply : (row tables s t : List ℕ) (n : ℕ) → Reply (List ℕ)
-multiplyReply row tables s t n =
-    opened row tables
-    (λ u. readAs left (acceptForm (length row) s)
-    (λ x. readAs right (acceptForm (length row) t) (λ y. limited (ofProduct (length row) x y) (λ v. fitted n (text (prod ℤ-ring x y))))))
+multiplyReply row tables s t n = opened row tables (λ u. twoOf (ofProduct (length row)) (prod ℤ-ring) row s t n)
 
 -- "to an unsigned power" k; "exponent n .. at most 63"
+abbrev pub raiseOf : (row s : List ℕ) (k n : ℕ) → Reply (List ℕ)
+raiseOf row s k n =
+    readAs left (acceptForm (length row) s)
+    (λ x. asked (leb k 63) 8 (λ v. limited (ofPower (length row) x k) (λ w. fitted n (text (raise ℤ-ring x k)))))
+
 unfoldable pub raiseReply : (row tables s : List ℕ) (k n : ℕ) → Reply (List ℕ)
-raiseReply row tables s k n =
-    opened row tables
-    (λ u. readAs left (acceptForm (length row) s)
-    (λ x. asked (leb k 63) 8 (λ v. limited (ofPower (length row) x k) (λ w. fitted n (text (raise ℤ-ring x k))))))
+raiseReply row tables s k n = opened row tables (λ u. raiseOf row s k n)
 
 -- "gives the remainder of .. a form at a point"
+abbrev pub formRemainderOf : (row s : List ℕ) (N : List ℤ) → Reply ℕ
+formRemainderOf row s N = readAs left (acceptForm (length row) s) (λ x. gives (remainder (evalh ℤ-ring x N)))
+
 unfoldable pub formRemainderReply : (row tables s : List ℕ) (N : List ℤ) → Reply ℕ
-formRemainderReply row tables s N =
-    opened row tables
-    (λ u. asked (eqb (length N) (length row)) 12 (λ v. readAs left (acceptForm (length row) s) (λ x. gives (remainder (evalh ℤ-ring x N)))))
+formRemainderReply row tables s N = opened row tables (λ u. asked (eqb (length N) (length row)) 12 (λ v. formRemainderOf row s N))
