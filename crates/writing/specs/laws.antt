@@ -1,0 +1,4 @@
+pub mod Wrote
+pub mod Texts
+pub mod Sizes
+pub mod Integers
