@@ -71,13 +71,14 @@ fn natural_at(s: &[u8], at: usize) -> Part
         return Part::Off(4, at);
     }
     let b = s[at];
+    let i = at + 1;
     if b == 48 {
-        return Part::On(at + 1);
+        return Part::On(i);
     }
     if !is_digit(b) {
         return Part::Off(4, at);
     }
-    Part::On(digits_at(s, at + 1))
+    Part::On(digits_at(s, i))
 }
 
 // An integer, where no `(` stands; `-0` is none.

@@ -1,6 +1,6 @@
 -- `formsyntax::form_at`, `last_at`, `pop_at` and `pow_at` meet their contracts, part by part. The measure is twice the number of bytes left, and one more for
 -- `last_at`, which begins with a form.
-use mathlib.Core.Path.{_≡_, sym, _∙_}
+use mathlib.Core.Path.{sym, _∙_}
 use native.Mathlib.Omega.{arith}
 use lib.ListN.{length}
 use denote.Ref.{now}

@@ -13,8 +13,8 @@ returns c = natural-end (now (c .before .before .args .s)) _ (c .if1 .taken)
 shared-slice-read-b : tie.Need-shared-slice-read-b
 shared-slice-read-b c = search needs
 
-add-t8 : tie.Need-add-t8
-add-t8 c = search needs
+add-i : tie.Need-add-i
+add-i c = search needs
 
 returns-2 : tie.Need-returns-2
 returns-2 c = natural-zero (now (c .before .before .before .before .args .s)) _ (c .before .before .if1 .left) (c .if2 .taken)
@@ -24,9 +24,6 @@ is-digit-requires c κs = search needs
 
 returns-3 : tie.Need-returns-3
 returns-3 c = natural-none (now (c .before .before .before .before .before .before .args .s)) _ (c .before .before .before .before .if1 .left) (c .before .before .if2 .left) (sym (c .before .is-digit .ensures) ∙ not-true _ (c .if3 .taken))
-
-add-digits-at : tie.Need-add-digits-at
-add-digits-at c = search needs
 
 digits-at-requires : tie.Need-digits-at-requires
 digits-at-requires c κs = search needs
@@ -40,10 +37,9 @@ natural-at-spec =
     (tie.spec
     returns
     shared-slice-read-b
-    add-t8
+    add-i
     returns-2
     is-digit-requires
     returns-3
-    add-digits-at
     digits-at-requires
     returns-4)

@@ -5,23 +5,23 @@ use mathlib.Core.Bool.{Bool, true, false, cond}
 use mathlib.Core.List.{List, [], _∷_}
 use Prim.Native.Nat.{ℕ, suc, _+_, _-_, _*_, _≤_, _<_}
 use native.Mathlib.Omega.{arith}
-use lib.Dec.{eqb, leb, ltb}
+use lib.Dec.{leb, ltb}
 use lib.IntN.{ℤ}
-use lib.ListN.{length, getD}
+use lib.ListN.{length}
 use borrow.Author.Tests.{lt-ltb, le-ltb, le-leb, lt-leb}
 use Rattle.horner.specs.definitions.Form.{Form as HForm}
 use Rattle.horner.specs.laws.Compare.{lt-or-ge}
 use Rattle.texts.specs.definitions.Answer.{Reading, read, refused}
 use Rattle.texts.specs.definitions.FormReading.{popKind, powKind, readForm}
 use Rattle.texts.specs.program.Kinds.{verdict}
-use Rattle.texts.specs.program.FormKinds.{start, open0, openPO, openPOP, openPOW, done, Wait, popWait, powWait, restWait, Move, moved, stuck, move, check, ended, syntax}
+use Rattle.texts.specs.program.FormKinds.{start, open0, openPO, openPOP, openPOW, done, Wait, popWait, powWait, restWait, moved, stuck, move, check, syntax}
 use Rattle.textlaws.specs.laws.FormWalk.{syntax-verdict}
 use Rattle.formsyntax.specs.declared.Part.{Part}
 use Rattle.formsyntax.specs.declared.Part.the-variants.{On, Off}
 use Rattle.formsyntax.specs.declared.Syntax.{Syntax}
 use Rattle.formsyntax.specs.declared.Syntax.the-variants.{Form, Refused}
 use Rattle.formsyntax.specs.Answer.{formSyntaxOf}
-use Rattle.formsyntax.specs.Found.{room, from, isAt, after, Takes, Wants, Expects, IntAt, IndexAt, LettersAt, FormAt, LastAt, PopAt, PowAt}
+use Rattle.formsyntax.specs.Found.{room, from, isAt, after, Takes, Expects, IntAt, IndexAt, LettersAt, FormAt, LastAt, PopAt, PowAt}
 use Rattle.formsyntax.specs.laws.Steps.{at-inside, at-byte, is-byte, within-from, within-on, on, off, goes, opened, closed, stops, ends, step-at}
 
 -- ---- the last form, and `)`

@@ -15,7 +15,7 @@ use Rattle.texts.specs.program.FormKinds.{start, sign, zeroInt, digits, open0, 
 use Rattle.textlaws.specs.laws.Bytes.{digit-range, not-both}
 use Rattle.formsyntax.specs.declared.Part.{Part}
 use Rattle.formsyntax.specs.declared.Part.the-variants.{On, Off}
-use Rattle.formsyntax.specs.Found.{room, from, isAt, Takes, DigitsAt, NaturalAt, IntAt}
+use Rattle.formsyntax.specs.Found.{room, from, isAt, DigitsAt, NaturalAt, IntAt}
 use Rattle.formsyntax.specs.laws.Steps.{at-inside, at-byte, is-byte, within-from, step, stops, ends, step-at, alike, alike-end}
 
 digit-no-space : (x : ℕ) → digit x ≡ true → eqb x 32 ≡ false
@@ -87,9 +87,6 @@ start-move x ws o m =
 start-check : (x d : ℕ) → eqb x 40 ≡ false → check room start d x ≡ 0
 start-check x d o = ap (λ (b : Bool). cond b (cond (room d) 0 6) 0) o
 
-by-digit : (b d : Bool) {z e : Bool} (A B : Move) → b ≡ z → d ≡ e → cond b A (cond d B stuck) ≡ cond z A (cond e B stuck)
-by-digit b d A B f g = ap₂ (λ (x y : Bool). cond x A (cond y B stuck)) f g
-
 sign-move : (x : ℕ) (ws : List Wait) (d : Bool) → eqb x 48 ≡ false → digit x ≡ d → move sign ws x ≡ cond d (moved digits ws) stuck
 sign-move x ws true z e = ap₂ (λ (a b : Bool). cond (a && not b) (moved digits ws) stuck) e z
 sign-move x ws false z e = ap₂ (λ (a b : Bool). cond (a && not b) (moved digits ws) stuck) e z
@@ -118,19 +115,27 @@ module _ (s : List ℕ) (at : ℕ) where
     none : (x : ℕ) → isAt s at x ≡ false → eqb (getD s at 0) x ≡ false
     none x f = sym (is-byte s at x h) ∙ f
 
+    -- the first byte is a digit, or none
+    index-goes : (k : Kind) (ws : List Wait) {d : Bool} → digit (getD s at 0) ≡ d → move (before-i k) ws (getD s at 0) ≡ cond d (moved (digits-i k) ws) stuck
+    index-goes k ws e = ap₂ (λ (x y : Bool). cond x (moved (zero-i k) ws) (cond y (moved (digits-i k) ws) stuck)) none-48 e
+
+    start-goes : isAt s at 40 ≡ false → isAt s at 45 ≡ false → (ws : List Wait) {d : Bool} → digit (getD s at 0) ≡ d → move start ws (getD s at 0) ≡ cond d (moved digits ws) stuck
+    start-goes o m ws e =
+        start-move (getD s at 0) ws (none 40 o) (none 45 m) ∙ ap₂ (λ (x y : Bool). cond x (moved zeroInt ws) (cond y (moved digits ws) stuck)) none-48 e
+
     pub natural-none : digit (getD s at 0) ≡ false → NaturalAt s at (Off 4 at)
     natural-none d = record {
       within = tt;
-      index = λ k ws. record { leads = stops s at (before-i k) ws h (by-digit (eqb (getD s at 0) 48) (digit (getD s at 0)) _ _ none-48 d) };
-      number = λ o m ws. record { leads = stops s at start ws h (start-move (getD s at 0) ws (none 40 o) (none 45 m) ∙ by-digit (eqb (getD s at 0) 48) (digit (getD s at 0)) _ _ none-48 d) };
+      index = λ k ws. record { leads = stops s at (before-i k) ws h (index-goes k ws d) };
+      number = λ o m ws. record { leads = stops s at start ws h (start-goes o m ws d) };
       signed = λ z ws. record { leads = stops s at sign ws h (sign-move (getD s at 0) ws false none-48 d) };
     }
 
     pub natural-more : (e : ℕ) → digit (getD s at 0) ≡ true → DigitsAt s (at + 1) e → NaturalAt s at (On e)
     natural-more e d r = record {
       within = (omega (arith, r .more), r .inside);
-      index = λ k ws. record { leads = step s at (before-i k) ws h (by-digit (eqb (getD s at 0) 48) (digit (getD s at 0)) _ _ none-48 d) refl ∙ r .index k ws };
-      number = λ o m ws. record { leads = step s at start ws h (start-move (getD s at 0) ws (none 40 o) (none 45 m) ∙ by-digit (eqb (getD s at 0) 48) (digit (getD s at 0)) _ _ none-48 d) (start-check (getD s at 0) (length ws) (none 40 o)) ∙ r .number ws };
+      index = λ k ws. record { leads = step s at (before-i k) ws h (index-goes k ws d) refl ∙ r .index k ws };
+      number = λ o m ws. record { leads = step s at start ws h (start-goes o m ws d) (start-check (getD s at 0) (length ws) (none 40 o)) ∙ r .number ws };
       signed = λ z ws. record { leads = step s at sign ws h (sign-move (getD s at 0) ws true none-48 d) refl ∙ r .number ws };
     }
 

@@ -10,7 +10,7 @@ use borrow.Author.Tests.{eq-eqb}
 use Rattle.horner.specs.laws.Compare.{lt-or-ge}
 use Rattle.texts.specs.definitions.Answer.{refused}
 use Rattle.texts.specs.definitions.FormReading.{Kind, popKind, powKind}
-use Rattle.texts.specs.program.FormKinds.{Stand, start, open0, openP, openPO, before-i, zero-i, Wait, moved, stuck, pushed, move}
+use Rattle.texts.specs.program.FormKinds.{Stand, open0, openP, before-i, zero-i, Wait, moved, stuck}
 use Rattle.formsyntax.specs.declared.Part.{Part}
 use Rattle.formsyntax.specs.declared.Part.the-variants.{On, Off}
 use Rattle.formsyntax.specs.Found.{from, isAt, Takes, Wants, Expects, NaturalAt, IndexAt, LettersAt, named}

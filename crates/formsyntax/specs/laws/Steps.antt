@@ -1,16 +1,16 @@
 -- The walk over a form's text, one byte on.
-use mathlib.Core.Path.{_≡_, refl, sym, ap, ap₂, subst, _∙_}
+use mathlib.Core.Path.{_≡_, sym, ap, ap₂, subst, _∙_}
 use mathlib.Core.Bool.{Bool, true, false, _&&_}
-use mathlib.Core.List.{List, [], _∷_}
-use Prim.Native.Nat.{ℕ, suc, _+_, _≤_, _<_}
+use mathlib.Core.List.{List}
+use Prim.Native.Nat.{ℕ, _+_, _≤_, _<_}
 use native.Mathlib.Omega.{arith}
 use native.Mathlib.Numerals.{add-one}
 use lib.Dec.{eqb, ltb}
 use lib.ListN.{length, getD, drop, drop-of-length-le}
-use borrow.Author.Tests.{ltb-true, lt-ltb, le-ltb, eqb-true, eq-eqb}
+use borrow.Author.Tests.{ltb-true, lt-ltb, le-ltb, eqb-true}
 use Rattle.texts.specs.definitions.Answer.{Reading, refused, fine}
 use Rattle.texts.specs.program.FormKinds.{Stand, Wait, Move, moved, stuck, move, isWhole, caseMove, check, ended, walk}
-use Rattle.textlaws.specs.laws.Bytes.{and-l, and-r, and-i}
+use Rattle.textlaws.specs.laws.Bytes.{and-l, and-r}
 use Rattle.words.proofs.Walk.{one-on}
 use Rattle.formsyntax.specs.declared.Part.{Part}
 use Rattle.formsyntax.specs.declared.Part.the-variants.{On, Off}
