@@ -1,0 +1,39 @@
+-- `formsyntax::judge_form` meets its contract: the walk over the whole text gives the reading's verdict.
+use denote.Ref.{now}
+use Rattle.formsyntax.specs.laws.Forms.{too-long, judge-off, judge-whole, judge-more}
+use borrow.Author.Needs.{needs}
+use Rattle.formsyntax.proofs.judge_form.Statement.{statement}
+use Rattle.formsyntax.proofs.judge_form.Tie as tie
+
+returns : tie.Need-returns
+returns c = too-long (now (c .before .before .args .s)) (c .if1 .taken)
+
+form-at-requires : tie.Need-form-at-requires
+form-at-requires c κs = search needs
+
+enum-known-part : tie.Need-enum-known-part
+enum-known-part c = search needs
+
+enum-known-part-2 : tie.Need-enum-known-part-2
+enum-known-part-2 c = search needs
+
+returns-2 : tie.Need-returns-2
+returns-2 c = judge-whole (now (c .before .before .before .before .before .before .before .args .s)) (c .before .before .before .before .before .if1 .left) _ (c .before .before .before .before .form-at .ensures) (c .before .before .part2 .given .1) (c .if2 .taken)
+
+returns-3 : tie.Need-returns-3
+returns-3 c = judge-off (now (c .before .before .before .before .before .before .args .s)) (c .before .before .before .before .if1 .left) _ (c .before .before .before .form-at .ensures) (c .before .part .given .1)
+
+returns-4 : tie.Need-returns-4
+returns-4 c = judge-more (now (c .before .before .before .before .before .before .before .args .s)) (c .before .before .before .before .before .if1 .left) _ (c .before .before .before .before .form-at .ensures) (c .before .before .part2 .given .1) (c .if2 .left)
+
+pub judge-form-spec : {M : Type 1} → statement M
+judge-form-spec =
+    tie.close
+    (tie.spec
+    returns
+    form-at-requires
+    enum-known-part
+    enum-known-part-2
+    returns-2
+    returns-3
+    returns-4)

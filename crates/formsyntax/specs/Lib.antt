@@ -1,0 +1,3 @@
+pub mod Answer
+pub mod Found
+pub mod laws
