@@ -1,4 +1,5 @@
 -- `formsyntax::judge_form` meets its contract: the walk over the whole text gives the reading's verdict.
+use native.Mathlib.Omega.{arith}
 use denote.Ref.{now}
 use Rattle.formsyntax.specs.laws.Forms.{too-long, judge-off, judge-whole, judge-more}
 use borrow.Author.Needs.{needs}
@@ -6,7 +7,7 @@ use Rattle.formsyntax.proofs.judge_form.Statement.{statement}
 use Rattle.formsyntax.proofs.judge_form.Tie as tie
 
 returns : tie.Need-returns
-returns c = too-long (now (c .before .before .args .s)) (c .if1 .taken)
+returns c = too-long (now (c .before .before .args .s)) (omega arith)
 
 form-at-requires : tie.Need-form-at-requires
 form-at-requires c κs = search needs
