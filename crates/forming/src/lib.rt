@@ -52,15 +52,7 @@ pub fn form(
     if e != 0 {
         return Written::Refused(e, Side::Neither, 0);
     }
-    let answer = form_of(
-        row,
-        s,
-        result,
-        &mut a[..16384],
-        &mut b[..16384],
-        &mut c[..16384],
-        &mut d[..16384],
-    );
+    let answer = form_of(row, s, result, a, b, c, d);
     opening::clear_tables(a, b, c, d);
     answer
 }

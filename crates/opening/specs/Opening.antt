@@ -25,16 +25,12 @@ told left = Left
 told right = Right
 told neither = Neither
 
--- tables long enough to read a term in, the last also behind a form that is kept in front, and none longer than a node's word can say
+-- tables long enough to read a term in; the last one may have a form in front of it that is kept
 pub record Long (a b c d : ℕ) : Type 0 where
   pub first : 16384 ≤ a
   pub second : 16384 ≤ b
   pub third : 16384 ≤ c
   pub fourth : 6146 ≤ d
-  pub first-small : a ≤ 33554432
-  pub second-small : b ≤ 33554432
-  pub third-small : c ≤ 33554432
-  pub fourth-small : d ≤ 33554432
 
 -- the form of the accepted term t stands in the first n words of l
 pub record IsTerm (row s : List ℕ) (n : ℕ) (l : List ℕ) : Type 0 where

@@ -1,3 +1,5 @@
 pub mod Rows
 pub mod Opening
 pub mod Terms
+pub mod Numbers
+pub mod Ending

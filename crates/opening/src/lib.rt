@@ -110,7 +110,14 @@ pub fn read_term(
     match reading {
         Syntax::Refused(e, p) => Read::Refused(e, p),
         Syntax::Term => {
-            let n = building::build_term(row, s, a, b, c, d);
+            let n = building::build_term(
+                row,
+                s,
+                &mut a[..16384],
+                &mut b[..16384],
+                &mut c[..16384],
+                &mut d[..6146],
+            );
             Read::Form(n)
         }
     }

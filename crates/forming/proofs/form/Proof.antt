@@ -1,3 +1,16 @@
+use Rattle.opening.specs.laws.Ending.{zeros-of}
+use Rattle.answering.specs.laws.Whole.{refused-whole, answered-whole}
+-- `forming::form` meets its contract: the row and the tables are looked at, the inner call answers, the tables are cleared.
+use mathlib.Core.Path.{_≡_, sym, ap, _∙_}
+use mathlib.Core.List.{[], _∷_}
+use native.Mathlib.Omega.{arith}
+use denote.Ref.{now}
+use lib.ListN.{length, replicate}
+use Rattle.answering.specs.Answering.{writtenOf}
+use Rattle.calls.specs.definitions.Buffers.{resultAfter}
+use Rattle.opening.specs.laws.Opening.{ready-open, open-long, ready-small}
+use Rattle.opening.specs.laws.Ending.{tables-kept, tables-cleared}
+use Rattle.forming.specs.laws.Form.{form-open, form-not-open, form-clears}
 use borrow.Author.Needs.{needs}
 use Rattle.forming.proofs.form.Statement.{statement}
 use Rattle.forming.proofs.form.Tie as tie
@@ -13,45 +26,17 @@ ready-requires c κs = search needs
 
 -- src/lib.rt:53:9
 returns : tie.Need-returns
-returns c = ?
-
--- src/lib.rt:59:9
-slice-relend-prefix-form-of : tie.Need-slice-relend-prefix-form-of
-slice-relend-prefix-form-of c = ?
-
--- src/lib.rt:59:9
-slice-aggregate-form-of : tie.Need-slice-aggregate-form-of
-slice-aggregate-form-of c = ?
-
--- src/lib.rt:60:9
-slice-relend-prefix-form-of-2 : tie.Need-slice-relend-prefix-form-of-2
-slice-relend-prefix-form-of-2 c = ?
-
--- src/lib.rt:60:9
-slice-aggregate-form-of-2 : tie.Need-slice-aggregate-form-of-2
-slice-aggregate-form-of-2 c = ?
-
--- src/lib.rt:61:9
-slice-relend-prefix-form-of-3 : tie.Need-slice-relend-prefix-form-of-3
-slice-relend-prefix-form-of-3 c = ?
-
--- src/lib.rt:61:9
-slice-aggregate-form-of-3 : tie.Need-slice-aggregate-form-of-3
-slice-aggregate-form-of-3 c = ?
-
--- src/lib.rt:62:9
-slice-relend-prefix-form-of-4 : tie.Need-slice-relend-prefix-form-of-4
-slice-relend-prefix-form-of-4 c = ?
-
--- src/lib.rt:62:9
-slice-aggregate-form-of-4 : tie.Need-slice-aggregate-form-of-4
-slice-aggregate-form-of-4 c = ?
+returns c = let s = c .before .before .before .before .before .before .before .before .before .args in
+    let ts = length (s .a .now) ∷ length (s .b .now) ∷ length (s .c .now) ∷ length (s .d .now) ∷ [] in
+    refused-whole (s .row .now) ts _ (s .result .now) (s .a .now) (s .b .now) (s .c .now) (s .d .now) (c .before .ready .ensures) (form-not-open (s .row .now) ts (s .s .now) (length (s .result .now)) (λ z. c .if1 .taken (c .before .ready .ensures ∙ z)))
 
 -- src/lib.rt:55:9
 form-of-requires : tie.Need-form-of-requires
-form-of-requires c κs = ?
+form-of-requires c κs = let s = c .before .before .before .before .before .before .before .before .before .before .before .before .before .before .args in
+    let o = ready-open (s .row .now) (length (s .a .now) ∷ length (s .b .now) ∷ length (s .c .now) ∷ length (s .d .now) ∷ []) (sym (c .before .before .before .before .before .before .ready .ensures) ∙ c .before .before .before .before .before .if1 .left) in
+    (o .proper, open-long (length (s .a .now)) (length (s .b .now)) (length (s .c .now)) (length (s .d .now)) o)
 
--- src/lib.rt:64:5
+-- src/lib.rt:56:5
 clear-tables-requires : tie.Need-clear-tables-requires
 clear-tables-requires c κs = search needs
 
@@ -61,23 +46,28 @@ same-length c = search needs
 
 -- src/lib.rt:38:1
 same-length-2 : tie.Need-same-length-2
-same-length-2 c = ?
+same-length-2 c = search needs
 
 -- src/lib.rt:38:1
 same-length-3 : tie.Need-same-length-3
-same-length-3 c = ?
+same-length-3 c = search needs
 
 -- src/lib.rt:38:1
 same-length-4 : tie.Need-same-length-4
-same-length-4 c = ?
+same-length-4 c = search needs
 
 -- src/lib.rt:38:1
 same-length-5 : tie.Need-same-length-5
-same-length-5 c = ?
+same-length-5 c = search needs
 
 -- src/lib.rt:38:1
 returns-2 : tie.Need-returns-2
-returns-2 c = ?
+returns-2 c = let s = c .before .before .before .before .before .before .before .before .before .before .before .before .before .before .before .before .before .before .before .before .before .before .before .before .before .before .before .before .before .before .before .before .before .before .before .before .before .before .args in
+    let f = c .before .before .before .before .before .before .before .before .before .before .before .before .before .before .before .before .before .before .before .before .before .before .before .form-of in
+    let ts = length (s .a .now) ∷ length (s .b .now) ∷ length (s .c .now) ∷ length (s .d .now) ∷ [] in
+    let o = ready-open (s .row .now) ts (sym (c .before .before .before .before .before .before .before .before .before .before .before .before .before .before .before .before .before .before .before .before .before .before .before .before .before .before .before .before .before .before .ready .ensures) ∙ c .before .before .before .before .before .before .before .before .before .before .before .before .before .before .before .before .before .before .before .before .before .before .before .before .before .before .before .before .before .if1 .left) in
+    answered-whole _ _ (s .result .now) (s .a .now) (s .b .now) (s .c .now) (s .d .now) (form-open (s .row .now) ts (s .s .now) (length (s .result .now)) o) (form-clears (s .row .now) ts (s .s .now) (length (s .result .now))) (f .ensures .0) (f .ensures .1)
+    (zeros-of (f .kept .1 .1 .1 .0) (f .kept .1 .1 .1 .1 .0) (f .kept .1 .1 .1 .1 .1 .0) (f .kept .1 .1 .1 .1 .1 .1 .0) (c .before .before .before .before .before .before .before .before .clear-tables .ensures))
 
 pub form-spec : {M : Type 1} → statement M
 form-spec =
@@ -85,14 +75,6 @@ form-spec =
     (tie.spec
     ready-requires
     returns
-    slice-relend-prefix-form-of
-    slice-aggregate-form-of
-    slice-relend-prefix-form-of-2
-    slice-aggregate-form-of-2
-    slice-relend-prefix-form-of-3
-    slice-aggregate-form-of-3
-    slice-relend-prefix-form-of-4
-    slice-aggregate-form-of-4
     form-of-requires
     clear-tables-requires
     same-length

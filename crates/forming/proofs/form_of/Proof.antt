@@ -1,3 +1,16 @@
+-- `forming::form_of` meets its contract: the term is refused, or its form is written.
+use mathlib.Core.Path.{_≡_, sym, ap, _∙_}
+use native.Mathlib.Omega.{arith}
+use denote.Ref.{now}
+use lib.ListN.{length, take}
+use lib.Seq.{length-take-le}
+use Rattle.coded.specs.laws.Codes.{coded}
+use Rattle.coded.proofs.Lists.{begins-le}
+use Rattle.opening.specs.laws.Opening.{read-form}
+use Rattle.opening.specs.laws.Terms.{term-codes, term-words}
+use Rattle.answering.specs.Answering.{writtenOf}
+use Rattle.calls.specs.definitions.Buffers.{resultAfter}
+use Rattle.forming.specs.laws.Form.{form-refused, form-is}
 use borrow.Author.Needs.{needs}
 use Rattle.forming.proofs.form_of.Statement.{statement}
 use Rattle.forming.proofs.form_of.Tie as tie
@@ -41,19 +54,21 @@ same-length-4 c = search needs
 
 -- src/lib.rt:32:9
 returns : tie.Need-returns
-returns c = ?
+returns c = let A = form-refused (length (now (c .before .before .before .before .before .before .before .before .before .before .before .before .before .before .before .before .before .before .before .before .before .before .before .args .result))) (now (c .before .before .before .before .before .before .before .before .before .before .before .before .before .before .before .before .before .before .before .before .before .before .before .args .result)) (c .before .enum-told .given .1) (c .before .before .before .before .before .before .before .before .before .before .before .read-term .ensures) in
+    (c .refused .ensures ∙ A .answer, A .buffer)
 
 -- src/lib.rt:34:29
 slice-reshare-prefix-write-result : tie.Need-slice-reshare-prefix-write-result
-slice-reshare-prefix-write-result c = ?
+slice-reshare-prefix-write-result c = begins-le (read-form (c .before .reading .given .1) (c .before .before .before .before .before .before .before .before .before .before .before .read-term .ensures) .made)
 
 -- src/lib.rt:34:29
 slice-aggregate-write-result : tie.Need-slice-aggregate-write-result
-slice-aggregate-write-result c = ?
+slice-aggregate-write-result c = sym (length-take-le (c .before .before .reading .given .0 .0) (c .before .before .before .before .before .before .before .before .before .before .before .before .read-term .last .1 .1 .0) (begins-le (read-form (c .before .before .reading .given .1) (c .before .before .before .before .before .before .before .before .before .before .before .before .read-term .ensures) .made)))
 
 -- src/lib.rt:34:5
 write-result-requires : tie.Need-write-result-requires
-write-result-requires c κs = ?
+write-result-requires c κs = let T = read-form (c .before .before .before .reading .given .1) (c .before .before .before .before .before .before .before .before .before .before .before .before .before .read-term .ensures) in
+    (coded (term-codes (c .before .before .before .before .before .before .before .before .before .before .before .before .before .before .before .before .before .before .before .before .before .before .before .before .before .pre .0) T), omega (arith, length-take-le (c .before .before .before .reading .given .0 .0) (c .before .before .before .before .before .before .before .before .before .before .before .before .before .read-term .last .1 .1 .0) (begins-le (T .made)), term-words (c .before .before .before .before .before .before .before .before .before .before .before .before .before .before .before .before .before .before .before .before .before .before .before .before .before .pre .0) T))
 
 -- src/lib.rt:16:1
 same-length-5 : tie.Need-same-length-5
@@ -77,7 +92,8 @@ same-length-9 c = search needs
 
 -- src/lib.rt:16:1
 returns-2 : tie.Need-returns-2
-returns-2 c = ?
+returns-2 c = let e = form-is (length (now (c .before .before .before .before .before .before .before .before .before .before .before .before .before .before .before .before .before .before .before .before .before .before .before .before .before .before .before .before .args .result))) (c .before .before .before .before .before .before .before .before .before .before .before .before .before .before .before .before .before .before .before .before .before .before .before .before .before .before .before .before .pre .0) (read-form (c .before .before .before .before .before .before .reading .given .1) (c .before .before .before .before .before .before .before .before .before .before .before .before .before .before .before .before .read-term .ensures)) in
+    (c .before .before .write-result .ensures .0 ∙ ap writtenOf e, c .before .before .write-result .ensures .1 ∙ ap (λ x. resultAfter x (now (c .before .before .before .before .before .before .before .before .before .before .before .before .before .before .before .before .before .before .before .before .before .before .before .before .before .before .before .before .args .result))) e)
 
 pub form-of-spec : {M : Type 1} → statement M
 form-of-spec =

@@ -1,20 +1,23 @@
 -- What the test of the row and the tables tells, and what is read.
 use mathlib.Core.Bool.{Bool, true, false, _&&_}
-use mathlib.Core.List.{List, [], _∷_}
+use mathlib.Core.List.{List, [], _∷_, _++_}
 use mathlib.Core.Path.{_≡_, refl, sym, ap, ap₂, _∙_}
 use Prim.Native.Nat.{ℕ, zero, suc, _≤_, _<_}
 use native.Mathlib.Omega.{arith}
-use borrow.Author.Tests.{le-leb, lt-leb}
+use borrow.Author.Tests.{le-leb, lt-leb, leb-true}
 use lib.Dec.{leb}
+use lib.Seq.{take-append-le}
 use Rattle.texts.specs.definitions.Answer.{Reading, read, refused}
 use Rattle.texts.specs.definitions.Bytes.{isRow}
 use Rattle.texts.specs.definitions.Limits.{acceptTerm}
 use Rattle.texts.specs.definitions.Tree.{Tree, termOf}
 use Rattle.horner.specs.definitions.Term.{normP}
-use Rattle.coded.specs.Coding.{Made}
+use Rattle.coded.specs.Coding.{Made, Begins}
+use Rattle.coded.proofs.Lists.{begins-le}
 use Rattle.calls.specs.definitions.Reply.{Reply, refuses, neither, enough, opened}
 use Rattle.syntax.specs.Answer.{syntaxOf}
 use Rattle.syntax.specs.declared.Syntax.the-variants as Syn
+use Rattle.textlaws.specs.laws.Bytes.{and-l, and-r}
 use Rattle.measures.specs.Accepting.{term-refused}
 use Rattle.building.specs.Stack.{Given, Lent}
 use Rattle.opening.specs.Opening.{readyOf, Long, IsTerm, TermRead, refusal, form}
@@ -111,12 +114,12 @@ module _ (row s : List ℕ) where
       go (read t) h k = record { proper = r; t = t; accepted = h }
       go (refused e p) h k = term-refused row s (sym k)
 
--- the tables are as long as a term's building asks
-pub long-lent : {a b c d : ℕ} → Long a b c d → Lent a b c d
-long-lent h =
+-- as much of the tables as a term's building asks
+pub long-lent : {a b c d : ℕ} → a ≡ 16384 → b ≡ 16384 → c ≡ 16384 → d ≡ 6146 → Lent a b c d
+long-lent h i j k =
     record {
-      stack = omega (arith, h);
-      tables = record { first = omega (arith, h); second = omega (arith, h); third = h .fourth; first-small = h .second-small; second-small = h .third-small; third-small = h .fourth-small };
+      stack = omega arith;
+      tables = record { first = omega arith; second = omega arith; third = omega arith; first-small = omega arith; second-small = omega arith; third-small = omega arith };
     }
 
 -- ---- what was read, by the enum
@@ -131,9 +134,27 @@ pub read-refusal : {row s : List ℕ} {l : List ℕ} {e p : ℕ} {r : Read} → 
 read-refusal h (form n t i) = no-form (sym i ∙ h)
 read-refusal {e = e} {p = p} h (refusal e′ p′ a i) = let j : e′ ≡ e = cc in let k : p′ ≡ p = cc in a ∙ ap₂ refused j k
 
--- what is built of an accepted term
-pub built : {row s l : List ℕ} {n : ℕ} → isRow row ≡ true → syntaxOf (acceptTerm row s) ≡ Syn.Term
-    → ((t : Tree) → acceptTerm row s ≡ read t → Made 0 (normP (termOf row t)) n l) → TermRead row s (Form n) l
-built {row} {s} {n = n} r h f =
+-- what stands at the front of a table stands there also where more follows
+begins-front : {r : ℕ} {w : List ℕ} (l k : List ℕ) → Begins r w l → Begins r w (l ++ k)
+begins-front {r} l k b = record { size = b .size; is = take-append-le r l k (begins-le b) ∙ b .is }
+
+-- what is built of an accepted term, at the front of a table
+pub built : {row s : List ℕ} {n : ℕ} (l k : List ℕ) → isRow row ≡ true → syntaxOf (acceptTerm row s) ≡ Syn.Term
+    → ((t : Tree) → acceptTerm row s ≡ read t → Made 0 (normP (termOf row t)) n l) → TermRead row s (Form n) (l ++ k)
+built {row} {s} {n = n} l k r h f =
     let g = accepted-given row s r h in
-    form n (record { t = g .t; accepted = g .accepted; made = f (g .t) (g .accepted) }) refl
+    form n (record { t = g .t; accepted = g .accepted; made = begins-front l k (f (g .t) (g .accepted)) }) refl
+
+-- four tables of the fixed length
+pub open-long : {row : List ℕ} (a b c d : ℕ) → Open row (a ∷ b ∷ c ∷ d ∷ []) → Long a b c d
+open-long a b c d o =
+    let h = o .long in
+    let k = and-r (leb 16384 a) (enough (b ∷ c ∷ d ∷ [])) h in
+    let l = and-r (leb 16384 b) (enough (c ∷ d ∷ [])) k in
+    let m = leb-true 16384 d (and-l (leb 16384 d) true (and-r (leb 16384 c) (enough (d ∷ [])) l)) in
+    record {
+      first = leb-true 16384 a (and-l (leb 16384 a) (enough (b ∷ c ∷ d ∷ [])) h);
+      second = leb-true 16384 b (and-l (leb 16384 b) (enough (c ∷ d ∷ [])) k);
+      third = leb-true 16384 c (and-l (leb 16384 c) (enough (d ∷ [])) l);
+      fourth = omega (arith, m);
+    }
