@@ -1,3 +1,4 @@
 pub mod Least
 pub mod Bounds
 pub mod Points
+pub mod Terms
