@@ -35,6 +35,7 @@ fn write_number(n: u32, out: &mut [u8]) -> usize
     k + 1
 }
 
+// How many bytes the integer takes that a leaf stands for.
 fn leaf_length(x: u32) -> usize
     requires { ⌜ x < 2147483647 ⌝ }
     ensures { λ r. ⌜ r ≡ length (leafText x) ⌝ }
@@ -45,7 +46,7 @@ fn leaf_length(x: u32) -> usize
     1 + digits_of(P - x)
 }
 
-// Writes the integer that a leaf stands for.
+// Writes the integer that a leaf stands for, and returns how many bytes it takes.
 fn write_leaf(x: u32, out: &mut [u8]) -> usize
     requires { ⌜ x < 2147483647 ⌝ }
     requires { ⌜ length (leafText x) ≤ length (now out) ⌝ }
@@ -59,7 +60,7 @@ fn write_leaf(x: u32, out: &mut [u8]) -> usize
     1 + n
 }
 
-// Writes "(POP i " where c is P, "(POW i " where c is W.
+// Writes "(POP i " where c is P, "(POW i " where c is W, and returns how many bytes these are.
 fn write_head(c: u8, i: u32, out: &mut [u8]) -> usize
     requires { ⌜ length (headText c i) ≤ length (now out) ⌝ }
     ensures { λ r. ⌜ Wrote r (headText c i) (now (out .entry)) (now (out .exit)) ⌝ }

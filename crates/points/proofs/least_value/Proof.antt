@@ -1,0 +1,83 @@
+-- `points::least_value` meets its contract. The loop's invariant: the tables are as long as at first, and the form vanishes at each number passed. So the number
+-- is at most one at which it does not, which is at most 63; the measure is what is left to 64.
+-- Assumes nothing.
+use mathlib.Core.Path.{refl, sym, _∙_, _≡_}
+use mathlib.Core.Bool.{true}
+use Prim.Native.Nat.{ℕ, _-_, _<_}
+use native.Mathlib.Omega.{arith}
+use lib.Seq.{length-take-le}
+use lib.ListN.{length}
+use borrow.Author.Tests.{not-true, not-false}
+use Rattle.coded.specs.laws.Codes.{coded}
+use Rattle.coded.proofs.Lists.{begins-le}
+use Rattle.points.specs.laws.Least.{fails-within, pass-more}
+use Rattle.points.proofs.Forms.{room-kept, left-codes, left-zero}
+use Rattle.coded.specs.Coding.{dec}
+use Rattle.points.specs.Points.{vanishes}
+use Rattle.points.proofs.least_value.Statement.{statement}
+use Rattle.points.proofs.least_value.Tie as tie
+
+abbrev Inv-loop : tie.InvT-loop
+Inv-loop x out₀ spare₀ a₀ out spare a =
+    (length out ≡ length out₀) × ((length spare ≡ length spare₀) × ((b : ℕ) → b < a → vanishes (dec 0 x) b ≡ true))
+
+abbrev μ-loop : tie.MeasureT-loop
+μ-loop x out₀ spare₀ a₀ out spare a = 64 - a
+
+loop-holds : tie.Need-loop-holds Inv-loop μ-loop
+loop-holds c = (refl, (refl, λ b h. absurd (omega arith)))
+
+at-first-requires : tie.Need-at-first-requires Inv-loop μ-loop
+at-first-requires c κs =
+    let i = c .before .before .loop .inv in
+    let s = c .before .before .before .before .before .before in
+    (omega (arith, fails-within (s .pre .1 .1) (i .1 .1)), (s .pre .0, (room-kept (s .pre .1 .0 .0) (omega arith) (i .0), room-kept (s .pre .1 .0 .1) (omega arith) (i .1 .0))))
+
+slice-reshare-prefix-is-zero : tie.Need-slice-reshare-prefix-is-zero Inv-loop μ-loop
+slice-reshare-prefix-is-zero c = begins-le (c .before .before .before .before .at-first .ensures)
+
+slice-aggregate-is-zero : tie.Need-slice-aggregate-is-zero Inv-loop μ-loop
+slice-aggregate-is-zero c = sym (length-take-le (c .before .before .before .before .before .at-first .result) (c .before .before .before .before .before .at-first .last .1 .1 .1 .0) (begins-le (c .before .before .before .before .before .at-first .ensures)))
+
+is-zero-requires : tie.Need-is-zero-requires Inv-loop μ-loop
+is-zero-requires c κs = coded (left-codes (c .before .before .before .before .before .before .before .before .loop .a) (c .before .before .before .before .before .before .before .before .before .before .before .before .pre .0) (c .before .before .before .before .before .at-first .ensures))
+
+same-length : tie.Need-same-length Inv-loop μ-loop
+same-length c = c .before .before .before .before .before .before .before .at-first .kept .1 .1 .1 .0 ∙ c .before .before .before .before .before .before .before .before .before .before .loop .inv .0
+
+same-length-2 : tie.Need-same-length-2 Inv-loop μ-loop
+same-length-2 c = c .before .before .before .before .before .before .before .at-first .kept .1 .1 .1 .1 .0 ∙ c .before .before .before .before .before .before .before .before .before .before .loop .inv .1 .0
+
+returns : tie.Need-returns Inv-loop μ-loop
+returns c =
+    let z = left-zero (c .before .before .before .before .before .before .before .before .before .before .loop .a) (c .before .before .before .before .before .before .before .before .before .before .before .before .before .before .pre .0) (c .before .before .before .before .before .before .before .at-first .ensures) (c .before .is-zero .ensures) in
+    (record { fails = z ∙ not-true _ (c .if1 .taken); before = c .before .before .before .before .before .before .before .before .before .before .loop .inv .1 .1 }, c .before .before .before .before .before .before .before .at-first .ensures)
+
+add-a : tie.Need-add-a Inv-loop μ-loop
+add-a c = omega (arith, fails-within (c .before .before .before .before .before .before .before .before .before .before .before .before .before .before .pre .1 .1) (c .before .before .before .before .before .before .before .before .before .before .loop .inv .1 .1))
+
+loop-less : tie.Need-loop-less Inv-loop μ-loop
+loop-less c = omega (arith, fails-within (c .before .before .before .before .before .before .before .before .before .before .before .before .before .before .pre .1 .1) (c .before .before .before .before .before .before .before .before .before .before .loop .inv .1 .1))
+
+loop-again : tie.Need-loop-again Inv-loop μ-loop
+loop-again c =
+    let z = left-zero (c .before .before .before .before .before .before .before .before .before .before .loop .a) (c .before .before .before .before .before .before .before .before .before .before .before .before .before .before .pre .0) (c .before .before .before .before .before .before .before .at-first .ensures) (c .before .is-zero .ensures) in
+    (c .before .before .before .before .before .before .before .at-first .kept .1 .1 .1 .0 ∙ c .before .before .before .before .before .before .before .before .before .before .loop .inv .0, (c .before .before .before .before .before .before .before .at-first .kept .1 .1 .1 .1 .0 ∙ c .before .before .before .before .before .before .before .before .before .before .loop .inv .1 .0, pass-more (c .before .before .before .before .before .before .before .before .before .before .loop .inv .1 .1) (z ∙ not-false _ (c .if1 .left))))
+
+pub least-value-spec : {M : Type 1} → statement M
+least-value-spec =
+    tie.close
+    (tie.spec
+    Inv-loop
+    μ-loop
+    loop-holds
+    at-first-requires
+    slice-reshare-prefix-is-zero
+    slice-aggregate-is-zero
+    is-zero-requires
+    same-length
+    same-length-2
+    returns
+    add-a
+    loop-less
+    loop-again)
