@@ -2,11 +2,8 @@
 ghost use mathlib.Core.Path.{_≡_};
 ghost use Prim.Native.Nat.{_+_, _≤_};
 ghost use lib.ListN.{length};
-ghost use Rattle.horner.specs.definitions.Form.{isZero};
-ghost use Rattle.coded.specs.Widths.{ringOf};
 ghost use Rattle.coded.specs.Coding.{Coded, Room, dec};
-ghost use Rattle.coded.specs.Operations.{negateOf, sumOf};
-ghost use Rattle.walks.specs.Carrying.{reduceOf};
+ghost use Rattle.counting.specs.Same.{sameOf};
 
 // Whether the forms x and y are the same as counters of the width: each is reduced, the second negated, and their wrapped sum is 0. a, b and c are work space.
 pub fn same_counters(
@@ -21,7 +18,7 @@ pub fn same_counters(
     requires { ⌜ Room (1 + length (now x)) (now a) ⌝ }
     requires { ⌜ Room (length (now x) + length (now y)) (now b) ⌝ }
     requires { ⌜ length (now y) ≤ length (now c) ⌝ }
-    ensures { λ r. ⌜ r ≡ isZero (ringOf width) (sumOf width (reduceOf width (dec 0 (now (x .entry)))) (negateOf width (reduceOf width (dec 0 (now (y .entry)))))) ⌝ }
+    ensures { λ r. ⌜ r ≡ sameOf width (dec 0 (now (x .entry))) (dec 0 (now (y .entry))) ⌝ }
 {
     let n = walks::reduce(width, x, a);
     let m = walks::reduce(width, y, b);

@@ -1,6 +1,6 @@
 -- `counting::same_counters` meets its contract: the form of a and the negated form of c are reduced ones, and b holds their sum at the end.
 -- Assumes nothing.
-use mathlib.Core.Path.{_≡_, _∙_, sym, ap, ap₂, subst}
+use mathlib.Core.Path.{_∙_, sym, ap, ap₂, subst}
 use Prim.Native.Nat.{ℕ, _≤_}
 use native.Mathlib.Omega.{arith}
 use lib.ListN.{length, take}

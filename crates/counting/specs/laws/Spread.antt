@@ -77,10 +77,6 @@ module _ {A G : Type 0} (R : Ring A) (S : Spread R G) where
   downs-add zero j v = rw NatL.zero-add
   downs-add (suc i) j v = rw NatL.suc-add (ap down (downs-add i j v))
 
-  down-next : (i : ℕ) (v : G) → downs i (down v) ≡ down (downs i v)
-  down-next zero v = refl
-  down-next (suc i) v = ap down (down-next i v)
-
   -- ---- Definitions 7 and 8
   pub read-mkpop : (i : ℕ) (p : Form A) → read (mkpop i p) ≡ downs i (read p)
   read-mkpop zero p = refl
@@ -88,7 +84,7 @@ module _ {A G : Type 0} (R : Ring A) (S : Spread R G) where
   read-mkpop (suc i) (pop j q) = downs-add (suc i) j (read q)
   read-mkpop (suc i) (pow j q r) = refl
 
-  read-lower : (i : ℕ) (p : Form A) → read (lower i p) ≡ downs i (read p)
+  pub read-lower : (i : ℕ) (p : Form A) → read (lower i p) ≡ downs i (read p)
   read-lower zero p = refl
   read-lower (suc i) p = refl
 
