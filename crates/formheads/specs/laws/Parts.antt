@@ -99,8 +99,44 @@ module _ {s : List ℕ} {at kind number first : ℕ} (H : Headed s at kind numbe
       go (pop i p) rest h = omega (arith, H _ _ h .is-next)
       go (pow i p q) rest h = omega (arith, H _ _ h .is-next)
 
+  -- a byte stands behind a part
+  pub part-inside : 2 ≤ kind → Standing s at → (mid : ℕ) → Ends s first mid → mid + 1 ≤ length s
+  part-inside k S mid E = go (S .g) (S .rest) (S .stands)
+    where
+      go : (g : Form ℤ) (rest : List ℕ) → Stands s at g rest → mid + 1 ≤ length s
+      go (int (pos n)) rest h = absurd (omega (arith, H _ _ h .is-kind))
+      go (int (negsuc n)) rest h = absurd (omega (arith, H _ _ h .is-kind))
+      go (pop i p) rest h =
+          omega (
+            arith,
+            stands-inside h,
+            H _ _ h .is-next,
+            E p _ (pop-part h),
+            length-append (popHead i) (text p ++ (41 ∷ [])),
+            length-append (text p) (41 ∷ []),
+          )
+      go (pow i p q) rest h =
+          omega (
+            arith,
+            stands-inside h,
+            H _ _ h .is-next,
+            E p _ (pow-left h),
+            length-append (powHead i) (text p ++ (32 ∷ text q ++ (41 ∷ []))),
+            length-append (text p) (32 ∷ text q ++ (41 ∷ [])),
+          )
+
 -- where a form ends
 pub ends-inside : {s : List ℕ} {at : ℕ} (next : ℕ) → Ends s at next → Standing s at → (at < next) × (next ≤ length s)
 ends-inside next E S =
     let e = E _ _ (S .stands) in
     (omega (arith, e, text-some (S .g)), omega (arith, e, stands-inside (S .stands)))
+
+-- neither an integer nor POP
+pub kind-pow : {s : List ℕ} {at kind number first : ℕ} → Headed s at kind number first → Standing s at → 2 ≤ kind → (kind ≡ 2 → ⊥) → kind ≡ 3
+kind-pow {s} {at} {kind} {number} {first} H S k n = go (S .g) (S .rest) (S .stands)
+  where
+    go : (g : Form ℤ) (rest : List ℕ) → Stands s at g rest → kind ≡ 3
+    go (int (pos n)) rest h = absurd (omega (arith, H _ _ h .is-kind))
+    go (int (negsuc n)) rest h = absurd (omega (arith, H _ _ h .is-kind))
+    go (pop i p) rest h = absurd (n (H _ _ h .is-kind))
+    go (pow i p q) rest h = H _ _ h .is-kind

@@ -1,0 +1,3 @@
+-- The text of a form: what its passes find.
+pub mod Building
+pub mod laws
