@@ -1,3 +1,4 @@
 -- The text of a form: what its passes find.
+pub mod Judging
 pub mod Building
 pub mod laws
