@@ -1,4 +1,5 @@
 -- The text of a form: what its passes find.
 pub mod Judging
+pub mod Measuring
 pub mod Building
 pub mod laws

@@ -1,3 +1,4 @@
 pub mod Judging
+pub mod Measuring
 pub mod Building
 pub mod Accepted

@@ -1,7 +1,8 @@
 // The text of a form in three passes: judged, measured, and made a coded form over the remainders by P.
 use coded::NODE;
+use measures::Measures;
 ghost use mathlib.Core.Path.{_≡_};
-ghost use Prim.Native.Nat.{_+_, _-_, _≤_};
+ghost use Prim.Native.Nat.{_+_, _-_, _≤_, min, max};
 ghost use lib.IntN.{ℤ};
 ghost use lib.ListN.{length};
 ghost use Rattle.horner.specs.definitions.Form.{Form};
@@ -12,6 +13,7 @@ ghost use lib.Dec.{eqb};
 ghost use Rattle.syntax.specs.Machine.{pick};
 ghost use Rattle.formheads.specs.Heads.{Standing};
 ghost use Rattle.formreading.specs.Judging.{popSeen, powSeen, SeenAt};
+ghost use Rattle.formreading.specs.Measuring.{leafM, laterM, popM, powM, atLeastOne, MeasuredAt};
 ghost use Rattle.formreading.specs.Building.{overP, leafWord, ReadyAt, BuiltAt, Accepted};
 
 // What is seen of a form: the place of the node that is not normal; or its shape (0 the integer 0, 1 another, 2 POP, 3 POW with q 0, 4 another POW) and the
@@ -98,6 +100,110 @@ fn judge_at(left: usize, s: &[u8], at: usize) -> Seen
         return y;
     };
     judge_pow(left, i, p, q, at, next + 1)
+}
+
+// The measures of a form, and the place behind its text.
+pub struct Measured {
+    pub found: Measures,
+    pub next: usize,
+}
+
+fn larger(a: u32, b: u32) -> u32
+    ensures { λ r. ⌜ r ≡ max a b ⌝ }
+{
+    if a <= b { b } else { a }
+}
+
+// The sum, cut down to the limit.
+fn cut_sum(a: u32, b: u32, limit: u32) -> u32
+    ensures { λ r. ⌜ r ≡ min (a + b) limit ⌝ }
+{
+    let t = (a as u64) + (b as u64);
+    if t <= (limit as u64) { t as u32 } else { limit }
+}
+
+// The measures of an integer, from its magnitude.
+fn leaf_measures(number: u32) -> Measures
+    ensures { λ r. ⌜ r ≡ leafM number ⌝ }
+{
+    Measures {
+        weight: number,
+        terms: pick_shape(number, 0, 1),
+        d0: 0,
+        d1: 0,
+        d2: 0,
+        d3: 0,
+    }
+}
+
+// The measures of a form one variable later.
+fn later(a: Measures) -> Measures
+    ensures { λ r. ⌜ r ≡ laterM a ⌝ }
+{
+    Measures {
+        weight: a.weight,
+        terms: a.terms,
+        d0: 0,
+        d1: a.d0,
+        d2: a.d1,
+        d3: a.d2,
+    }
+}
+
+// The measures of a form i variables later.
+fn popped(i: u32, a: Measures) -> Measures
+    ensures { λ r. ⌜ r ≡ popM i a ⌝ }
+{
+    let mut r = a;
+    let mut k = 0;
+    while k < i {
+        r = later(r);
+        k += 1;
+    }
+    r
+}
+
+// The measures of a POW, from those of its p and q.
+fn joined(i: u32, a: Measures, b: Measures) -> Measures
+    ensures { λ r. ⌜ r ≡ powM i a b ⌝ }
+{
+    Measures {
+        weight: cut_sum(a.weight, b.weight, 1073741824),
+        terms: cut_sum(a.terms, b.terms, 257),
+        d0: cut_sum(i, a.d0, 64),
+        d1: larger(a.d1, b.d0),
+        d2: larger(a.d2, b.d1),
+        d3: larger(a.d3, b.d2),
+    }
+}
+
+// Measures the form at a place; terms counts the coefficients that are not 0.
+fn measure_at(s: &[u8], at: usize) -> Measured
+    requires { ⌜ Standing (now s) at ⌝ }
+    ensures { λ r. ⌜ MeasuredAt (now (s .entry)) at (r .found) (r .next) ⌝ }
+{
+    let head = formheads::head_at(s, at);
+    let kind = head.kind;
+    let i = head.number;
+    let first = head.next;
+    if kind < 2 {
+        let found = leaf_measures(i);
+        return Measured { found, next: first };
+    }
+    let p = measure_at(s, first);
+    let a = p.found;
+    let mid = p.next + 1;
+    if kind == 2 {
+        let found = popped(i, a);
+        return Measured { found, next: mid };
+    }
+    let q = measure_at(s, mid);
+    let b = q.found;
+    let found = joined(i, a, b);
+    Measured {
+        found,
+        next: q.next + 1,
+    }
 }
 
 // The words of a form that was built, and the place behind its text.
