@@ -2,3 +2,4 @@ pub mod Judging
 pub mod Measuring
 pub mod Building
 pub mod Accepted
+pub mod Answer

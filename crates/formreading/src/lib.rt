@@ -14,6 +14,8 @@ ghost use Rattle.syntax.specs.Machine.{pick};
 ghost use Rattle.formheads.specs.Heads.{Standing};
 ghost use Rattle.formreading.specs.Judging.{popSeen, powSeen, SeenAt};
 ghost use Rattle.formreading.specs.Measuring.{leafM, laterM, popM, powM, atLeastOne, MeasuredAt};
+ghost use Rattle.measures.specs.Measuring.{limitM};
+ghost use Rattle.formreading.specs.Answer.{IsRead, judgedOf, limitedM};
 ghost use Rattle.formreading.specs.Building.{overP, leafWord, ReadyAt, BuiltAt, Accepted};
 
 // What is seen of a form: the place of the node that is not normal; or its shape (0 the integer 0, 1 another, 2 POP, 3 POW with q 0, 4 another POW) and the
@@ -203,6 +205,79 @@ fn measure_at(s: &[u8], at: usize) -> Measured
     Measured {
         found,
         next: q.next + 1,
+    }
+}
+
+// The answer on the text of a form: its measures, or the refusal's number and place.
+pub enum Judged {
+    Form(Measures),
+    Refused(u32, usize),
+}
+
+// The terms of the zero polynomial are 1.
+fn at_least_one(a: Measures) -> Measures
+    ensures { λ r. ⌜ r ≡ atLeastOne a ⌝ }
+{
+    Measures {
+        weight: a.weight,
+        terms: larger(1, a.terms),
+        d0: a.d0,
+        d1: a.d1,
+        d2: a.d2,
+        d3: a.d3,
+    }
+}
+
+// 0, or the number of the limit that the measures pass: the lowest.
+fn limit_of(m: Measures) -> u32
+    ensures { λ r. ⌜ r ≡ limitM m ⌝ }
+{
+    if 63 < m.d0 {
+        return 8;
+    }
+    if 63 < m.d1 {
+        return 8;
+    }
+    if 63 < m.d2 {
+        return 8;
+    }
+    if 63 < m.d3 {
+        return 8;
+    }
+    if 1073741823 < m.weight {
+        return 9;
+    }
+    if 256 < m.terms {
+        return 10;
+    }
+    0
+}
+
+// A normal form by its measures: refusals 8, 9, 10.
+fn limited(a: Measures) -> Judged
+    ensures { λ r. ⌜ r ≡ limitedM a ⌝ }
+{
+    let e = limit_of(a);
+    if e == 0 {
+        return Judged::Form(a);
+    }
+    Judged::Refused(e, 0)
+}
+
+// Judges the text of a form over a row of m: refusal 7, then 8, 9, 10; or its measures.
+pub fn judge_text(m: usize, s: &[u8]) -> Judged
+    requires { ⌜ m ≤ 4 ⌝ }
+    requires { ⌜ IsRead (now s) ⌝ }
+    ensures { λ r. ⌜ r ≡ judgedOf m (acceptForm m (now (s .entry))) ⌝ }
+{
+    let seen = judge_at(m, s, 0);
+    match seen {
+        Seen::Wrong(p) => Judged::Refused(7, p),
+        Seen::Fine(_, _) => {
+            let measured = measure_at(s, 0);
+            let a = measured.found;
+            limited(at_least_one(a))
+        }
     }
 }
 
