@@ -1,5 +1,4 @@
 -- The text of a form: what its passes find.
-pub mod Judging
 pub mod Measuring
 pub mod Answer
 pub mod Building

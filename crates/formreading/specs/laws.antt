@@ -1,4 +1,3 @@
-pub mod Judging
 pub mod Measuring
 pub mod Building
 pub mod Accepted

@@ -4,7 +4,7 @@ use mathlib.Core.Path.{_≡_, refl, _∙_}
 use denote.Ref.{now}
 use borrow.Author.Needs.{needs}
 use Rattle.formreading.specs.laws.Answer.{read-standing, answer-wrong, answer-fine}
-use Rattle.formreading.specs.laws.Judging.{seen-as}
+use Rattle.formjudging.specs.laws.Judging.{seen-as}
 use Rattle.formreading.proofs.judge_text.Statement.{statement}
 use Rattle.formreading.proofs.judge_text.Tie as tie
 

@@ -4,11 +4,11 @@ use borrow.Author.Needs.{needs}
 use Rattle.formreading.proofs.leaf_measures.Statement.{statement}
 use Rattle.formreading.proofs.leaf_measures.Tie as tie
 
-pick-shape-requires : tie.Need-pick-shape-requires
-pick-shape-requires c κs = search needs
+if-zero-requires : tie.Need-if-zero-requires
+if-zero-requires c κs = search needs
 
 returns : tie.Need-returns
-returns c = λ j. record { weight = c .before .args .number; terms = c .pick-shape .ensures j; d0 = 0; d1 = 0; d2 = 0; d3 = 0 }
+returns c = λ j. record { weight = c .before .args .number; terms = c .if-zero .ensures j; d0 = 0; d1 = 0; d2 = 0; d3 = 0 }
 
 pub leaf-measures-spec : {M : Type 1} → statement M
-leaf-measures-spec = tie.close (tie.spec pick-shape-requires returns)
+leaf-measures-spec = tie.close (tie.spec if-zero-requires returns)

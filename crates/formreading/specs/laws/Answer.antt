@@ -30,10 +30,10 @@ use Rattle.measures.specs.Measuring.{limitM}
 use Rattle.formheads.specs.Heads.{Stands, Standing}
 use Rattle.formreading.specs.declared.Judged.{Judged}
 use Rattle.formreading.specs.declared.Judged.the-variants.{Form as Formed, Refused}
-use Rattle.formreading.specs.declared.Seen.{Seen}
-use Rattle.formreading.specs.declared.Seen.the-variants.{Wrong, Fine}
+use Rattle.formjudging.specs.declared.Seen.{Seen}
+use Rattle.formjudging.specs.declared.Seen.the-variants.{Wrong, Fine}
 use Rattle.formreading.specs.Answer.{IsRead, judgedOf, limitedM}
-use Rattle.formreading.specs.Judging.{shapeOf, seen, SeenAt}
+use Rattle.formjudging.specs.Judging.{shapeOf, seen, SeenAt}
 use Rattle.formreading.specs.Measuring.{degreeAt, cutOf, atLeastOne, measuresOf, MeasuredAt}
 use Rattle.formreading.specs.laws.Accepted.{text-stands}
 use Rattle.formreading.specs.laws.Measuring.{degree-at}

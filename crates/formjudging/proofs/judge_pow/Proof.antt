@@ -1,12 +1,12 @@
--- `formreading::judge_pow` meets its contract, test by test.
+-- `formjudging::judge_pow` meets its contract, test by test.
 -- Assumes nothing.
 use mathlib.Core.Path.{sym, ap, _∙_}
 use borrow.Author.Needs.{needs}
 use borrow.Author.Tests.{eq-eqb, ne-eqb}
 use Rattle.syntax.specs.Machine.{pick-yes, pick-no}
-use Rattle.formreading.specs.declared.Seen.the-variants.{Fine}
-use Rattle.formreading.proofs.judge_pow.Statement.{statement}
-use Rattle.formreading.proofs.judge_pow.Tie as tie
+use Rattle.formjudging.specs.declared.Seen.the-variants.{Fine}
+use Rattle.formjudging.proofs.judge_pow.Statement.{statement}
+use Rattle.formjudging.proofs.judge_pow.Tie as tie
 
 returns : tie.Need-returns
 returns c = sym (pick-yes _ _ (eq-eqb _ _ (c .if1 .taken)))
@@ -20,13 +20,13 @@ returns-3 c = sym (pick-no _ _ (ne-eqb _ _ (c .before .before .if1 .left)) ∙ p
 returns-4 : tie.Need-returns-4
 returns-4 c = sym (pick-no _ _ (ne-eqb _ _ (c .before .before .before .if1 .left)) ∙ pick-no _ _ (ne-eqb _ _ (c .before .before .if2 .left)) ∙ pick-no _ _ (ne-eqb _ _ (c .before .if3 .left)) ∙ pick-yes _ _ (eq-eqb _ _ (c .if4 .taken)))
 
-pick-shape-requires : tie.Need-pick-shape-requires
-pick-shape-requires c κs = search needs
+if-zero-requires : tie.Need-if-zero-requires
+if-zero-requires c κs = search needs
 
 returns-5 : tie.Need-returns-5
 returns-5 c =
-    ap (λ z. Fine z (c .before .before .before .before .before .args .next)) (c .pick-shape .ensures)
+    ap (λ z. Fine z (c .before .before .before .before .before .args .next)) (c .if-zero .ensures)
     ∙ sym (pick-no _ _ (ne-eqb _ _ (c .before .before .before .before .if1 .left)) ∙ pick-no _ _ (ne-eqb _ _ (c .before .before .before .if2 .left)) ∙ pick-no _ _ (ne-eqb _ _ (c .before .before .if3 .left)) ∙ pick-no _ _ (ne-eqb _ _ (c .before .if4 .left)))
 
 pub judge-pow-spec : {M : Type 1} → statement M
-judge-pow-spec = tie.close (tie.spec returns returns-2 returns-3 returns-4 pick-shape-requires returns-5)
+judge-pow-spec = tie.close (tie.spec returns returns-2 returns-3 returns-4 if-zero-requires returns-5)

@@ -13,8 +13,8 @@ use Rattle.texts.specs.definitions.FormText.{text}
 use Rattle.textlaws.specs.laws.Descent.{judgedAt}
 use Rattle.syntax.specs.Machine.{pick}
 use Rattle.formheads.specs.Heads.{Stands}
-use Rattle.formreading.specs.declared.Seen.{Seen}
-use Rattle.formreading.specs.declared.Seen.the-variants.{Wrong, Fine}
+use Rattle.formjudging.specs.declared.Seen.{Seen}
+use Rattle.formjudging.specs.declared.Seen.the-variants.{Wrong, Fine}
 
 -- what "normal" asks of a part: 0 for the integer 0, 1 for another, 2 for POP, 3 for `(POW j r 0)`, 4 for another POW
 abbrev pub shapeOf : Form ℤ → ℕ

@@ -9,21 +9,21 @@ use borrow.Author.Needs.{needs}
 use Rattle.formheads.specs.Heads.{Standing}
 use Rattle.formheads.specs.laws.Heads.{standing-some}
 use Rattle.formheads.specs.laws.Parts.{first-standing, second-standing, head-later, part-inside, ends-pow, ends-inside, kind-pow}
-use Rattle.formreading.specs.declared.Seen.the-variants.{Fine}
-use Rattle.formreading.specs.Judging.{SeenAt}
-use Rattle.formreading.specs.laws.Judging.{seen-as, seen-ends, int-seen, pop-stops, pop-seen, left-stops, right-stops, pow-seen}
+use Rattle.formjudging.specs.declared.Seen.the-variants.{Fine}
+use Rattle.formjudging.specs.Judging.{SeenAt}
+use Rattle.formjudging.specs.laws.Judging.{seen-as, seen-ends, int-seen, pop-stops, pop-seen, left-stops, right-stops, pow-seen}
 use borrow.Fn.Kinds.{In}
 use borrow.Fn.PlainCycle.{Measures, is, falls, and}
-use Rattle.formreading.proofs.judge_at.Reads as judge-at
-use Rattle.formreading.proofs.judge_at.Kinds as judge-at-kinds
-use Rattle.formreading.proofs.+judge_at.Lts-judge_at as judge-at-lts
+use Rattle.formjudging.proofs.judge_at.Reads as judge-at
+use Rattle.formjudging.proofs.judge_at.Kinds as judge-at-kinds
+use Rattle.formjudging.proofs.+judge_at.Lts-judge_at as judge-at-lts
 use Rattle.formheads.proofs.head_at.Reads as head-at-reads
-use Rattle.formreading.proofs.judge_pop.Reads as judge-pop-reads
-use Rattle.formreading.proofs.judge_pow.Reads as judge-pow-reads
-use Rattle.formreading.proofs.less.Reads as less-reads
-use Rattle.formreading.proofs.pick_shape.Reads as pick-shape-reads
-use Rattle.formreading.proofs.+judge_at.{statement}
-use Rattle.formreading.proofs.+judge_at.Tie.{close}
+use Rattle.formjudging.proofs.judge_pop.Reads as judge-pop-reads
+use Rattle.formjudging.proofs.judge_pow.Reads as judge-pow-reads
+use Rattle.formjudging.proofs.less.Reads as less-reads
+use Rattle.formjudging.proofs.if_zero.Reads as if-zero-reads
+use Rattle.formjudging.proofs.+judge_at.{statement}
+use Rattle.formjudging.proofs.+judge_at.Tie.{close}
 
 abbrev μ-judge-at : Measures 1 judge-at-kinds.ps ℕ
 μ-judge-at κs a = length (a .1 .0 .now) - a .1 .1 .0
@@ -35,7 +35,7 @@ abbrev judge-at-below : ℕ → In 1 judge-at-kinds.ps
 judge-at-below t = and 1 judge-at-kinds.ps (falls 1 judge-at-kinds.ps _<_ μ-judge-at t) judge-at.Pre
 
 abbrev claims : ℕ → judge-at-lts.Claims
-claims t = (head-at-reads.Asked, head-at-reads.Learnt, pick-shape-reads.Asked, pick-shape-reads.Learnt, less-reads.Asked, less-reads.Learnt, judge-at-below t, judge-at.Post, judge-pop-reads.Asked, judge-pop-reads.Learnt, judge-pow-reads.Asked, judge-pow-reads.Learnt)
+claims t = (head-at-reads.Asked, head-at-reads.Learnt, if-zero-reads.Asked, if-zero-reads.Learnt, less-reads.Asked, less-reads.Learnt, judge-at-below t, judge-at.Post, judge-pop-reads.Asked, judge-pop-reads.Learnt, judge-pow-reads.Asked, judge-pow-reads.Learnt)
 
 -- what is seen of the p of a POP
 popped : (t : ℕ) (c : judge-at-lts.After-x (claims t) (judge-at-at t) judge-at.Post) → SeenAt (c .before .before .before .before .before .before .before .before .args .left - c .before .before .before .before .before .before .head-at .result .number) (now (c .before .before .before .before .before .before .before .before .args .s)) (c .before .before .before .before .before .before .head-at .result .next) (Fine (c .x .given .0 .0) (c .x .given .0 .1 .0))
@@ -60,7 +60,7 @@ pub +judge-at-spec : {M : Type 1} → statement M
     (λ c κs. c .before .pre .1 .1)
     (λ c κs. tt)
     -- returns
-    (λ c. int-seen _ (c .before .before .head-at .ensures) (c .before .before .before .before .pre .1 .0) (c .before .if1 .taken) _ (c .pick-shape .ensures))
+    (λ c. int-seen _ (c .before .before .head-at .ensures) (c .before .before .before .before .pre .1 .0) (c .before .if1 .taken) _ (c .if-zero .ensures))
     (λ c κs. tt)
     -- judge-at-requires
     (λ c κs.

@@ -1,10 +1,10 @@
--- `formreading::judge_pop` meets its contract, test by test.
+-- `formjudging::judge_pop` meets its contract, test by test.
 -- Assumes nothing.
 use mathlib.Core.Path.{sym, _∙_}
 use borrow.Author.Tests.{eq-eqb, ne-eqb, lt-ltb, le-ltb}
 use Rattle.syntax.specs.Machine.{pick-yes, pick-no}
-use Rattle.formreading.proofs.judge_pop.Statement.{statement}
-use Rattle.formreading.proofs.judge_pop.Tie as tie
+use Rattle.formjudging.proofs.judge_pop.Statement.{statement}
+use Rattle.formjudging.proofs.judge_pop.Tie as tie
 
 returns : tie.Need-returns
 returns c = sym (pick-yes _ _ (eq-eqb _ _ (c .if1 .taken)))

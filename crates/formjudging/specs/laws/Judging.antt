@@ -18,9 +18,9 @@ use Rattle.textlaws.specs.laws.Descent.{andThen, judgedAt, judged-pop, judged-p
 use Rattle.syntax.specs.Machine.{pick}
 use Rattle.formheads.specs.Heads.{Stands, Standing, Headed, Ends}
 use Rattle.formheads.specs.laws.Parts.{pop-part, pow-left, pow-right, ends-int, ends-pop, ends-pow}
-use Rattle.formreading.specs.declared.Seen.{Seen}
-use Rattle.formreading.specs.declared.Seen.the-variants.{Wrong, Fine}
-use Rattle.formreading.specs.Judging.{shapeOf, popSeen, powSeen, seen, SeenAt}
+use Rattle.formjudging.specs.declared.Seen.{Seen}
+use Rattle.formjudging.specs.declared.Seen.the-variants.{Wrong, Fine}
+use Rattle.formjudging.specs.Judging.{shapeOf, popSeen, powSeen, seen, SeenAt}
 
 -- ---- shapes
 zero-shape : (q : Form ℤ) → eqb (shapeOf q) 0 ≡ isZero ℤ-ring q
