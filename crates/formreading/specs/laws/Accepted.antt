@@ -15,6 +15,7 @@ use Rattle.horner.specs.laws.Hom.{mapForm}
 use Rattle.horner.specs.laws.Lifting.{bounded-map, normal-red}
 use Rattle.horner.specs.laws.Room.{words-3073}
 use Rattle.coded.specs.Coding.{limits, Good, Coded, Made, enc}
+use Rattle.coded.specs.Widths.{ringOf}
 use Rattle.coded.specs.laws.Codes.{coded}
 use Rattle.coded.specs.laws.Good.{good-at}
 use Rattle.coded.specs.laws.Sizes.{size-enc}
@@ -54,19 +55,24 @@ module _ (m : ℕ) (s : List ℕ) (few : m ≤ 4) (f : Form ℤ) (e : acceptForm
       let a = accepted-is in
       bounded-mono f (degrees m f) (limits m) (below-limits m (degrees m f) (length-degrees ℤ-ring m f (a .normal)) (a .degrees-fit)) (bounded-degrees ℤ-ring m f (a .normal))
 
+  pub accepted-normal : Normal (ringOf 0) m (overP f)
+  accepted-normal = let a = accepted-is in normal-red prime prime-pos m f (omega (arith, a .weight-fits)) (a .normal)
+
   -- the form over the remainders by P is good: normal, and of degree at most 63 in each variable
   pub accepted-good : Good 0 (overP f)
   accepted-good =
-      let a = accepted-is in
-      good-at 0 m (overP f) few (normal-red prime prime-pos m f (omega (arith, a .weight-fits)) (a .normal)) (bounded-map (redℤ prime prime-pos) (limits m) f accepted-bounded)
+      good-at 0 m (overP f) few accepted-normal (bounded-map (redℤ prime prime-pos) (limits m) f accepted-bounded)
 
   pub accepted-fit : Fit f
   accepted-fit = record { good = accepted-good; light = accepted-is .weight-fits }
 
-  pub accepted-words : length (enc 0 (overP f)) ≤ 3073
-  accepted-words =
+  pub accepted-size : size (overP f) ≤ 3073
+  accepted-size =
       let a = accepted-is in
-      omega (arith, size-enc 0 (overP f), size-map (redℤ prime prime-pos) f, words-3073 ℤ-ring m f few (a .normal) (omega (arith, a .terms-fit)))
+      omega (arith, size-map (redℤ prime prime-pos) f, words-3073 ℤ-ring m f few (a .normal) (omega (arith, a .terms-fit)))
+
+  pub accepted-words : length (enc 0 (overP f)) ≤ 3073
+  accepted-words = omega (arith, size-enc 0 (overP f), accepted-size)
 
   -- what is made of it is a code
   pub accepted-coded : {r : ℕ} {d : List ℕ} → Made 0 (overP f) r d → Coded 0 (take r d)

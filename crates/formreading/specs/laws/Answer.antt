@@ -80,7 +80,7 @@ all-four (a ∷ b ∷ c ∷ []) h = refl
 all-four (a ∷ b ∷ c ∷ d ∷ []) h = ap (λ z. low a && (low b && (low c && z))) (and-true (low d))
 all-four (a ∷ b ∷ c ∷ d ∷ e ∷ ds) h = absurd (omega arith)
 
-all-at : (ds : List ℕ) → AllLe 63 ds → (k : ℕ) → getD ds k 0 ≤ 63
+pub all-at : (ds : List ℕ) → AllLe 63 ds → (k : ℕ) → getD ds k 0 ≤ 63
 all-at [] h k = omega arith
 all-at (d ∷ ds) h zero = h .0
 all-at (d ∷ ds) h (suc k) = all-at ds (h .1) k
