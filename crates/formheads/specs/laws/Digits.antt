@@ -8,9 +8,9 @@ use native.Mathlib.Numerals.{add-one}
 use lib.ListN.{length, take, drop, getD, drop-of-length-le}
 use lib.Seq.{drop-cons}
 use Rattle.texts.specs.definitions.Bytes.{digit, all}
-use Rattle.texts.specs.definitions.Numerals.{dec, valueFrom}
+use Rattle.texts.specs.definitions.Numerals.{dec}
 use Rattle.textlaws.specs.laws.Bytes.{and-l, and-r, and-i, digit-range}
-use Rattle.textlaws.specs.laws.Numerals.{Leading, leading-dec, dec-short, value-dec}
+use Rattle.textlaws.specs.laws.Numerals.{Leading, leading-dec, dec-short}
 use Rattle.formheads.specs.Heads.{digits, NoDigit}
 
 pub digits-of : (w rest : List ℕ) → all digit w ≡ true → NoDigit rest → digits (w ++ rest) ≡ w

@@ -1,18 +1,16 @@
 -- What stands where a form stands: its first byte, its head, and the places of its parts.
-use mathlib.Core.Bool.{true, false}
 use mathlib.Core.List.{List, [], _∷_, _++_, append-assoc}
 use mathlib.Core.Path.{_≡_, refl, sym, ap, _∙_}
-use Prim.Native.Nat.{ℕ, zero, suc, _+_, _≤_, _<_, min}
+use Prim.Native.Nat.{ℕ, suc, _+_, _≤_, _<_, min}
 use native.Mathlib.Omega.{arith}
-use lib.IntN.{ℤ, pos, negsuc, natAbs}
+use lib.IntN.{ℤ, pos, negsuc}
 use lib.ListN.{length, drop, getD, length-append, length-drop, List·getD-append}
 use lib.Seq.{drop-drop, drop-append-seam, getD-drop}
 use Rattle.horner.specs.definitions.Form.{Form, int, pop, pow}
-use Rattle.texts.specs.definitions.Bytes.{bytes, digit}
 use Rattle.texts.specs.definitions.FormText.{text, popHead, powHead}
 use Rattle.texts.specs.definitions.Numerals.{dec, writeInt, valueFrom}
 use Rattle.textlaws.specs.laws.Numerals.{value-dec}
-use Rattle.formheads.specs.Heads.{digits, NoDigit, NumberAt, Stands, Standing, kindOf, numberOf, headText, HeadIs, Headed}
+use Rattle.formheads.specs.Heads.{digits, NoDigit, NumberAt, Stands, Standing, Headed}
 use Rattle.formheads.specs.laws.Digits.{digits-of, dec-digits}
 
 -- behind the list a, which stands at the place

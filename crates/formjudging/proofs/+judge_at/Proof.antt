@@ -1,6 +1,6 @@
 -- The proof of the cycle of calls {judge_at}. The measure is what is left of the text. A part that is wrong ends the walk; else the node itself is judged.
 -- Assumes nothing.
-use mathlib.Core.Path.{_≡_, refl, sym, _∙_}
+use mathlib.Core.Path.{_≡_, refl, sym}
 use Prim.Native.Nat.{ℕ, _+_, _-_, _<_}
 use native.Mathlib.Omega.{arith}
 use lib.ListN.{length}

@@ -1,23 +1,23 @@
 -- What is seen of a form, from what is seen of its parts.
 use mathlib.Core.Bool.{Bool, true, false, not, cond, _&&_}
-use mathlib.Core.List.{List, [], _∷_, _++_}
-use mathlib.Core.Path.{_≡_, refl, sym, ap, _∙_, subst}
+use mathlib.Core.List.{List}
+use mathlib.Core.Path.{_≡_, refl, sym, ap, _∙_}
 use Prim.Native.Nat.{ℕ, zero, suc, _+_, _-_, _≤_, _<_, min}
 use native.Mathlib.Omega.{arith}
 use borrow.Author.Tests.{eq-eqb, ne-eqb, ltb-true, ltb-false, le-leb, lt-leb}
 use lib.Dec.{eqb, ltb, leb}
 use lib.IntN.{ℤ, pos, negsuc, natAbs}
-use lib.ListN.{length, length-append}
+use lib.ListN.{length}
 use Rattle.horner.specs.definitions.Form.{Form, int, pop, pow, isZero}
 use Rattle.horner.specs.definitions.Integers.{ℤ-ring, isZeroℤ}
 use Rattle.horner.specs.definitions.Normal.{isPow, leads}
 use Rattle.texts.specs.definitions.Answer.{Reading, read, refused}
 use Rattle.texts.specs.definitions.FormJudging.{stands}
-use Rattle.texts.specs.definitions.FormText.{text, popHead, powHead}
+use Rattle.texts.specs.definitions.FormText.{text, powHead}
 use Rattle.textlaws.specs.laws.Descent.{andThen, judgedAt, judged-pop, judged-pow}
 use Rattle.syntax.specs.Machine.{pick}
-use Rattle.formheads.specs.Heads.{Stands, Standing, Headed, Ends}
-use Rattle.formheads.specs.laws.Parts.{pop-part, pow-left, pow-right, ends-int, ends-pop, ends-pow}
+use Rattle.formheads.specs.Heads.{Stands, Headed, Ends}
+use Rattle.formheads.specs.laws.Parts.{pop-part, pow-left, pow-right, ends-pop, ends-pow}
 use Rattle.formjudging.specs.declared.Seen.{Seen}
 use Rattle.formjudging.specs.declared.Seen.the-variants.{Wrong, Fine}
 use Rattle.formjudging.specs.Judging.{shapeOf, popSeen, powSeen, seen, SeenAt}

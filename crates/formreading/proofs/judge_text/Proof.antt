@@ -1,6 +1,6 @@
 -- `formreading::judge_text` meets its contract: the form stands at the beginning of its text; what is wrong in it, or its measures, give the answer.
 -- Assumes nothing.
-use mathlib.Core.Path.{_≡_, refl, _∙_}
+use mathlib.Core.Path.{refl, _∙_}
 use denote.Ref.{now}
 use borrow.Author.Needs.{needs}
 use Rattle.formreading.specs.laws.Answer.{read-standing, answer-wrong, answer-fine}

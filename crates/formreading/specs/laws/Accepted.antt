@@ -1,7 +1,7 @@
 -- An accepted form: what its text, its code and its form over the remainders by P are.
 use mathlib.Core.List.{List, [], _∷_, append-nil}
-use mathlib.Core.Path.{_≡_, refl, sym, ap, _∙_, subst}
-use Prim.Native.Nat.{ℕ, zero, suc, _+_, _≤_, _<_}
+use mathlib.Core.Path.{_≡_, refl, sym, ap, _∙_}
+use Prim.Native.Nat.{ℕ, zero, suc, _≤_}
 use native.Mathlib.Omega.{arith}
 use lib.IntN.{ℤ}
 use lib.ListN.{length, take}
@@ -22,7 +22,6 @@ use Rattle.coded.specs.laws.Sizes.{size-enc}
 use Rattle.texts.specs.definitions.Answer.{read}
 use Rattle.texts.specs.definitions.FormJudging.{acceptForm}
 use Rattle.texts.specs.definitions.FormMeaning.{IsForm, IsFormText}
-use Rattle.texts.specs.definitions.FormReading.{readForm}
 use Rattle.texts.specs.definitions.FormText.{text}
 use Rattle.textlaws.specs.laws.FormAccepted.{accepts}
 use Rattle.formheads.specs.Heads.{Stands}

@@ -2,11 +2,11 @@
 use mathlib.Core.Bool.{Bool, true, false, not, _&&_}
 use mathlib.Core.List.{List, [], _∷_}
 use mathlib.Core.Path.{_≡_, refl, sym, ap, _∙_, subst}
-use Prim.Native.Nat.{ℕ, zero, suc, _+_, _-_, _≤_, _<_, min, max}
+use Prim.Native.Nat.{ℕ, zero, suc, _+_, _-_, _≤_, min, max}
 use native.Mathlib.Nat.{sub-zero}
 use native.Mathlib.Omega.{arith}
 use borrow.Author.Tests.{eq-eqb, ne-eqb, lt-ltb, le-ltb, leb-true, leb-false}
-use lib.Dec.{eqb, ltb, leb}
+use lib.Dec.{ltb, leb}
 use lib.IntN.{ℤ}
 use lib.ListN.{length, getD}
 use Rattle.horner.specs.definitions.Form.{Form}
@@ -14,11 +14,10 @@ use Rattle.horner.specs.definitions.Integers.{ℤ-ring}
 use Rattle.horner.specs.definitions.Measures.{AllLe, weight, degrees, count, terms}
 use Rattle.horner.specs.definitions.Normal.{Normal}
 use Rattle.horner.specs.laws.Degree.{length-degrees}
-use Rattle.texts.specs.definitions.Answer.{Reading, read, refused, fine}
+use Rattle.texts.specs.definitions.Answer.{Reading, read, fine}
 use Rattle.texts.specs.definitions.Bytes.{all}
 use Rattle.texts.specs.definitions.FormJudging.{nodes, passes, thenMeasured, thenJudged, acceptForm}
 use Rattle.texts.specs.definitions.FormMeaning.{IsFormText}
-use Rattle.texts.specs.definitions.FormReading.{readForm}
 use Rattle.texts.specs.definitions.FormText.{text}
 use Rattle.textlaws.specs.laws.Descent.{judgedAt}
 use Rattle.textlaws.specs.laws.FormAccepted.{Fits, Measure, within, degree, heavy, many, measure, Judged as Verdict, upright, fallen, judged}
@@ -27,10 +26,8 @@ use Rattle.textlaws.specs.laws.FormReading.{reads}
 use Rattle.syntax.specs.Machine.{pick, pick-yes, pick-no}
 use Rattle.measures.specs.declared.Measures.{Measures}
 use Rattle.measures.specs.Measuring.{limitM}
-use Rattle.formheads.specs.Heads.{Stands, Standing}
-use Rattle.formreading.specs.declared.Judged.{Judged}
+use Rattle.formheads.specs.Heads.{Standing}
 use Rattle.formreading.specs.declared.Judged.the-variants.{Form as Formed, Refused}
-use Rattle.formjudging.specs.declared.Seen.{Seen}
 use Rattle.formjudging.specs.declared.Seen.the-variants.{Wrong, Fine}
 use Rattle.formreading.specs.Answer.{IsRead, judgedOf, limitedM}
 use Rattle.formjudging.specs.Judging.{shapeOf, seen, SeenAt}

@@ -1,18 +1,16 @@
 -- What a caller learns from the answer on a form's text.
-use mathlib.Core.List.{List, [], _∷_}
-use mathlib.Core.Path.{_≡_, refl, sym, ap, _∙_}
-use Prim.Native.Nat.{ℕ, zero, suc, _≤_}
+use mathlib.Core.List.{List}
+use mathlib.Core.Path.{_≡_, refl, sym, _∙_}
+use Prim.Native.Nat.{ℕ}
 use native.Mathlib.Omega.{arith}
 use lib.IntN.{ℤ}
-use lib.ListN.{getD}
 use Rattle.horner.specs.definitions.Form.{Form}
-use Rattle.horner.specs.definitions.Measures.{AllLe, degrees}
+use Rattle.horner.specs.definitions.Measures.{degrees}
 use Rattle.texts.specs.definitions.Answer.{Reading, read, refused}
 use Rattle.texts.specs.definitions.FormJudging.{acceptForm}
 use Rattle.textlaws.specs.laws.FormAccepted.{accepts}
 use Rattle.measures.specs.declared.Measures.{Measures}
 use Rattle.measures.specs.Measuring.{Small}
-use Rattle.formreading.specs.declared.Judged.{Judged}
 use Rattle.formreading.specs.declared.Judged.the-variants.{Form as Formed, Refused}
 use Rattle.formreading.specs.Answer.{judgedOf}
 use Rattle.formreading.specs.Measuring.{measuresOf}

@@ -2,20 +2,19 @@
 use mathlib.Core.Bool.{true, false}
 use mathlib.Core.List.{List, [], _∷_, _++_}
 use mathlib.Core.Path.{_≡_, refl, sym, ap, _∙_, subst}
-use Prim.Native.Nat.{ℕ, zero, suc, _+_, _*_, _-_, _%_, _≤_, _<_, min}
+use Prim.Native.Nat.{ℕ, suc, _+_, _*_, _-_, _%_, _≤_, _<_, min}
 use native.Mathlib.Nat as NatL
 use native.Mathlib.Omega.{arith}
 use lib.IntN.{ℤ, pos, negsuc, natAbs}
-use lib.ListN.{length, take, drop, set, length-append}
+use lib.ListN.{length, length-append}
 use borrow.Author.Tests.{eq-eqb, ne-eqb}
-use borrow.Rule.Slice.PartMut.{putMid}
 use Rattle.horner.specs.definitions.Form.{Form, int, pop, pow}
-use Rattle.horner.specs.definitions.Residues.{redℤ, prime, prime-pos}
+use Rattle.horner.specs.definitions.Residues.{prime}
 use Rattle.coded.specs.Coding.{Begins, enc}
 use Rattle.coded.specs.laws.Good.{good-pop, good-pow}
 use Rattle.coded.specs.laws.Sizes.{enc-pos}
-use Rattle.formheads.specs.Heads.{Stands, Standing, Headed, HeadIs, Ends}
-use Rattle.formheads.specs.laws.Parts.{pop-part, pow-left, pow-right, ends-int, ends-pop, ends-pow}
+use Rattle.formheads.specs.Heads.{Stands, Standing, Headed, HeadIs}
+use Rattle.formheads.specs.laws.Parts.{pop-part, pow-left, pow-right, ends-pop, ends-pow}
 use Rattle.formreading.specs.Building.{overP, leafWord, Fit, ReadyAt, BuiltAt}
 
 pub ready-standing : {s : List ℕ} {at l : ℕ} → ReadyAt s at l → Standing s at

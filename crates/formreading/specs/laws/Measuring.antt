@@ -1,8 +1,8 @@
 -- The measures of a form from those of its parts.
-use mathlib.Core.Bool.{Bool, true, false, cond}
+use mathlib.Core.Bool.{cond}
 use mathlib.Core.List.{List, [], _∷_}
 use mathlib.Core.Logic.{_⊎_, inl, inr}
-use mathlib.Core.Path.{_≡_, refl, sym, ap, _∙_, subst}
+use mathlib.Core.Path.{_≡_, refl, sym, ap, _∙_}
 use Prim.Native.Nat.{ℕ, zero, suc, _+_, _-_, _≤_, _<_, min, max}
 use native.Mathlib.Omega.{arith}
 use borrow.Author.Tests.{eq-eqb, ne-eqb}
@@ -18,7 +18,7 @@ use Rattle.horner.specs.laws.Compare.{lt-or-ge}
 use Rattle.horner.specs.laws.Degree.{length-degrees, length-tl}
 use Rattle.syntax.specs.Machine.{pick}
 use Rattle.measures.specs.declared.Measures.{Measures}
-use Rattle.formheads.specs.Heads.{Stands, Standing, Headed, Ends}
+use Rattle.formheads.specs.Heads.{Stands, Headed}
 use Rattle.formheads.specs.laws.Parts.{pop-part, pow-left, pow-right, ends-int, ends-pop, ends-pow}
 use Rattle.formreading.specs.Measuring.{behind, degreeAt, cutOf, leafM, laterM, popM, powM, MeasuredAt}
 
