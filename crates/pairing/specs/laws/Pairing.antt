@@ -1,6 +1,6 @@
 -- Two forms side by side.
 use mathlib.Core.List.{List, _++_}
-use mathlib.Core.Path.{_≡_, refl, sym, ap, _∙_}
+use mathlib.Core.Path.{_≡_, refl, sym, ap, _∙_, subst}
 use Prim.Native.Nat.{ℕ, _+_, _-_}
 use native.Mathlib.Omega.{arith}
 use borrow.Rule.Slice.PartMut.{putMid}
@@ -8,11 +8,15 @@ use lib.ListN.{length, take, drop}
 use Rattle.coded.proofs.Lists.{begins-le}
 use Rattle.coded.proofs.Regions.{region-before, region-put}
 use Rattle.products.proofs.Products.{copied-front}
-use Rattle.texts.specs.definitions.Answer.{read, refused}
+use Rattle.texts.specs.definitions.Answer.{Reading, read, refused}
+use Rattle.texts.specs.definitions.Limits.{acceptTerm}
+use Rattle.calls.specs.definitions.Reply as C
+use Rattle.calls.specs.definitions.Reply.{Reply, readAs}
 use Rattle.texts.specs.definitions.Tree.{Tree}
-use Rattle.opening.specs.Opening.{IsTerm, TermRead, refusal, form}
+use Rattle.opening.specs.Opening.{told, IsTerm, TermRead, refusal, form}
 use Rattle.opening.specs.declared.Read.{Read}
 use Rattle.opening.specs.declared.Read.the-variants as R
+use Rattle.opening.specs.declared.Side.{Side}
 use Rattle.opening.specs.declared.Side.the-variants.{Left, Right}
 use Rattle.opening.specs.laws.Opening.{read-form, read-refusal}
 use Rattle.pairing.specs.Pairing.{pairRefused, IsPair, PairRead, left-refusal, right-refusal, forms}
@@ -62,3 +66,37 @@ both l m {n = n} {k} i S j T =
           };
     })
     refl
+
+-- ---- by the enum
+no-forms : {P : Type 0} {k m e p : ℕ} {s : Side} → _≡_ {A = Pair} (Forms k m) (Refused e s p) → P
+no-forms h = absurd (let z : _≡_ {A = ℕ} 0 1 = cc in omega arith)
+
+pub pair-forms : {row s t l : List ℕ} {q : Pair} {k m : ℕ} → q ≡ Forms k m → PairRead row s t q l → IsPair row s t k m l
+pair-forms h (left-refusal e p a i) = no-forms (sym h ∙ i)
+pair-forms h (right-refusal f e p a b i) = no-forms (sym h ∙ i)
+pair-forms {row} {s} {t} {l} {k = k} {m} h (forms k′ m′ Q i) =
+    let a : k′ ≡ k = cc in
+    let b : m′ ≡ m = cc in
+    subst (λ z. IsPair row s t z m l) a (subst (λ z. IsPair row s t k′ z l) b Q)
+
+-- what any call on two terms replies where one is refused
+pub record RefusedSo {B : Type 0} (x : Reply B) (q : Pair) : Type 0 where
+  pub number : ℕ
+  pub side : C.Side
+  pub place : ℕ
+  pub is : q ≡ Refused number (told side) place
+  pub replies : x ≡ C.refuses number side place
+
+pub pair-refused : {B : Type 0} {row s t l : List ℕ} {q : Pair} {e p : ℕ} {d : Side} (k : Tree → Tree → Reply B) → q ≡ Refused e d p → PairRead row s t q l
+    → RefusedSo (readAs C.left (acceptTerm row s) (λ f. readAs C.right (acceptTerm row t) (k f))) q
+pair-refused {row = row} {s} {t} k h (left-refusal e p a i) =
+    record { number = e; side = C.left; place = p; is = i; replies = ap (λ (x : Reading Tree). readAs C.left x (λ f. readAs C.right (acceptTerm row t) (k f))) a }
+pair-refused {row = row} {s} {t} k h (right-refusal f e p a b i) =
+    record {
+      number = e;
+      side = C.right;
+      place = p;
+      is = i;
+      replies = ap (λ (x : Reading Tree). readAs C.left x (λ f. readAs C.right (acceptTerm row t) (k f))) a ∙ ap (λ (x : Reading Tree). readAs C.right x (k f)) b;
+    }
+pair-refused k h (forms n m Q i) = no-forms (sym i ∙ h)
