@@ -16,7 +16,7 @@ abbrev pub remainderedOf : Reply ℕ → Remaindered
 remainderedOf (gives n) = Remainder n
 remainderedOf (refuses e s p) = Refused e (told s) p
 
--- the refusal of the text, which is the call's only one
+-- the refusal of the one text that the call has; a form that was read is none, and the call goes on with it
 abbrev pub refusedOf : Read → Remaindered
 refusedOf (R.Refused e p) = Refused e Left p
 refusedOf (R.Form n) = Remainder 0

@@ -19,7 +19,7 @@ pub enum Remaindered {
 }
 
 // The refusal of a text that was read.
-fn refused(reading: Read) -> Remaindered
+pub fn refused(reading: Read) -> Remaindered
     ensures { λ r. ⌜ r ≡ refusedOf reading ⌝ }
 {
     match reading {

@@ -1,17 +1,16 @@
-use mir.Syntax.{w32}
-use mir.ValLaws.{toZ-ofZ}
-use lib.IntN.{pos}
-use lib.ListN.{getD}
-use Rattle.residue.specs.Residue.{remainderOf}
-use borrow.Author.Needs.{needs}
 -- `remaindering::put_point` meets its contract. The loop's invariant: the first i remainders are written, and the other words are as they were.
 use mathlib.Core.Path.{_≡_, ap, _∙_}
 use mathlib.Core.List.{List, _++_}
 use Prim.Native.Nat.{ℕ, _+_, _-_, _≤_, _<_}
 use native.Mathlib.Omega.{arith}
-use lib.ListN.{length, take, drop, length-set, set}
+use mir.Syntax.{w32}
+use mir.ValLaws.{toZ-ofZ}
+use lib.IntN.{pos}
+use lib.ListN.{length, take, drop, getD, set, length-set}
+use Rattle.residue.specs.Residue.{remainderOf}
 use Rattle.remaindering.specs.Remaindering.{residuesOf}
 use Rattle.remaindering.specs.laws.Residues.{residues-none, residues-more, residues-all}
+use borrow.Author.Needs.{needs}
 use Rattle.remaindering.proofs.put_point.Statement.{statement}
 use Rattle.remaindering.proofs.put_point.Tie as tie
 use Rattle.remaindering.proofs.put_point.Reads as reads

@@ -4,7 +4,8 @@ use mathlib.Core.List.{[], _∷_}
 use lib.ListN.{length}
 use Rattle.opening.specs.laws.Opening.{ready-open, open-long}
 use Rattle.opening.specs.laws.Ending.{zeros-of}
-use Rattle.remaindering.specs.laws.Remainder.{refused-whole, other-length, answered-whole}
+use Rattle.remaindering.specs.laws.Remainder.{remainder-pointed, remainder-clears}
+use Rattle.remaindering.specs.laws.Whole.{refused-whole, other-length, answered-whole}
 use borrow.Author.Needs.{needs}
 use Rattle.remaindering.proofs.remainder.Statement.{statement}
 use Rattle.remaindering.proofs.remainder.Tie as tie
@@ -22,7 +23,7 @@ ready-requires c κs = search needs
 returns : tie.Need-returns
 returns c = let s = c .before .before .before .before .before .before .before .before .args in
     let ts = length (s .a .now) ∷ length (s .b .now) ∷ length (s .c .now) ∷ length (s .d .now) ∷ [] in
-    refused-whole (s .row .now) ts (s .s .now) (s .point .now) (s .a .now) (s .b .now) (s .c .now) (s .d .now) (c .before .ready .ensures) (c .if1 .taken)
+    refused-whole (s .row .now) ts (s .point .now) _ _ (remainder-pointed (s .row .now) ts (s .s .now) (s .point .now)) (s .a .now) (s .b .now) (s .c .now) (s .d .now) (c .before .ready .ensures) (c .if1 .taken)
 
 -- src/lib.rt:89:9
 clear-tables-requires : tie.Need-clear-tables-requires
@@ -49,7 +50,7 @@ returns-2 : tie.Need-returns-2
 returns-2 c = let s = c .before .before .before .before .before .before .before .before .before .before .before .before .before .before .before .before .before .before .before .before .before .before .args in
     let ts = length (s .a .now) ∷ length (s .b .now) ∷ length (s .c .now) ∷ length (s .d .now) ∷ [] in
     let o = ready-open (s .row .now) ts (sym (c .before .before .before .before .before .before .before .before .before .before .before .before .before .before .before .ready .ensures) ∙ c .before .before .before .before .before .before .before .before .before .before .before .before .before .before .if1 .left) in
-    other-length (s .row .now) ts (s .s .now) (s .point .now) (s .a .now) (s .b .now) (s .c .now) (s .d .now) o (c .before .before .before .before .before .before .before .before .before .before .before .before .before .if2 .taken) (zeros-of refl refl refl refl (c .before .before .before .before .before .before .before .before .clear-tables .ensures))
+    other-length (s .row .now) ts (s .point .now) _ _ (remainder-pointed (s .row .now) ts (s .s .now) (s .point .now)) (s .a .now) (s .b .now) (s .c .now) (s .d .now) o (c .before .before .before .before .before .before .before .before .before .before .before .before .before .if2 .taken) (zeros-of refl refl refl refl (c .before .before .before .before .before .before .before .before .clear-tables .ensures))
 
 -- src/lib.rt:92:9
 remainder-of-requires : tie.Need-remainder-of-requires
@@ -83,7 +84,7 @@ returns-3 c = let s = c .before .before .before .before .before .before .before 
     let f = c .before .before .before .before .before .before .before .before .before .before .before .before .before .before .before .before .before .before .before .before .before .remainder-of in
     let ts = length (s .a .now) ∷ length (s .b .now) ∷ length (s .c .now) ∷ length (s .d .now) ∷ [] in
     let o = ready-open (s .row .now) ts (sym (c .before .before .before .before .before .before .before .before .before .before .before .before .before .before .before .before .before .before .before .before .before .before .before .before .before .before .before .before .ready .ensures) ∙ c .before .before .before .before .before .before .before .before .before .before .before .before .before .before .before .before .before .before .before .before .before .before .before .before .before .before .before .if1 .left) in
-    answered-whole (s .row .now) ts (s .s .now) (s .point .now) (s .a .now) (s .b .now) (s .c .now) (s .d .now) o (c .before .before .before .before .before .before .before .before .before .before .before .before .before .before .before .before .before .before .before .before .before .before .before .before .before .before .if2 .left) (f .ensures)
+    answered-whole (s .row .now) ts (s .point .now) _ _ (remainder-pointed (s .row .now) ts (s .s .now) (s .point .now)) (s .a .now) (s .b .now) (s .c .now) (s .d .now) o (c .before .before .before .before .before .before .before .before .before .before .before .before .before .before .before .before .before .before .before .before .before .before .before .before .before .before .if2 .left) (remainder-clears (s .row .now) ts (s .s .now) (s .point .now)) (f .ensures)
     (zeros-of (f .kept .1 .1 .1 .0) (f .kept .1 .1 .1 .1 .0) (f .kept .1 .1 .1 .1 .1 .0) (f .kept .1 .1 .1 .1 .1 .1 .0) (c .before .before .before .before .before .before .before .before .clear-tables2 .ensures))
 
 pub remainder-spec : {M : Type 1} → statement M

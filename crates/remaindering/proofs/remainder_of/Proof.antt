@@ -1,16 +1,15 @@
-
 -- `remaindering::remainder_of` meets its contract: the term is refused, or its form's value is worked out at the coordinates' remainders.
 use mathlib.Core.Path.{_≡_, refl, sym, _∙_}
 use native.Mathlib.Omega.{arith}
-use denote.Ref.{now}
-use lib.ListN.{length, take, drop}
+use lib.ListN.{length, drop}
 use lib.Seq.{length-take-le}
 use Rattle.coded.specs.laws.Codes.{coded}
 use Rattle.coded.proofs.Lists.{begins-le}
 use Rattle.opening.specs.laws.Opening.{read-form}
 use Rattle.opening.specs.laws.Terms.{term-codes}
-use Rattle.remaindering.specs.laws.Remainder.{remainder-refused, remainder-is, room-for}
+use Rattle.remaindering.specs.laws.Remainder.{remainder-refused, remainder-is}
 use Rattle.remaindering.specs.laws.Residues.{front-leaves}
+use Rattle.remaindering.specs.laws.Whole.{room-for}
 use borrow.Author.Needs.{needs}
 use Rattle.remaindering.proofs.remainder_of.Statement.{statement}
 use Rattle.remaindering.proofs.remainder_of.Tie as tie
