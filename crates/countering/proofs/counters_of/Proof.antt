@@ -1,0 +1,128 @@
+use Rattle.coded.specs.Coding.{dec}
+use lib.ListN.{take, drop}
+use Rattle.counting.specs.Same.{sameOf}
+use Rattle.countering.specs.Countering.{answerOf}
+-- `countering::counters_of` meets its contract: a text is refused, or the two forms are compared.
+use mathlib.Core.Path.{_≡_, sym, ap, _∙_}
+use Prim.Native.Nat.{_+_}
+use native.Mathlib.Omega.{arith}
+use denote.Ref.{now}
+use lib.Seq.{length-take-le}
+use Rattle.pairing.specs.laws.Pairing.{pair-forms}
+use Rattle.comparing.specs.laws.Pairs.{pair-words, pair-inside, pair-sides}
+use Rattle.countering.specs.laws.Whole.{text-refused, pair-counted}
+use borrow.Author.Needs.{needs}
+use Rattle.countering.proofs.counters_of.Statement.{statement}
+use Rattle.countering.proofs.counters_of.Tie as tie
+use Rattle.countering.proofs.counters_of.Reads as reads
+use Rattle.countering.proofs.counters_of.Lts as lts
+use Rattle.countering.proofs.bits_of.Reads as bits-of-reads
+use Rattle.countering.proofs.refused.Reads as refused-reads
+use Rattle.countering.proofs.verdict.Reads as verdict-reads
+use Rattle.pairing.proofs.read_pair.Reads as read-pair-reads
+
+-- src/lib.rt:100:9
+read-pair-requires : tie.Need-read-pair-requires
+read-pair-requires c κs = search needs
+
+-- src/lib.rt:101:21
+enum-known-pair : tie.Need-enum-known-pair
+enum-known-pair c = search needs
+
+-- src/lib.rt:102:9
+enum-told : tie.Need-enum-told
+enum-told c = search needs
+
+-- src/lib.rt:102:9
+refused-requires : tie.Need-refused-requires
+refused-requires c κs = search needs
+
+-- src/lib.rt:102:9
+same-length : tie.Need-same-length
+same-length c = search needs
+
+-- src/lib.rt:102:9
+same-length-2 : tie.Need-same-length-2
+same-length-2 c = search needs
+
+-- src/lib.rt:102:9
+same-length-3 : tie.Need-same-length-3
+same-length-3 c = search needs
+
+-- src/lib.rt:102:9
+same-length-4 : tie.Need-same-length-4
+same-length-4 c = search needs
+
+-- src/lib.rt:102:9
+returns : tie.Need-returns
+returns c = c .refused .ensures ∙ text-refused (c .before .before .before .before .before .before .before .before .before .before .before .before .before .before .before .before .before .before .before .before .before .before .before .args .width) (c .before .enum-told .given .1) (c .before .before .before .before .before .before .before .before .before .before .before .read-pair .ensures)
+
+-- src/lib.rt:104:13
+add-e : tie.Need-add-e
+add-e c = omega (arith, pair-words (c .before .before .before .before .before .before .before .before .before .before .before .before .before .before .before .before .before .before .before .before .before .before .before .pre .0) (pair-forms (c .before .pair .given .1) (c .before .before .before .before .before .before .before .before .before .before .before .read-pair .ensures)))
+
+-- src/lib.rt:105:13
+bits-of-requires : tie.Need-bits-of-requires
+bits-of-requires c κs = search needs
+
+-- src/lib.rt:105:29
+slice-reshare-prefix-verdict : tie.Need-slice-reshare-prefix-verdict
+slice-reshare-prefix-verdict c = pair-inside (c .before .before .before .before .before .before .before .before .before .before .before .before .before .before .before .before .before .before .before .before .before .before .before .before .pre .0) (pair-forms (c .before .before .pair .given .1) (c .before .before .before .before .before .before .before .before .before .before .before .before .read-pair .ensures))
+
+-- src/lib.rt:105:29
+slice-aggregate-verdict : tie.Need-slice-aggregate-verdict
+slice-aggregate-verdict c = sym (length-take-le (c .before .before .before .pair .given .0 .0 + c .before .before .before .pair .given .0 .1 .0) (c .before .before .before .before .before .before .before .before .before .before .before .before .before .read-pair .last .1 .1 .1 .1 .1 .1 .0) (pair-inside (c .before .before .before .before .before .before .before .before .before .before .before .before .before .before .before .before .before .before .before .before .before .before .before .before .before .pre .0) (pair-forms (c .before .before .before .pair .given .1) (c .before .before .before .before .before .before .before .before .before .before .before .before .before .read-pair .ensures))))
+
+-- src/lib.rt:105:5
+verdict-requires : tie.Need-verdict-requires
+verdict-requires c κs = let Q = pair-forms (c .before .before .before .before .before .before .pair .given .1) (c .before .before .before .before .before .before .before .before .before .before .before .before .before .before .before .before .read-pair .ensures) in
+    let r = c .before .before .before .before .before .before .before .before .before .before .before .before .before .before .before .before .before .before .before .before .before .before .before .before .before .before .before .before .pre .0 in
+    let z = length-take-le (c .before .before .before .before .before .before .pair .given .0 .0 + c .before .before .before .before .before .before .pair .given .0 .1 .0) (c .before .before .before .before .before .before .before .before .before .before .before .before .before .before .before .before .read-pair .last .1 .1 .1 .1 .1 .1 .0) (pair-inside r Q) in
+    let f = c .before .before .before .before .before .before .before .before .before .before .before .before .before .before .before .before .read-pair .kept in
+    (pair-sides r Q, omega (arith, z, pair-words r Q, c .before .before .before .before .before .before .before .before .before .before .before .before .before .before .before .before .before .before .before .before .before .before .before .before .before .before .before .before .pre .1 .0, f .1 .1 .1 .0, f .1 .1 .1 .1 .0, f .1 .1 .1 .1 .1 .0))
+
+-- src/lib.rt:86:1
+same-length-5 : tie.Need-same-length-5
+same-length-5 c = search needs
+
+-- src/lib.rt:86:1
+same-length-6 : tie.Need-same-length-6
+same-length-6 c = search needs
+
+-- src/lib.rt:86:1
+same-length-7 : tie.Need-same-length-7
+same-length-7 c = search needs
+
+-- src/lib.rt:86:1
+same-length-8 : tie.Need-same-length-8
+same-length-8 c = search needs
+
+-- src/lib.rt:86:1
+returns-2 : tie.Need-returns-2
+returns-2 c = let l = take (c .before .before .before .before .before .before .before .before .before .before .before .before .before .pair .given .0 .0 + c .before .before .before .before .before .before .before .before .before .before .before .before .before .pair .given .0 .1 .0) (c .before .before .before .before .before .before .before .before .before .before .before .before .before .before .before .before .before .before .before .before .before .before .before .read-pair .last .1 .1 .1 .1 .1 .1 .0) in
+    c .before .before .before .before .before .before .verdict .ensures ∙ ap (λ w. answerOf (sameOf w (dec 0 (take (c .before .before .before .before .before .before .before .before .before .before .before .before .before .pair .given .0 .0) l)) (dec 0 (drop (c .before .before .before .before .before .before .before .before .before .before .before .before .before .pair .given .0 .0) l)))) (c .before .before .before .before .before .before .before .before .before .before .before .bits-of .ensures)
+    ∙ pair-counted (c .before .before .before .before .before .before .before .before .before .before .before .before .before .before .before .before .before .before .before .before .before .before .before .before .before .before .before .before .before .before .before .before .before .before .before .args .width) (c .before .before .before .before .before .before .before .before .before .before .before .before .before .before .before .before .before .before .before .before .before .before .before .before .before .before .before .before .before .before .before .before .before .before .before .pre .0) (pair-forms (c .before .before .before .before .before .before .before .before .before .before .before .before .before .pair .given .1) (c .before .before .before .before .before .before .before .before .before .before .before .before .before .before .before .before .before .before .before .before .before .before .before .read-pair .ensures))
+
+pub counters-of-spec : {M : Type 1} → statement M
+counters-of-spec =
+    tie.close
+    (tie.spec
+    read-pair-requires
+    enum-known-pair
+    enum-told
+    refused-requires
+    same-length
+    same-length-2
+    same-length-3
+    same-length-4
+    returns
+    add-e
+    bits-of-requires
+    slice-reshare-prefix-verdict
+    slice-aggregate-verdict
+    verdict-requires
+    same-length-5
+    same-length-6
+    same-length-7
+    same-length-8
+    returns-2)

@@ -1,0 +1,119 @@
+-- `countering::verdict` meets its contract, in as much of the tables as a node's word can say.
+use mathlib.Core.Path.{_≡_, sym, ap, _∙_}
+use native.Mathlib.Omega.{arith}
+use denote.Ref.{now}
+use lib.Seq.{length-take-le}
+use lib.ListN.{take}
+use Rattle.coded.proofs.Lists.{length-tail-part}
+use Rattle.coded.specs.Coding.{dec}
+use Rattle.coded.specs.laws.Codes.{tail-part}
+use Rattle.comparing.specs.laws.Points.{right-part}
+use Rattle.counting.specs.Same.{sameOf}
+use Rattle.countering.specs.Countering.{answerOf}
+use borrow.Author.Needs.{needs}
+use Rattle.countering.proofs.verdict.Statement.{statement}
+use Rattle.countering.proofs.verdict.Tie as tie
+use Rattle.countering.proofs.verdict.Reads as reads
+use Rattle.countering.proofs.verdict.Lts as lts
+use Rattle.counting.proofs.same_counters.Reads as same-counters-reads
+
+-- src/lib.rt:63:9
+slice-aggregate-same-counters : tie.Need-slice-aggregate-same-counters
+slice-aggregate-same-counters c = sym (length-take-le (c .before .before .before .before .before .args .k) (c .before .before .before .before .before .args .l .now) (c .before .before .before .before .before .pre .0 .inside))
+
+-- src/lib.rt:64:9
+mul-same-counters : tie.Need-mul-same-counters
+mul-same-counters c = search needs
+
+-- src/lib.rt:64:9
+sub-same-counters : tie.Need-sub-same-counters
+sub-same-counters c = search needs
+
+-- src/lib.rt:64:9
+part-same-counters-start : tie.Need-part-same-counters-start
+part-same-counters-start c = search needs
+
+-- src/lib.rt:64:9
+part-same-counters-end : tie.Need-part-same-counters-end
+part-same-counters-end c = search needs
+
+-- src/lib.rt:65:9
+slice-relend-prefix-same-counters : tie.Need-slice-relend-prefix-same-counters
+slice-relend-prefix-same-counters c = search needs
+
+-- src/lib.rt:65:9
+slice-aggregate-same-counters-2 : tie.Need-slice-aggregate-same-counters-2
+slice-aggregate-same-counters-2 c = sym (length-take-le 16384 (c .before .before .before .before .before .before .before .args .a .now) (c .before .before .before .before .before .before .before .pre .1 .first))
+
+-- src/lib.rt:66:9
+slice-relend-prefix-same-counters-2 : tie.Need-slice-relend-prefix-same-counters-2
+slice-relend-prefix-same-counters-2 c = search needs
+
+-- src/lib.rt:66:9
+slice-aggregate-same-counters-3 : tie.Need-slice-aggregate-same-counters-3
+slice-aggregate-same-counters-3 c = sym (length-take-le 16384 (c .before .before .before .before .before .before .before .before .args .b .now) (c .before .before .before .before .before .before .before .before .pre .1 .second))
+
+-- src/lib.rt:61:9
+same-counters-requires : tie.Need-same-counters-requires
+same-counters-requires c κs = let s = c .before .before .before .before .before .before .before .before .before .args in
+    let w = c .before .before .before .before .before .before .before .before .before .pre .1 in
+    let i = length-take-le (s .k) (s .l .now) (c .before .before .before .before .before .before .before .before .before .pre .0 .inside) in
+    let t = length-tail-part (s .k) (s .l .now) in
+    let j = length-take-le 16384 (s .a .now) (w .first) in
+    let k = length-take-le 16384 (s .b .now) (w .second) in
+    ((c .before .before .before .before .before .before .before .before .before .pre .0 .left, right-part (c .before .before .before .before .before .before .before .before .before .pre .0)), (omega (arith, i, j, w .forms, c .before .before .before .before .before .before .before .before .before .pre .0 .inside), (omega (arith, i, t, k, w .forms, c .before .before .before .before .before .before .before .before .before .pre .0 .inside), omega (arith, t, w .forms, w .third))))
+
+-- src/lib.rt:70:9
+same-length : tie.Need-same-length
+same-length c = search needs
+
+-- src/lib.rt:70:9
+same-length-2 : tie.Need-same-length-2
+same-length-2 c = search needs
+
+-- src/lib.rt:70:9
+same-length-3 : tie.Need-same-length-3
+same-length-3 c = search needs
+
+-- src/lib.rt:70:9
+returns : tie.Need-returns
+returns c = sym (ap answerOf (sym (ap (λ z. sameOf (c .before .before .before .before .before .before .before .before .before .before .before .before .before .before .before .before .before .args .width) (dec 0 (take (c .before .before .before .before .before .before .before .before .before .before .before .before .before .before .before .before .before .args .k) (c .before .before .before .before .before .before .before .before .before .before .before .before .before .before .before .before .before .args .l .now))) (dec 0 z)) (tail-part (c .before .before .before .before .before .before .before .before .before .before .before .before .before .before .before .before .before .args .k) (c .before .before .before .before .before .before .before .before .before .before .before .before .before .before .before .before .before .args .l .now))) ∙ sym (c .before .before .before .before .before .before .before .same-counters .ensures) ∙ c .if1 .taken))
+
+-- src/lib.rt:49:1
+same-length-4 : tie.Need-same-length-4
+same-length-4 c = search needs
+
+-- src/lib.rt:49:1
+same-length-5 : tie.Need-same-length-5
+same-length-5 c = search needs
+
+-- src/lib.rt:49:1
+same-length-6 : tie.Need-same-length-6
+same-length-6 c = search needs
+
+-- src/lib.rt:49:1
+returns-2 : tie.Need-returns-2
+returns-2 c = sym (ap answerOf (sym (ap (λ z. sameOf (c .before .before .before .before .before .before .before .before .before .before .before .before .before .before .before .before .before .args .width) (dec 0 (take (c .before .before .before .before .before .before .before .before .before .before .before .before .before .before .before .before .before .args .k) (c .before .before .before .before .before .before .before .before .before .before .before .before .before .before .before .before .before .args .l .now))) (dec 0 z)) (tail-part (c .before .before .before .before .before .before .before .before .before .before .before .before .before .before .before .before .before .args .k) (c .before .before .before .before .before .before .before .before .before .before .before .before .before .before .before .before .before .args .l .now))) ∙ sym (c .before .before .before .before .before .before .before .same-counters .ensures) ∙ c .if1 .left))
+
+pub verdict-spec : {M : Type 1} → statement M
+verdict-spec =
+    tie.close
+    (tie.spec
+    slice-aggregate-same-counters
+    mul-same-counters
+    sub-same-counters
+    part-same-counters-start
+    part-same-counters-end
+    slice-relend-prefix-same-counters
+    slice-aggregate-same-counters-2
+    slice-relend-prefix-same-counters-2
+    slice-aggregate-same-counters-3
+    same-counters-requires
+    same-length
+    same-length-2
+    same-length-3
+    returns
+    same-length-4
+    same-length-5
+    same-length-6
+    returns-2)

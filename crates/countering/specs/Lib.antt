@@ -1,0 +1,3 @@
+-- The call `counters`. Its reply is defined in crates/calls.
+pub mod Countering
+pub mod laws
