@@ -75,7 +75,20 @@ module _ (n : ℕ) (f g : Term) (F : Within n f) (G : Within n g) where
   pub verdict-same : normP f ≡ normP g → verdictOf n f g ≡ equal
   verdict-same e = rw (bytes-same e, verdictOf) refl
 
-  not-zero : (normP f ≡ normP g → ⊥) → isZero P-ring (gap f g) ≡ false
+  pub verdict-apart : (normP f ≡ normP g → ⊥) → verdictOf n f g ≡ different (pointOf n f g) (evalP f (pointOf n f g) .0) (evalP g (pointOf n f g) .0)
+  verdict-apart h = rw (bytes-differ h, verdictOf) refl
+
+  -- 'same' is said of the same bytes only
+  pub verdict-bytes : verdictOf n f g ≡ equal → text (normℤ f) ≡ text (normℤ g)
+  verdict-bytes = go (same (text (normℤ f)) (text (normℤ g))) refl
+    where
+      go : (b : Bool) → same (text (normℤ f)) (text (normℤ g)) ≡ b → verdictOf n f g ≡ equal → text (normℤ f) ≡ text (normℤ g)
+      go true e k = same-eq (text (normℤ f)) (text (normℤ g)) e
+      go false e k =
+          let i : different (pointOf n f g) (evalP f (pointOf n f g) .0) (evalP g (pointOf n f g) .0) ≡ equal = sym (rw (e, verdictOf) refl) ∙ k in
+          absurd (let z : _≡_ {A = ℕ} 0 1 = cc in omega arith)
+
+  pub not-zero : (normP f ≡ normP g → ⊥) → isZero P-ring (gap f g) ≡ false
   not-zero h = go (isZero P-ring (gap f g)) refl
     where
       go : (b : Bool) → isZero P-ring (gap f g) ≡ b → isZero P-ring (gap f g) ≡ false

@@ -1,0 +1,3 @@
+-- The three demands on which the whole is judged.
+pub mod One
+pub mod Demands
