@@ -1,0 +1,3 @@
+pub mod Results
+pub mod Limits
+pub mod Pairs
