@@ -1,17 +1,18 @@
 -- Two forms side by side.
 use mathlib.Core.List.{List}
 use mathlib.Core.Path.{_≡_, refl, sym, ap, _∙_}
-use Prim.Native.Nat.{ℕ, _+_, _-_}
+use Prim.Native.Nat.{ℕ, _+_, _-_, _≤_}
 use native.Mathlib.Omega.{arith}
 use borrow.Rule.Slice.PartMut.{putMid}
-use lib.ListN.{length, take, drop}
+use lib.ListN.{length, take, drop, length-drop}
 use Rattle.coded.proofs.Lists.{begins-le}
 use Rattle.coded.proofs.Regions.{region-before, region-put}
 use Rattle.measures.specs.declared.Measures.{Measures}
 use Rattle.formopening.specs.Reading.{IsForm, FormRead}
 use Rattle.formopening.specs.declared.Read.{Read}
 use Rattle.formopening.specs.declared.Read.the-variants as R
-use Rattle.formopening.specs.laws.Reading.{read-form, read-refusal}
+use Rattle.building.specs.Stack as Stack
+use Rattle.formopening.specs.laws.Reading.{read-form, read-refusal, form-coded}
 use Rattle.opening.specs.declared.Side.{Side}
 use Rattle.opening.specs.declared.Side.the-variants.{Left, Right}
 use Rattle.operating.specs.Pairs.{pairRefused, IsPair, PairRead, left-refusal, right-refusal, forms}
@@ -72,3 +73,12 @@ read-pair {x = x} {y} {n} {k} h (forms x′ n′ y′ k′ P i) =
     let c : y′ ≡ y = cc in
     let d : k′ ≡ k = cc in
     rw (a, b, c, d) at P
+
+-- as the operations on two forms ask for them
+pub side-by-side : {m : ℕ} {s t l : List ℕ} {x y : Measures} {n k : ℕ} → m ≤ 4 → IsPair m s t x n y k l → Stack.Pair n k l
+side-by-side {l = l} {n = n} few P =
+    record {
+      fits = omega (arith, begins-le (P .of-left .made), begins-le (P .of-right .made), length-drop n l);
+      coded-left = form-coded few (P .of-left);
+      coded-right = form-coded few (P .of-right);
+    }
