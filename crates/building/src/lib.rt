@@ -224,7 +224,7 @@ fn sum_parts(s: &[u32], n: usize, out: &mut [u32]) -> usize
 }
 
 // The sum of the form in the first a words of stack and of the one in the b words behind it, in their place.
-fn add(stack: &mut [u32], a: usize, b: usize, out: &mut [u32]) -> usize
+pub fn add(stack: &mut [u32], a: usize, b: usize, out: &mut [u32]) -> usize
     requires { ⌜ Pair a b (now stack) ⌝ }
     requires { ⌜ Room (a + b) (now out) ⌝ }
     ensures { λ r. ⌜ Made 0 (sumOf 0 (left a (now (stack .entry))) (right a b (now (stack .entry)))) r (now (stack .exit)) ⌝ }
@@ -256,7 +256,7 @@ fn product_parts(s: &[u32], n: usize, out: &mut [u32], t: &mut [u32], u: &mut [u
 }
 
 // The product of the two.
-fn multiply(
+pub fn multiply(
     stack: &mut [u32],
     a: usize,
     b: usize,

@@ -30,7 +30,7 @@ pub data Limited (m : Measures) : Type 0 where
   weight-passed : limitM m ≡ 9 → (m .d0 ≤ 63) × ((m .d1 ≤ 63) × ((m .d2 ≤ 63) × (m .d3 ≤ 63))) → 1073741823 < m .weight → Limited m
   terms-passed : limitM m ≡ 10 → (m .d0 ≤ 63) × ((m .d1 ≤ 63) × ((m .d2 ≤ 63) × (m .d3 ≤ 63))) → m .weight ≤ 1073741823 → 256 < m .terms → Limited m
 
-limited : (m : Measures) → Limited m
+pub limited : (m : Measures) → Limited m
 limited m = at-0 (lt-or-ge 63 (m .d0))
   where
     at-t : m .d0 ≤ 63 → m .d1 ≤ 63 → m .d2 ≤ 63 → m .d3 ≤ 63 → m .weight ≤ 1073741823 → (256 < m .terms) ⊎ (m .terms ≤ 256) → Limited m
@@ -86,7 +86,7 @@ degree-63 [] i h = omega arith
 degree-63 (d ∷ ds) zero h = h .0
 degree-63 (d ∷ ds) (suc i) h = degree-63 ds i (h .1)
 
-all-63 : (ds : List ℕ) → length ds ≤ 4 → getD ds 0 0 ≤ 63 → getD ds 1 0 ≤ 63 → getD ds 2 0 ≤ 63 → getD ds 3 0 ≤ 63 → AllLe 63 ds
+pub all-63 : (ds : List ℕ) → length ds ≤ 4 → getD ds 0 0 ≤ 63 → getD ds 1 0 ≤ 63 → getD ds 2 0 ≤ 63 → getD ds 3 0 ≤ 63 → AllLe 63 ds
 all-63 [] l p q r s = tt
 all-63 (a ∷ []) l p q r s = (p, tt)
 all-63 (a ∷ b ∷ []) l p q r s = (p, (q, tt))

@@ -25,12 +25,12 @@ use Rattle.measures.specs.Made.{of}
 use Rattle.measures.specs.Limits.{Meets, degree-63}
 
 -- ---- degrees, one by one
-sums-getD : (ds es : List ℕ) (j : ℕ) → getD (sums ds es) j 0 ≡ getD ds j 0 + getD es j 0
+pub sums-getD : (ds es : List ℕ) (j : ℕ) → getD (sums ds es) j 0 ≡ getD ds j 0 + getD es j 0
 sums-getD ds [] j = omega arith
 sums-getD ds (e ∷ es) zero = omega (arith, first-getD ds)
 sums-getD ds (e ∷ es) (suc j) = sums-getD (tl ds) es j ∙ ap (λ d. d + getD es j 0) (tl-getD ds j)
 
-multiples-getD : (k : ℕ) (ds : List ℕ) (j : ℕ) → getD (multiples k ds) j 0 ≡ k * getD ds j 0
+pub multiples-getD : (k : ℕ) (ds : List ℕ) (j : ℕ) → getD (multiples k ds) j 0 ≡ k * getD ds j 0
 multiples-getD k [] j = omega (arith, NatL.mul-zero k)
 multiples-getD k (d ∷ ds) zero = refl
 multiples-getD k (d ∷ ds) (suc j) = multiples-getD k ds j
@@ -71,12 +71,12 @@ box-four (a ∷ b ∷ c ∷ []) l = ap₂ _*_ (add-one a) (ap₂ _*_ (add-one b)
 box-four (a ∷ b ∷ c ∷ d ∷ []) l = ap₂ _*_ (add-one a) (ap₂ _*_ (add-one b) (ap₂ _*_ (add-one c) (add-one d ∙ sym (NatL.mul-one (suc d)))))
 box-four (a ∷ b ∷ c ∷ d ∷ e ∷ ds) l = absurd (omega arith)
 
-box-is : (ds : List ℕ) → length ds ≤ 4 → AllLe 63 ds → (a b c d : ℕ) → a ≡ getD ds 0 0 → b ≡ getD ds 1 0 → c ≡ getD ds 2 0 → d ≡ getD ds 3 0 → boxM a b c d ≡ box ds
+pub box-is : (ds : List ℕ) → length ds ≤ 4 → AllLe 63 ds → (a b c d : ℕ) → a ≡ getD ds 0 0 → b ≡ getD ds 1 0 → c ≡ getD ds 2 0 → d ≡ getD ds 3 0 → boxM a b c d ≡ box ds
 box-is ds l h a b c d ea eb ec ed =
     (λ i. boxM (ea i) (eb i) (ec i) (ed i))
     ∙ box-uncut (getD ds 0 0) (getD ds 1 0) (getD ds 2 0) (getD ds 3 0) (degree-63 ds 0 h) (degree-63 ds 1 h) (degree-63 ds 2 h) (degree-63 ds 3 h) ∙ box-four ds l
 
-box-le : (ds : List ℕ) → length ds ≤ 4 → AllLe 63 ds → box ds ≤ 16777216
+pub box-le : (ds : List ℕ) → length ds ≤ 4 → AllLe 63 ds → box ds ≤ 16777216
 unfolding boxM
 box-le ds l h = subst (λ z. z ≤ 16777216) (box-is ds l h (getD ds 0 0) (getD ds 1 0) (getD ds 2 0) (getD ds 3 0) refl refl refl refl) (omega arith)
 

@@ -75,7 +75,7 @@ fn box_of(a: u32, b: u32, c: u32, d: u32) -> u32
 }
 
 // The sum or the difference of two subterms.
-fn add(a: Measures, b: Measures) -> Measures
+pub fn add(a: Measures, b: Measures) -> Measures
     requires { ⌜ Small a × Small b ⌝ }
     ensures { λ r. ⌜ r ≡ addM a b ⌝ }
 {
@@ -94,7 +94,7 @@ fn add(a: Measures, b: Measures) -> Measures
 }
 
 // The product.
-fn multiply(a: Measures, b: Measures) -> Measures
+pub fn multiply(a: Measures, b: Measures) -> Measures
     requires { ⌜ Small a × Small b ⌝ }
     ensures { λ r. ⌜ r ≡ mulM a b ⌝ }
 {
@@ -113,7 +113,7 @@ fn multiply(a: Measures, b: Measures) -> Measures
 }
 
 // The k-th power.
-fn raise(a: Measures, k: u32) -> Measures
+pub fn raise(a: Measures, k: u32) -> Measures
     requires { ⌜ Small a × (k ≤ 63) ⌝ }
     ensures { λ r. ⌜ r ≡ powM a k ⌝ }
 {
@@ -132,7 +132,7 @@ fn raise(a: Measures, k: u32) -> Measures
 }
 
 // 0, or the number of the limit that the measures pass: the lowest.
-fn limit_of(m: Measures) -> u32
+pub fn limit_of(m: Measures) -> u32
     ensures { λ r. ⌜ r ≡ limitM m ⌝ }
 {
     if 63 < m.d0 {

@@ -1,0 +1,72 @@
+-- `adding::add_of` meets its contract: a form is refused, or their sum is written.
+use native.Mathlib.Omega.{arith}
+use denote.Ref.{now}
+use lib.ListN.{length}
+use Rattle.horner.specs.definitions.Form.{sum}
+use Rattle.horner.specs.definitions.Integers.{ℤ-ring}
+use Rattle.calls.specs.definitions.Forms.{ofSum}
+use Rattle.textlaws.specs.laws.Rows.{row-length}
+use Rattle.operating.specs.laws.Pairs.{read-pair}
+use Rattle.operating.specs.laws.Two.{two-refused}
+use borrow.Author.Needs.{needs}
+use Rattle.adding.proofs.add_of.Statement.{statement}
+use Rattle.adding.proofs.add_of.Tie as tie
+use Rattle.adding.proofs.add_of.Reads as reads
+use Rattle.adding.proofs.add_of.Lts as lts
+use Rattle.adding.proofs.write_sum.Reads as write-sum-reads
+use Rattle.operating.proofs.read_pair.Reads as read-pair-reads
+
+-- src/lib.rt:59:9
+read-pair-requires : tie.Need-read-pair-requires
+read-pair-requires c κs = omega (arith, row-length (now (c .before .before .before .before .before .before .before .args .row)) (c .before .before .before .before .before .before .before .pre .0) .1, c .before .before .before .before .before .before .before .pre .1 .0)
+
+-- src/lib.rt:61:23
+enum-known-pair : tie.Need-enum-known-pair
+enum-known-pair c = search needs
+
+-- src/lib.rt:62:21
+enum-known-pair-2 : tie.Need-enum-known-pair-2
+enum-known-pair-2 c = search needs
+
+-- src/lib.rt:62:36
+write-sum-requires : tie.Need-write-sum-requires
+write-sum-requires c κs = (omega (arith, row-length (now (c .before .before .before .before .before .before .before .before .before .before .before .before .before .before .before .before .args .row)) (c .before .before .before .before .before .before .before .before .before .before .before .before .before .before .before .before .pre .0) .1, c .before .before .before .before .before .before .before .before .before .before .before .before .before .before .before .before .pre .1 .0, c .before .before .before .before .before .before .before .before .before .before .before .before .before .before .before .before .pre .1 .1, c .before .before .before .before .before .before .before .before .read-pair .kept .1 .1 .1 .0), read-pair (c .before .before .before .before .pair2 .given .1) (c .before .before .before .before .before .before .before .before .read-pair .ensures))
+
+-- src/lib.rt:46:1
+same-length : tie.Need-same-length
+same-length c = search needs
+
+-- src/lib.rt:46:1
+returns : tie.Need-returns
+returns c = two-refused (ofSum (length (now (c .before .before .before .before .before .before .before .before .before .before .before .before .before .args .row)))) (sum ℤ-ring) (now (c .before .before .before .before .before .before .before .before .before .before .before .before .before .args .row)) (now (c .before .before .before .before .before .before .before .before .before .before .before .before .before .args .s)) (now (c .before .before .before .before .before .before .before .before .before .before .before .before .before .args .t)) (length (now (c .before .before .before .before .before .before .before .before .before .before .before .before .before .args .result))) (now (c .before .before .before .before .before .before .before .before .before .before .before .before .before .args .result)) (c .before .pair .given .1) (c .before .before .before .before .before .read-pair .ensures)
+
+-- src/lib.rt:46:1
+same-length-2 : tie.Need-same-length-2
+same-length-2 c = search needs
+
+-- src/lib.rt:46:1
+same-length-3 : tie.Need-same-length-3
+same-length-3 c = search needs
+
+-- src/lib.rt:46:1
+same-length-4 : tie.Need-same-length-4
+same-length-4 c = search needs
+
+-- src/lib.rt:46:1
+returns-2 : tie.Need-returns-2
+returns-2 c = search needs
+
+pub add-of-spec : {M : Type 1} → statement M
+add-of-spec =
+    tie.close
+    (tie.spec
+    read-pair-requires
+    enum-known-pair
+    enum-known-pair-2
+    write-sum-requires
+    same-length
+    returns
+    same-length-2
+    same-length-3
+    same-length-4
+    returns-2)

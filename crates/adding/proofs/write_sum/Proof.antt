@@ -1,0 +1,101 @@
+-- `adding::write_sum` meets its contract: a limit is passed, or the sum is written.
+use mathlib.Core.Path.{_≡_, sym, ap, _∙_}
+use native.Mathlib.Omega.{arith}
+use denote.Ref.{now}
+use lib.ListN.{length}
+use lib.Seq.{length-take-le}
+use Rattle.horner.specs.definitions.Form.{sum}
+use Rattle.horner.specs.definitions.Integers.{ℤ-ring}
+use Rattle.calls.specs.definitions.Buffers.{resultAfter}
+use Rattle.calls.specs.definitions.Forms.{ofSum}
+use Rattle.calls.specs.definitions.Reply.{fitted}
+use Rattle.coded.proofs.Lists.{begins-le}
+use Rattle.coded.specs.laws.Codes.{coded}
+use Rattle.measures.specs.Measuring.{limitM}
+use Rattle.answering.specs.Answering.{writtenOf}
+use Rattle.formopening.specs.laws.Reading.{form-small, form-words}
+use Rattle.operating.specs.laws.Pairs.{side-by-side}
+use Rattle.operating.specs.laws.Two.{two-stopped, two-goes}
+use Rattle.adding.specs.laws.Add.{meets, sum-codes, sum-words, sum-text}
+use borrow.Author.Needs.{needs}
+use Rattle.adding.proofs.write_sum.Statement.{statement}
+use Rattle.adding.proofs.write_sum.Tie as tie
+use Rattle.adding.proofs.write_sum.Reads as reads
+use Rattle.adding.proofs.write_sum.Lts as lts
+use Rattle.answering.proofs.write_result.Reads as write-result-reads
+use Rattle.building.proofs.add.Reads as add-reads
+use Rattle.measures.proofs.add.Reads as add-reads′
+use Rattle.measures.proofs.limit_of.Reads as limit-of-reads
+
+-- src/lib.rt:37:32
+add-requires : tie.Need-add-requires
+add-requires c κs = (form-small (c .before .before .before .before .before .before .pre .0 .0) (c .before .before .before .before .before .before .pre .1 .of-left), form-small (c .before .before .before .before .before .before .pre .0 .0) (c .before .before .before .before .before .before .pre .1 .of-right))
+
+-- src/lib.rt:37:9
+limit-of-requires : tie.Need-limit-of-requires
+limit-of-requires c κs = search needs
+
+-- src/lib.rt:39:9
+returns : tie.Need-returns
+returns c = two-stopped (ofSum (length (now (c .before .before .before .before .before .before .before .before .before .args .row)))) (sum ℤ-ring) (now (c .before .before .before .before .before .before .before .before .before .args .row)) (now (c .before .before .before .before .before .before .before .before .before .args .s)) (now (c .before .before .before .before .before .before .before .before .before .args .t)) (length (now (c .before .before .before .before .before .before .before .before .before .args .result))) (c .before .before .before .before .before .before .before .before .before .pre .1) (meets (c .before .before .before .before .before .before .before .before .before .pre .0 .0) (c .before .before .before .before .before .before .before .before .before .pre .1)) (now (c .before .before .before .before .before .before .before .before .before .args .result)) (c .before .limit-of .ensures ∙ ap limitM (c .before .before .add .ensures)) (c .if1 .taken)
+
+-- src/lib.rt:41:40
+slice-relend-prefix-add : tie.Need-slice-relend-prefix-add
+slice-relend-prefix-add c = search needs
+
+-- src/lib.rt:41:40
+slice-aggregate-add : tie.Need-slice-aggregate-add
+slice-aggregate-add c = sym (length-take-le 16384 (c .before .before .before .before .before .before .before .before .before .before .before .args .b .now) (c .before .before .before .before .before .before .before .before .before .before .before .pre .0 .1 .1))
+
+-- src/lib.rt:41:9
+add-requires-2 : tie.Need-add-requires-2
+add-requires-2 c κs = (side-by-side (c .before .before .before .before .before .before .before .before .before .before .before .pre .0 .0) (c .before .before .before .before .before .before .before .before .before .before .before .pre .1), omega (arith, length-take-le 16384 (c .before .before .before .before .before .before .before .before .before .before .before .args .b .now) (c .before .before .before .before .before .before .before .before .before .before .before .pre .0 .1 .1), form-words (c .before .before .before .before .before .before .before .before .before .before .before .pre .0 .0) (c .before .before .before .before .before .before .before .before .before .before .before .pre .1 .of-left), form-words (c .before .before .before .before .before .before .before .before .before .before .before .pre .0 .0) (c .before .before .before .before .before .before .before .before .before .before .before .pre .1 .of-right)))
+
+-- src/lib.rt:42:29
+slice-reshare-prefix-write-result : tie.Need-slice-reshare-prefix-write-result
+slice-reshare-prefix-write-result c = begins-le (c .before .before .before .before .add2 .ensures)
+
+-- src/lib.rt:42:29
+slice-aggregate-write-result : tie.Need-slice-aggregate-write-result
+slice-aggregate-write-result c = sym (length-take-le (c .before .before .before .before .before .add2 .result) (c .before .before .before .before .before .add2 .last .0) (begins-le (c .before .before .before .before .before .add2 .ensures)))
+
+-- src/lib.rt:42:5
+write-result-requires : tie.Need-write-result-requires
+write-result-requires c κs = let z = sym (c .before .before .before .before .before .before .before .before .before .before .limit-of .ensures ∙ ap limitM (c .before .before .before .before .before .before .before .before .before .before .before .add .ensures)) ∙ c .before .before .before .before .before .before .before .before .before .if1 .left in
+    (coded (sum-codes (c .before .before .before .before .before .before .before .before .before .before .before .before .before .before .before .before .before .before .pre .0 .0) (c .before .before .before .before .before .before .before .before .before .before .before .before .before .before .before .before .before .before .pre .1) z (c .before .before .before .before .before .before .add2 .ensures)), omega (arith, length-take-le (c .before .before .before .before .before .before .add2 .result) (c .before .before .before .before .before .before .add2 .last .0) (begins-le (c .before .before .before .before .before .before .add2 .ensures)), sum-words (c .before .before .before .before .before .before .before .before .before .before .before .before .before .before .before .before .before .before .pre .0 .0) (c .before .before .before .before .before .before .before .before .before .before .before .before .before .before .before .before .before .before .pre .1) z (c .before .before .before .before .before .before .add2 .ensures)))
+
+-- src/lib.rt:20:1
+same-length : tie.Need-same-length
+same-length c = search needs
+
+-- src/lib.rt:20:1
+same-length-2 : tie.Need-same-length-2
+same-length-2 c = search needs
+
+-- src/lib.rt:20:1
+same-length-3 : tie.Need-same-length-3
+same-length-3 c = search needs
+
+-- src/lib.rt:20:1
+returns-2 : tie.Need-returns-2
+returns-2 c = let z = sym (c .before .before .before .before .before .before .before .before .before .before .before .before .before .limit-of .ensures ∙ ap limitM (c .before .before .before .before .before .before .before .before .before .before .before .before .before .before .add .ensures)) ∙ c .before .before .before .before .before .before .before .before .before .before .before .before .if1 .left in
+    let e = ap (fitted (length (now (c .before .before .before .before .before .before .before .before .before .before .before .before .before .before .before .before .before .before .before .before .before .args .result)))) (sum-text (c .before .before .before .before .before .before .before .before .before .before .before .before .before .before .before .before .before .before .before .before .before .pre .0 .0) (c .before .before .before .before .before .before .before .before .before .before .before .before .before .before .before .before .before .before .before .before .before .pre .1) z (c .before .before .before .before .before .before .before .before .before .add2 .ensures)) ∙ sym (two-goes (ofSum (length (now (c .before .before .before .before .before .before .before .before .before .before .before .before .before .before .before .before .before .before .before .before .before .args .row)))) (sum ℤ-ring) (now (c .before .before .before .before .before .before .before .before .before .before .before .before .before .before .before .before .before .before .before .before .before .args .row)) (now (c .before .before .before .before .before .before .before .before .before .before .before .before .before .before .before .before .before .before .before .before .before .args .s)) (now (c .before .before .before .before .before .before .before .before .before .before .before .before .before .before .before .before .before .before .before .before .before .args .t)) (length (now (c .before .before .before .before .before .before .before .before .before .before .before .before .before .before .before .before .before .before .before .before .before .args .result))) (c .before .before .before .before .before .before .before .before .before .before .before .before .before .before .before .before .before .before .before .before .before .pre .1) (meets (c .before .before .before .before .before .before .before .before .before .before .before .before .before .before .before .before .before .before .before .before .before .pre .0 .0) (c .before .before .before .before .before .before .before .before .before .before .before .before .before .before .before .before .before .before .before .before .before .pre .1)) z) in
+    (c .before .before .write-result .ensures .0 ∙ ap writtenOf e, c .before .before .write-result .ensures .1 ∙ ap (λ x. resultAfter x (now (c .before .before .before .before .before .before .before .before .before .before .before .before .before .before .before .before .before .before .before .before .before .args .result))) e)
+
+pub write-sum-spec : {M : Type 1} → statement M
+write-sum-spec =
+    tie.close
+    (tie.spec
+    add-requires
+    limit-of-requires
+    returns
+    slice-relend-prefix-add
+    slice-aggregate-add
+    add-requires-2
+    slice-reshare-prefix-write-result
+    slice-aggregate-write-result
+    write-result-requires
+    same-length
+    same-length-2
+    same-length-3
+    returns-2)

@@ -1,0 +1,82 @@
+-- What `add` answers, by what is read of the two forms.
+use mathlib.Core.Bool.{true, false}
+use mathlib.Core.List.{List}
+use mathlib.Core.Path.{_≡_, refl, sym, ap, ap₂, _∙_}
+use Prim.Native.Nat.{ℕ, _+_, _≤_}
+use native.Mathlib.Omega.{arith}
+use lib.IntN.{ℤ}
+use lib.ListN.{length, take}
+use Rattle.horner.specs.definitions.Form.{Form as HForm, sum}
+use Rattle.horner.specs.definitions.Integers.{ℤ-ring}
+use Rattle.horner.specs.definitions.Measures.{degrees, maxs}
+use Rattle.horner.specs.laws.Carry.{carry-sum}
+use Rattle.horner.specs.laws.Degree.{bounded-mono, length-maxs, maxs-left, maxs-right}
+use Rattle.horner.specs.laws.Normal.{normal-sum}
+use Rattle.horner.specs.laws.Table.{sum-fits}
+use Rattle.coded.specs.Coding.{Codes, Made, dec}
+use Rattle.coded.specs.Operations.{sumOf}
+use Rattle.texts.specs.definitions.FormText.{text}
+use Rattle.writing.specs.Written.{textOf}
+use Rattle.calls.specs.definitions.Buffers.{untouched}
+use Rattle.calls.specs.definitions.Forms.{ofSum, twoOf, addReply}
+use Rattle.calls.specs.definitions.Reply.{Reply, neither, refuses, fitted}
+use Rattle.measures.specs.declared.Measures.{Measures}
+use Rattle.measures.specs.Measuring.{addM, limitM}
+use Rattle.building.specs.Stack.{left, right}
+use Rattle.opening.specs.Opening.{readyOf}
+use Rattle.opening.specs.laws.Opening.{Open, open-goes, not-open}
+use Rattle.formreading.specs.Building.{overP}
+use Rattle.operating.specs.Pairs.{IsPair}
+use Rattle.operating.specs.laws.Limits.{Meets, Inside, sum-meets, inside}
+use Rattle.operating.specs.laws.Results.{Within, operand, result, decoded, codes, words, result-text}
+use Rattle.operating.specs.laws.Two.{two-stopped, two-goes, two-clears}
+
+module _ {m : ℕ} {s t l : List ℕ} {x y : Measures} {n k : ℕ} (few : m ≤ 4) (P : IsPair m s t x n y k l) where
+  wx : Within m (degrees m (P .of-left .f)) (P .of-left .f)
+  wx = operand m s few (P .of-left .f) (P .of-left .accepted)
+
+  wy : Within m (degrees m (P .of-right .f)) (P .of-right .f)
+  wy = operand m t few (P .of-right .f) (P .of-right .accepted)
+
+  pub meets : Meets (ofSum m (P .of-left .f) (P .of-right .f)) (addM x y)
+  meets = sum-meets m few (P .of-left .f) (P .of-right .f) (wx .sized) (wy .sized) (P .of-left .found) (P .of-right .found)
+
+  module _ (z : limitM (addM x y) ≡ 0) where
+    within : Within m (maxs (degrees m (P .of-left .f)) (degrees m (P .of-right .f))) (sum ℤ-ring (P .of-left .f) (P .of-right .f))
+    within =
+        let I = inside meets z in
+        result (normal-sum ℤ-ring m (P .of-left .f) (P .of-right .f) (wx .normal) (wy .normal))
+        (length-maxs (degrees m (P .of-left .f)) (degrees m (P .of-right .f)) ∙ wx .sized) (I .low) (I .light) (I .few)
+        (sum-fits m (P .of-left .f) (P .of-right .f) (wx .normal) (wy .normal))
+
+    is-sum : sumOf 0 (left n l) (right n k l) ≡ overP (sum ℤ-ring (P .of-left .f) (P .of-right .f))
+    unfolding sumOf
+    is-sum =
+        let I = inside meets z in
+        let f = P .of-left .f in
+        let g = P .of-right .f in
+        ap₂ (sumOf 0) (decoded few wx (P .of-left .made)) (decoded few wy (P .of-right .made))
+        ∙ carry-sum m f g (wx .normal) (wy .normal) (maxs (degrees m f) (degrees m g)) (length-maxs (degrees m f) (degrees m g) ∙ wx .sized) (I .low)
+        (bounded-mono f (degrees m f) _ (maxs-left (degrees m f) (degrees m g)) (wx .bounded))
+        (bounded-mono g (degrees m g) _ (maxs-right (degrees m f) (degrees m g) (wy .sized ∙ sym (wx .sized))) (wy .bounded))
+        (omega (arith, I .light))
+
+    module _ {r : ℕ} {d : List ℕ} (M : Made 0 (sumOf 0 (left n l) (right n k l)) r d) where
+      pub sum-codes : Codes 0 (overP (sum ℤ-ring (P .of-left .f) (P .of-right .f))) (take r d)
+      sum-codes = codes few within is-sum M
+
+      pub sum-words : r ≤ 3073
+      sum-words = words few within is-sum M
+
+      pub sum-text : textOf (dec 0 (take r d)) ≡ text (sum ℤ-ring (P .of-left .f) (P .of-right .f))
+      sum-text = result-text few within sum-codes
+
+-- ---- the whole call
+module _ (row ts s t : List ℕ) (n : ℕ) where
+  pub add-open : Open row ts → addReply row ts s t n ≡ twoOf (ofSum (length row)) (sum ℤ-ring) row s t n
+  unfolding addReply
+  add-open o = open-goes row ts (λ u. twoOf (ofSum (length row)) (sum ℤ-ring) row s t n) o
+
+  pub add-not-open : (readyOf row ts ≡ 0 → ⊥) → addReply row ts s t n ≡ refuses (readyOf row ts) neither 0
+  unfolding addReply
+  add-not-open h = not-open row ts (λ u. twoOf (ofSum (length row)) (sum ℤ-ring) row s t n) h

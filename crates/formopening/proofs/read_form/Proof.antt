@@ -1,0 +1,63 @@
+-- `formopening::read_form` meets its contract: what is refused, and what is built.
+use mathlib.Core.Path.{sym, _∙_}
+use native.Mathlib.Omega.{arith}
+use lib.ListN.{drop}
+use lib.Seq.{length-take-le}
+use Rattle.formopening.specs.laws.Reading.{judged-accepted, judged-refused, built}
+use borrow.Author.Needs.{needs}
+use Rattle.formopening.proofs.read_form.Statement.{statement}
+use Rattle.formopening.proofs.read_form.Tie as tie
+use Rattle.formopening.proofs.read_form.Reads as reads
+use Rattle.formopening.proofs.read_form.Lts as lts
+use Rattle.formopening.proofs.accept_form.Reads as accept-form-reads
+use Rattle.formreading.proofs.build_form.Reads as build-form-reads
+
+-- src/lib.rt:35:9
+accept-form-requires : tie.Need-accept-form-requires
+accept-form-requires c κs = search needs
+
+-- src/lib.rt:37:25
+enum-known-judged : tie.Need-enum-known-judged
+enum-known-judged c = search needs
+
+-- src/lib.rt:38:22
+enum-known-judged-2 : tie.Need-enum-known-judged-2
+enum-known-judged-2 c = search needs
+
+-- src/lib.rt:39:51
+slice-relend-prefix-build-form : tie.Need-slice-relend-prefix-build-form
+slice-relend-prefix-build-form c = search needs
+
+-- src/lib.rt:39:51
+slice-aggregate-build-form : tie.Need-slice-aggregate-build-form
+slice-aggregate-build-form c = sym (length-take-le 3073 (c .before .before .before .before .before .before .before .args .out .now) (c .before .before .before .before .before .before .before .pre .1))
+
+-- src/lib.rt:39:17
+build-form-requires : tie.Need-build-form-requires
+build-form-requires c κs = ((c .before .before .before .before .before .before .before .pre .0, judged-accepted _ _ _ (sym (c .before .before .before .before .accept-form .ensures) ∙ c .before .before .judged2 .given .1)), omega (arith, length-take-le 3073 (c .before .before .before .before .before .before .before .args .out .now) (c .before .before .before .before .before .before .before .pre .1)))
+
+-- src/lib.rt:31:1
+returns : tie.Need-returns
+returns c = judged-refused _ _ _ _ _ (sym (c .before .before .before .accept-form .ensures) ∙ c .before .judged .given .1)
+
+-- src/lib.rt:31:1
+same-length : tie.Need-same-length
+same-length c = search needs
+
+-- src/lib.rt:31:1
+returns-2 : tie.Need-returns-2
+returns-2 c = built _ _ _ (c .before .before .build-form .last .1 .1 .0) (drop 3073 (c .before .before .before .before .before .before .before .before .before .before .args .out .now)) (sym (c .before .before .before .before .before .before .before .accept-form .ensures) ∙ c .before .before .before .before .before .judged2 .given .1) (c .before .before .build-form .ensures)
+
+pub read-form-spec : {M : Type 1} → statement M
+read-form-spec =
+    tie.close
+    (tie.spec
+    accept-form-requires
+    enum-known-judged
+    enum-known-judged-2
+    slice-relend-prefix-build-form
+    slice-aggregate-build-form
+    build-form-requires
+    returns
+    same-length
+    returns-2)

@@ -1,0 +1,11 @@
+-- The enum that `judge` answers, for each reply.
+use Prim.Native.Nat.{ℕ}
+use Rattle.calls.specs.definitions.Reply.{Reply, gives, refuses}
+use Rattle.opening.specs.Opening.{told}
+use Rattle.judging.specs.declared.Verdict.{Verdict}
+use Rattle.judging.specs.declared.Verdict.the-variants.{Form, Refused}
+
+-- "Where an answer is an enum, a definition gives this paper's number and values for each case of the enum": that it is a form, or number, side and place
+abbrev pub verdictOf : Reply (Unit {0}) → Verdict
+verdictOf (gives u) = Form
+verdictOf (refuses e s p) = Refused e (told s) p

@@ -1,0 +1,3 @@
+-- The call `judge`. Its reply is defined in crates/calls.
+pub mod Judging
+pub mod laws

@@ -1,0 +1,107 @@
+-- `negating::negate_of` meets its contract: the form is refused, or its negative is written.
+use mathlib.Core.Path.{_≡_, sym, ap, _∙_}
+use native.Mathlib.Omega.{arith}
+use denote.Ref.{now}
+use lib.ListN.{length}
+use lib.Seq.{length-take-le}
+use Rattle.calls.specs.definitions.Buffers.{resultAfter}
+use Rattle.coded.proofs.Lists.{begins-le}
+use Rattle.coded.specs.laws.Codes.{coded}
+use Rattle.textlaws.specs.laws.Rows.{row-length}
+use Rattle.answering.specs.Answering.{writtenOf}
+use Rattle.formopening.specs.laws.Reading.{read-form, form-coded, form-words}
+use Rattle.negating.specs.laws.Negate.{negate-refused, negative-codes, negative-words, negate-is}
+use borrow.Author.Needs.{needs}
+use Rattle.negating.proofs.negate_of.Statement.{statement}
+use Rattle.negating.proofs.negate_of.Tie as tie
+use Rattle.negating.proofs.negate_of.Reads as reads
+use Rattle.negating.proofs.negate_of.Lts as lts
+use Rattle.answering.proofs.write_result.Reads as write-result-reads
+use Rattle.formopening.proofs.read_form.Reads as read-form-reads
+use Rattle.walks.proofs.negate.Reads as negate-reads
+
+-- src/lib.rt:22:9
+read-form-requires : tie.Need-read-form-requires
+read-form-requires c κs = omega (arith, row-length (now (c .before .before .before .before .before .before .args .row)) (c .before .before .before .before .before .before .pre .0) .1, c .before .before .before .before .before .before .pre .1 .0)
+
+-- src/lib.rt:24:23
+enum-known-reading : tie.Need-enum-known-reading
+enum-known-reading c = search needs
+
+-- src/lib.rt:25:23
+enum-known-reading-2 : tie.Need-enum-known-reading-2
+enum-known-reading-2 c = search needs
+
+-- src/lib.rt:26:38
+slice-reshare-prefix-negate : tie.Need-slice-reshare-prefix-negate
+slice-reshare-prefix-negate c = begins-le (read-form (c .before .reading2 .given .1) (c .before .before .before .before .before .read-form .ensures) .made)
+
+-- src/lib.rt:26:38
+slice-aggregate-negate : tie.Need-slice-aggregate-negate
+slice-aggregate-negate c = sym (length-take-le (c .before .before .reading2 .given .0 .1 .0) (c .before .before .before .before .before .before .read-form .last .1 .1 .0) (begins-le (read-form (c .before .before .reading2 .given .1) (c .before .before .before .before .before .before .read-form .ensures) .made)))
+
+-- src/lib.rt:26:17
+negate-requires : tie.Need-negate-requires
+negate-requires c κs = let few = row-length (now (c .before .before .before .before .before .before .before .before .before .before .before .before .before .before .args .row)) (c .before .before .before .before .before .before .before .before .before .before .before .before .before .before .pre .0) .1 in
+    let F = read-form (c .before .before .before .reading2 .given .1) (c .before .before .before .before .before .before .before .read-form .ensures) in
+    (form-coded few F, omega (arith, length-take-le (c .before .before .before .reading2 .given .0 .1 .0) (c .before .before .before .before .before .before .before .read-form .last .1 .1 .0) (begins-le (F .made)), form-words few F, c .before .before .before .before .before .before .before .before .before .before .before .before .before .before .pre .1 .1))
+
+-- src/lib.rt:27:37
+slice-reshare-prefix-write-result : tie.Need-slice-reshare-prefix-write-result
+slice-reshare-prefix-write-result c = begins-le (c .before .before .negate .ensures)
+
+-- src/lib.rt:27:37
+slice-aggregate-write-result : tie.Need-slice-aggregate-write-result
+slice-aggregate-write-result c = sym (length-take-le (c .before .before .before .negate .result) (c .before .before .before .negate .last .1 .1 .0) (begins-le (c .before .before .before .negate .ensures)))
+
+-- src/lib.rt:27:13
+write-result-requires : tie.Need-write-result-requires
+write-result-requires c κs = let few = row-length (now (c .before .before .before .before .before .before .before .before .before .before .before .before .before .before .before .before .before .before .before .args .row)) (c .before .before .before .before .before .before .before .before .before .before .before .before .before .before .before .before .before .before .before .pre .0) .1 in
+    let F = read-form (c .before .before .before .before .before .before .before .before .reading2 .given .1) (c .before .before .before .before .before .before .before .before .before .before .before .before .read-form .ensures) in
+    (coded (negative-codes few F (c .before .before .before .before .negate .ensures)), omega (arith, length-take-le (c .before .before .before .before .negate .result) (c .before .before .before .before .negate .last .1 .1 .0) (begins-le (c .before .before .before .before .negate .ensures)), negative-words few F (c .before .before .before .before .negate .ensures)))
+
+-- src/lib.rt:16:1
+same-length : tie.Need-same-length
+same-length c = search needs
+
+-- src/lib.rt:16:1
+returns : tie.Need-returns
+returns c = negate-refused (now (c .before .before .before .before .before .before .before .before .before .before .before .before .args .row)) (length (now (c .before .before .before .before .before .before .before .before .before .before .before .before .args .result))) (now (c .before .before .before .before .before .before .before .before .before .before .before .before .args .result)) (c .before .reading .given .1) (c .before .before .before .before .before .read-form .ensures)
+
+-- src/lib.rt:16:1
+same-length-2 : tie.Need-same-length-2
+same-length-2 c = search needs
+
+-- src/lib.rt:16:1
+same-length-3 : tie.Need-same-length-3
+same-length-3 c = search needs
+
+-- src/lib.rt:16:1
+same-length-4 : tie.Need-same-length-4
+same-length-4 c = search needs
+
+-- src/lib.rt:16:1
+returns-2 : tie.Need-returns-2
+returns-2 c = let F = read-form (c .before .before .before .before .before .before .before .before .before .before .before .reading2 .given .1) (c .before .before .before .before .before .before .before .before .before .before .before .before .before .before .before .read-form .ensures) in
+    let e = negate-is (now (c .before .before .before .before .before .before .before .before .before .before .before .before .before .before .before .before .before .before .before .before .before .before .args .row)) (row-length (now (c .before .before .before .before .before .before .before .before .before .before .before .before .before .before .before .before .before .before .before .before .before .before .args .row)) (c .before .before .before .before .before .before .before .before .before .before .before .before .before .before .before .before .before .before .before .before .before .before .pre .0) .1) F (length (now (c .before .before .before .before .before .before .before .before .before .before .before .before .before .before .before .before .before .before .before .before .before .before .args .result))) (c .before .before .before .before .before .before .before .negate .ensures) in
+    (c .before .before .write-result .ensures .0 ∙ ap writtenOf e, c .before .before .write-result .ensures .1 ∙ ap (λ x. resultAfter x (now (c .before .before .before .before .before .before .before .before .before .before .before .before .before .before .before .before .before .before .before .before .before .before .args .result))) e)
+
+pub negate-of-spec : {M : Type 1} → statement M
+negate-of-spec =
+    tie.close
+    (tie.spec
+    read-form-requires
+    enum-known-reading
+    enum-known-reading-2
+    slice-reshare-prefix-negate
+    slice-aggregate-negate
+    negate-requires
+    slice-reshare-prefix-write-result
+    slice-aggregate-write-result
+    write-result-requires
+    same-length
+    returns
+    same-length-2
+    same-length-3
+    same-length-4
+    returns-2)

@@ -1,0 +1,85 @@
+-- What `negate` answers, by what is read of the form.
+use mathlib.Core.Bool.{true, false}
+use mathlib.Core.List.{List}
+use mathlib.Core.Path.{_≡_, refl, sym, ap, _∙_}
+use Prim.Native.Nat.{ℕ, _≤_}
+use native.Mathlib.Omega.{arith}
+use lib.IntN.{ℤ}
+use lib.ListN.{length, take}
+use Rattle.horner.specs.definitions.Form.{Form as HForm, negate}
+use Rattle.horner.specs.definitions.Integers.{ℤ-ring}
+use Rattle.horner.specs.definitions.Measures.{degrees}
+use Rattle.horner.specs.laws.Carry.{carry-negate}
+use Rattle.horner.specs.laws.Normal.{normal-negate}
+use Rattle.horner.specs.laws.Table.{negate-fits}
+use Rattle.coded.specs.Coding.{Codes, Made, dec}
+use Rattle.coded.specs.Operations as C
+use Rattle.texts.specs.definitions.Answer.{Reading, read, refused}
+use Rattle.texts.specs.definitions.FormJudging.{acceptForm}
+use Rattle.texts.specs.definitions.FormText.{text}
+use Rattle.writing.specs.Written.{textOf}
+use Rattle.calls.specs.definitions.Buffers.{resultAfter, untouched}
+use Rattle.calls.specs.definitions.Forms.{negateOf, negateReply}
+use Rattle.calls.specs.definitions.Reply.{Reply, left, neither, refuses, readAs, fitted}
+use Rattle.measures.specs.declared.Measures.{Measures}
+use Rattle.opening.specs.Opening.{readyOf}
+use Rattle.opening.specs.declared.Side.the-variants.{Left}
+use Rattle.opening.specs.laws.Opening.{Open, open-goes, not-open}
+use Rattle.opening.specs.laws.Ending.{read-clears, fitted-clears}
+use Rattle.opening.specs.laws.Numbers.{form-number}
+use Rattle.answering.specs.Answering.{writtenOf}
+use Rattle.answering.specs.declared.Written.{Written}
+use Rattle.answering.specs.declared.Written.the-variants.{Refused}
+use Rattle.formreading.specs.Building.{overP}
+use Rattle.formopening.specs.Reading.{IsForm, FormRead}
+use Rattle.formopening.specs.declared.Read.{Read}
+use Rattle.formopening.specs.declared.Read.the-variants as R
+use Rattle.formopening.specs.laws.Reading.{read-refusal}
+use Rattle.operating.specs.laws.Results.{Within, operand, result, decoded, codes, words, result-text}
+
+-- ---- the text is refused
+pub negate-refused : (row : List ℕ) {s l : List ℕ} {e p : ℕ} {r : Read} (n : ℕ) (b : List ℕ) → r ≡ R.Refused e p → FormRead (length row) s r l
+    → (Refused e Left p ≡ writtenOf (negateOf row s n)) × (b ≡ resultAfter (negateOf row s n) b)
+negate-refused row n b h t =
+    let k = ap (λ (x : Reading (HForm ℤ)). readAs left x (λ x. fitted n (text (negate ℤ-ring x)))) (read-refusal h t) in
+    (ap writtenOf (sym k), ap (λ x. resultAfter x b) (sym k))
+
+-- ---- the negative is written
+module _ {m : ℕ} {s l : List ℕ} {a : Measures} {n : ℕ} (few : m ≤ 4) (F : IsForm m s a n l) where
+  within : Within m (degrees m (F .f)) (negate ℤ-ring (F .f))
+  within =
+      let W = operand m s few (F .f) (F .accepted) in
+      result (normal-negate ℤ-ring m (F .f) (W .normal)) (W .sized) (W .low) (W .light) (omega (arith, W .few)) (negate-fits m (F .f) (W .normal))
+
+  is-negative : C.negateOf 0 (dec 0 (take n l)) ≡ overP (negate ℤ-ring (F .f))
+  unfolding C.negateOf
+  is-negative = ap (C.negateOf 0) (decoded few (operand m s few (F .f) (F .accepted)) (F .made)) ∙ sym (carry-negate (F .f))
+
+  module _ {k : ℕ} {d : List ℕ} (M : Made 0 (C.negateOf 0 (dec 0 (take n l))) k d) where
+    pub negative-codes : Codes 0 (overP (negate ℤ-ring (F .f))) (take k d)
+    negative-codes = codes few within is-negative M
+
+    pub negative-words : k ≤ 3073
+    negative-words = words few within is-negative M
+
+    negative-text : textOf (dec 0 (take k d)) ≡ text (negate ℤ-ring (F .f))
+    negative-text = result-text few within negative-codes
+
+pub negate-is : (row : List ℕ) {s l : List ℕ} {a : Measures} {n : ℕ} (few : length row ≤ 4) (F : IsForm (length row) s a n l) {k : ℕ} {d : List ℕ} (room : ℕ)
+    → Made 0 (C.negateOf 0 (dec 0 (take n l))) k d → fitted room (textOf (dec 0 (take k d))) ≡ negateOf row s room
+negate-is row few F room M =
+    ap (fitted room) (negative-text few F M) ∙ ap (λ (x : Reading (HForm ℤ)). readAs left x (λ x. fitted room (text (negate ℤ-ring x)))) (sym (F .accepted))
+
+-- ---- the whole call
+module _ (row ts s : List ℕ) (n : ℕ) where
+  pub negate-open : Open row ts → negateReply row ts s n ≡ negateOf row s n
+  unfolding negateReply
+  negate-open o = open-goes row ts (λ u. negateOf row s n) o
+
+  pub negate-not-open : (readyOf row ts ≡ 0 → ⊥) → negateReply row ts s n ≡ refuses (readyOf row ts) neither 0
+  unfolding negateReply
+  negate-not-open h = not-open row ts (λ u. negateOf row s n) h
+
+  pub negate-clears : untouched (negateOf row s n) ≡ false
+  negate-clears =
+      read-clears left (acceptForm (length row) s) (λ x. fitted n (text (negate ℤ-ring x))) (form-number (length row) s) (λ x. fitted-clears n (text (negate ℤ-ring x)))
