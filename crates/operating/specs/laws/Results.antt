@@ -1,13 +1,14 @@
 -- A form within the limits, as an operand or a result: its code over the remainders by P, and its text.
+use mathlib.Core.Bool.{Bool, true, false, cond}
 use mathlib.Core.List.{List}
 use mathlib.Core.Path.{_≡_, refl, sym, ap, _∙_}
-use Prim.Native.Nat.{ℕ, suc, _+_, _≤_, min}
+use Prim.Native.Nat.{ℕ, zero, suc, _+_, _≤_, min}
 use native.Mathlib.Omega.{arith}
-use lib.IntN.{ℤ}
+use lib.IntN.{ℤ, pos, negsuc}
 use lib.ListN.{length, take}
 use Rattle.horner.specs.definitions.Form.{Form, int, pop, pow, size}
 use Rattle.horner.specs.definitions.Integers.{ℤ-ring}
-use Rattle.horner.specs.definitions.Measures.{AllLe, Bounded, box, degrees, weight, terms}
+use Rattle.horner.specs.definitions.Measures.{AllLe, Bounded, box, degrees, weight, one-if, count, terms}
 use Rattle.horner.specs.definitions.Normal.{Normal}
 use Rattle.horner.specs.definitions.Residues.{redℤ, prime, prime-pos}
 use Rattle.horner.specs.laws.Degree.{bounded-mono, bounded-degrees, length-degrees}
@@ -16,10 +17,11 @@ use Rattle.horner.specs.laws.Lifting.{bounded-map, normal-red}
 use Rattle.horner.specs.laws.Room.{words-3073}
 use Rattle.horner.specs.laws.Table.{Fits}
 use Rattle.coded.specs.Coding.{limits, Good, Codes, Made, enc, dec}
-use Rattle.coded.specs.Widths.{Leaf}
+use Rattle.coded.specs.Widths.{Leaf, ringOf}
 use Rattle.coded.specs.laws.Codes.{dec-enc}
 use Rattle.coded.specs.laws.Good.{good-at}
 use Rattle.coded.specs.laws.Sizes.{size-enc}
+use Rattle.fits.specs.Fit as Fit
 use Rattle.fits.specs.laws.Lists.{below-limits}
 use Rattle.texts.specs.definitions.Answer.{read}
 use Rattle.texts.specs.definitions.FormJudging.{acceptForm}
@@ -63,12 +65,36 @@ result {m} {ds = ds} {z = z} n l a w t F =
       few = omega (arith, F .by-terms);
     }
 
+-- a coefficient that is 0 stays 0
+at-most-one : (b : Bool) → cond b 0 1 ≤ 1
+at-most-one true = omega arith
+at-most-one false = omega arith
+
+one-carried : (z : ℤ) → one-if (ringOf 0) (redℤ prime prime-pos z) ≤ one-if ℤ-ring z
+one-carried (pos zero) = omega arith
+one-carried (pos (suc n)) = at-most-one (ringOf 0 .isNil (redℤ prime prime-pos (pos (suc n))))
+one-carried (negsuc n) = at-most-one (ringOf 0 .isNil (redℤ prime prime-pos (negsuc n)))
+
+count-carried : (x : Form ℤ) → count (ringOf 0) (overP x) ≤ count ℤ-ring x
+count-carried (int c) = one-carried c
+count-carried (pop i p) = count-carried p
+count-carried (pow i p q) = omega (arith, count-carried p, count-carried q)
+
 size-map : {A B : Type 0} (f : A → B) (x : Form A) → size (mapForm f x) ≡ size x
 size-map f (int c) = refl
 size-map f (pop i p) = ap suc (size-map f p)
 size-map f (pow i p q) = omega (arith, size-map f p, size-map f q)
 
 module _ {m : ℕ} {ds : List ℕ} {z : Form ℤ} (few-vars : m ≤ 4) (W : Within m ds z) where
+  -- as the product and the power ask for it
+  pub over-remainders : Fit.Within 0 m (terms ℤ-ring z) ds (overP z)
+  over-remainders =
+      record {
+        normal = normal-red prime prime-pos m z (omega (arith, W .light)) (W .normal);
+        bounded = bounded-map (redℤ prime prime-pos) ds z (W .bounded);
+        few = omega (arith, count-carried z);
+      }
+
   pub good : Good 0 (overP z)
   good =
       good-at 0 m (overP z) few-vars (normal-red prime prime-pos m z (omega (arith, W .light)) (W .normal))

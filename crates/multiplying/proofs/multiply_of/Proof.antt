@@ -1,0 +1,82 @@
+-- `multiplying::multiply_of` meets its contract: a form is refused, or their product is written.
+use native.Mathlib.Omega.{arith}
+use denote.Ref.{now}
+use lib.ListN.{length}
+use Rattle.horner.specs.definitions.Form.{prod}
+use Rattle.horner.specs.definitions.Integers.{ℤ-ring}
+use Rattle.calls.specs.definitions.Forms.{ofProduct}
+use Rattle.textlaws.specs.laws.Rows.{row-length}
+use Rattle.operating.specs.laws.Pairs.{read-pair}
+use Rattle.operating.specs.laws.Two.{two-refused}
+use borrow.Author.Needs.{needs}
+use Rattle.multiplying.proofs.multiply_of.Statement.{statement}
+use Rattle.multiplying.proofs.multiply_of.Tie as tie
+use Rattle.multiplying.proofs.multiply_of.Reads as reads
+use Rattle.multiplying.proofs.multiply_of.Lts as lts
+use Rattle.multiplying.proofs.write_product.Reads as write-product-reads
+use Rattle.operating.proofs.read_pair.Reads as read-pair-reads
+
+-- src/lib.rt:64:9
+read-pair-requires : tie.Need-read-pair-requires
+read-pair-requires c κs = omega (arith, row-length (now (c .before .before .before .before .before .before .before .before .before .args .row)) (c .before .before .before .before .before .before .before .before .before .pre .0) .1, c .before .before .before .before .before .before .before .before .before .pre .1 .first)
+
+-- src/lib.rt:66:23
+enum-known-pair : tie.Need-enum-known-pair
+enum-known-pair c = search needs
+
+-- src/lib.rt:67:21
+enum-known-pair-2 : tie.Need-enum-known-pair-2
+enum-known-pair-2 c = search needs
+
+-- src/lib.rt:67:36
+write-product-requires : tie.Need-write-product-requires
+write-product-requires c κs = ((row-length (now (c .before .before .before .before .before .before .before .before .before .before .before .before .before .before .before .before .before .before .before .before .args .row)) (c .before .before .before .before .before .before .before .before .before .before .before .before .before .before .before .before .before .before .before .before .pre .0) .1, omega (arith, c .before .before .before .before .before .before .before .before .before .before .before .before .before .before .before .before .before .before .before .before .pre .1 .first, c .before .before .before .before .before .before .before .before .before .before .before .before .before .before .before .before .before .before .before .before .pre .1 .second, c .before .before .before .before .before .before .before .before .before .before .before .before .before .before .before .before .before .before .before .before .pre .1 .third, c .before .before .before .before .before .before .before .before .before .before .before .before .before .before .before .before .before .before .before .before .pre .1 .fourth, c .before .before .before .before .before .before .before .before .before .before .read-pair .kept .1 .1 .1 .0)), read-pair (c .before .before .before .before .before .before .pair2 .given .1) (c .before .before .before .before .before .before .before .before .before .before .read-pair .ensures))
+
+-- src/lib.rt:49:1
+same-length : tie.Need-same-length
+same-length c = search needs
+
+-- src/lib.rt:49:1
+returns : tie.Need-returns
+returns c = two-refused (ofProduct (length (now (c .before .before .before .before .before .before .before .before .before .before .before .before .before .before .before .args .row)))) (prod ℤ-ring) (now (c .before .before .before .before .before .before .before .before .before .before .before .before .before .before .before .args .row)) (now (c .before .before .before .before .before .before .before .before .before .before .before .before .before .before .before .args .s)) (now (c .before .before .before .before .before .before .before .before .before .before .before .before .before .before .before .args .t)) (length (now (c .before .before .before .before .before .before .before .before .before .before .before .before .before .before .before .args .result))) (now (c .before .before .before .before .before .before .before .before .before .before .before .before .before .before .before .args .result)) (c .before .pair .given .1) (c .before .before .before .before .before .read-pair .ensures)
+
+-- src/lib.rt:49:1
+same-length-2 : tie.Need-same-length-2
+same-length-2 c = search needs
+
+-- src/lib.rt:49:1
+same-length-3 : tie.Need-same-length-3
+same-length-3 c = search needs
+
+-- src/lib.rt:49:1
+same-length-4 : tie.Need-same-length-4
+same-length-4 c = search needs
+
+-- src/lib.rt:49:1
+same-length-5 : tie.Need-same-length-5
+same-length-5 c = search needs
+
+-- src/lib.rt:49:1
+same-length-6 : tie.Need-same-length-6
+same-length-6 c = search needs
+
+-- src/lib.rt:49:1
+returns-2 : tie.Need-returns-2
+returns-2 c = search needs
+
+pub multiply-of-spec : {M : Type 1} → statement M
+multiply-of-spec =
+    tie.close
+    (tie.spec
+    read-pair-requires
+    enum-known-pair
+    enum-known-pair-2
+    write-product-requires
+    same-length
+    returns
+    same-length-2
+    same-length-3
+    same-length-4
+    same-length-5
+    same-length-6
+    returns-2)
