@@ -1,3 +1,13 @@
+-- `fields::signed` meets its contract, by the first byte.
+use mathlib.Core.Path.{_≡_, sym, ap, _∙_}
+use Prim.Native.Nat.{_-_}
+use native.Mathlib.Omega.{arith}
+use denote.Ref.{now}
+use lib.ListN.{length, drop, length-drop}
+use lib.Seq.{take-all}
+use Rattle.texts.specs.definitions.Numerals.{readNat, below0}
+use Rattle.fields.specs.Fields.{signed32}
+use Rattle.fields.specs.Numbers.{signed-empty, signed-minus, signed-plain}
 use borrow.Author.Needs.{needs}
 use Rattle.fields.proofs.signed.Statement.{statement}
 use Rattle.fields.proofs.signed.Tie as tie
@@ -8,7 +18,7 @@ use Rattle.fields.proofs.from_zero.Reads as from-zero-reads
 
 -- src/lib.rt:149:9
 returns : tie.Need-returns
-returns c = ?
+returns c = signed-empty (now (c .before .before .args .w)) (c .if1 .taken)
 
 -- src/lib.rt:151:8
 shared-slice-read-if2 : tie.Need-shared-slice-read-if2
@@ -32,7 +42,10 @@ below-zero-requires c κs = search needs
 
 -- src/lib.rt:152:9
 returns-2 : tie.Need-returns-2
-returns-2 c = ?
+returns-2 c = let w = now (c .before .before .before .before .before .before .args .w) in
+    c .below-zero .ensures
+    ∙ ap (λ v. signed32 (below0 (readNat v))) (take-all (length w - 1) (drop 1 w) (omega (arith, length-drop 1 w)))
+    ∙ signed-minus w (c .before .before .before .before .if1 .left) (c .before .before .if2 .taken)
 
 -- src/lib.rt:154:5
 from-zero-requires : tie.Need-from-zero-requires
@@ -40,7 +53,7 @@ from-zero-requires c κs = search needs
 
 -- src/lib.rt:145:1
 returns-3 : tie.Need-returns-3
-returns-3 c = ?
+returns-3 c = c .from-zero .ensures ∙ signed-plain (now (c .before .before .before .before .before .args .w)) (c .before .before .before .if1 .left) (c .before .if2 .left)
 
 pub signed-spec : {M : Type 1} → statement M
 signed-spec =
