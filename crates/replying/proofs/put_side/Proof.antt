@@ -1,3 +1,7 @@
+-- `replying::put_side` meets its contract, side by side.
+use mathlib.Core.Path.{_≡_, sym, ap}
+use Rattle.writing.specs.laws.Wrote.{wrote-as}
+use Rattle.replying.specs.Replying.{sideText}
 use borrow.Author.Needs.{needs}
 use Rattle.replying.proofs.put_side.Statement.{statement}
 use Rattle.replying.proofs.put_side.Tie as tie
@@ -47,7 +51,7 @@ same-length c = search needs
 
 -- src/lib.rt:47:1
 returns : tie.Need-returns
-returns c = ?
+returns c = wrote-as (c .before .before .put .ensures) (sym (ap sideText (c .before .before .before .before .before .enum-told .given .1)))
 
 -- src/lib.rt:47:1
 same-length-2 : tie.Need-same-length-2
@@ -55,7 +59,7 @@ same-length-2 c = search needs
 
 -- src/lib.rt:47:1
 returns-2 : tie.Need-returns-2
-returns-2 c = ?
+returns-2 c = wrote-as (c .before .before .put2 .ensures) (sym (ap sideText (c .before .before .before .before .before .enum-told2 .given .1)))
 
 -- src/lib.rt:47:1
 same-length-3 : tie.Need-same-length-3
@@ -63,7 +67,7 @@ same-length-3 c = search needs
 
 -- src/lib.rt:47:1
 returns-3 : tie.Need-returns-3
-returns-3 c = ?
+returns-3 c = wrote-as (c .before .before .put3 .ensures) (sym (ap sideText (c .before .before .before .before .before .enum-told3 .given .1)))
 
 pub put-side-spec : {M : Type 1} → statement M
 put-side-spec =

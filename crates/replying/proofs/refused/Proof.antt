@@ -1,3 +1,7 @@
+-- `replying::refused` meets its contract: the word, a numeral, the side, a numeral, each behind the one before.
+use native.Mathlib.Omega.{arith}
+use Rattle.writing.specs.laws.Wrote.{wrote-on, wrote-room}
+use Rattle.replying.specs.laws.Sizes.{numeral-20, side-9}
 use borrow.Author.Needs.{needs}
 use Rattle.replying.proofs.refused.Statement.{statement}
 use Rattle.replying.proofs.refused.Tie as tie
@@ -29,7 +33,7 @@ part-write-number-end c = search needs
 
 -- src/lib.rt:64:9
 write-number-requires : tie.Need-write-number-requires
-write-number-requires c κs = ?
+write-number-requires c κs = omega (arith, wrote-room (c .before .before .before .put .ensures), c .before .before .before .put .ensures .size, numeral-20 (c .before .before .before .before .before .before .before .args .number) (omega (arith, c .before .before .before .before .before .before .before .fits .number)), c .before .before .before .before .before .before .before .pre)
 
 -- src/lib.rt:65:13
 add-b : tie.Need-add-b
@@ -49,7 +53,7 @@ part-put-side-end c = search needs
 
 -- src/lib.rt:66:9
 put-side-requires : tie.Need-put-side-requires
-put-side-requires c κs = ?
+put-side-requires c κs = omega (arith, wrote-room (wrote-on (c .before .before .before .before .before .before .before .put .ensures) (c .before .before .before .write-number .ensures)), c .before .before .before .before .before .before .before .put .ensures .size, c .before .before .before .write-number .ensures .size, numeral-20 (c .before .before .before .before .before .before .before .before .before .before .before .args .number) (omega (arith, c .before .before .before .before .before .before .before .before .before .before .before .fits .number)), c .before .before .before .before .before .before .before .before .before .before .before .pre)
 
 -- src/lib.rt:67:13
 add-c : tie.Need-add-c
@@ -69,7 +73,8 @@ part-write-number-end-2 c = search needs
 
 -- src/lib.rt:68:9
 write-number-requires-2 : tie.Need-write-number-requires-2
-write-number-requires-2 c κs = ?
+write-number-requires-2 c κs = let w = wrote-on (wrote-on (c .before .before .before .before .before .before .before .before .before .before .before .put .ensures) (c .before .before .before .before .before .before .before .write-number .ensures)) (c .before .before .before .put-side .ensures) in
+    omega (arith, wrote-room w, c .before .before .before .before .before .before .before .before .before .before .before .put .ensures .size, c .before .before .before .before .before .before .before .write-number .ensures .size, c .before .before .before .put-side .ensures .size, side-9 (c .before .before .before .before .before .before .before .before .before .before .before .before .before .before .before .args .side), numeral-20 (c .before .before .before .before .before .before .before .before .before .before .before .before .before .before .before .args .number) (omega (arith, c .before .before .before .before .before .before .before .before .before .before .before .before .before .before .before .fits .number)), numeral-20 (c .before .before .before .before .before .before .before .before .before .before .before .before .before .before .before .args .place) (omega (arith, c .before .before .before .before .before .before .before .before .before .before .before .before .before .before .before .fits .place)), c .before .before .before .before .before .before .before .before .before .before .before .before .before .before .before .pre)
 
 -- src/lib.rt:69:5
 add-result : tie.Need-add-result
@@ -81,7 +86,7 @@ same-length c = search needs
 
 -- src/lib.rt:59:1
 returns : tie.Need-returns
-returns c = ?
+returns c = wrote-on (wrote-on (wrote-on (c .before .before .before .before .before .before .before .before .before .before .before .before .before .before .put .ensures) (c .before .before .before .before .before .before .before .before .before .before .write-number .ensures)) (c .before .before .before .before .before .before .put-side .ensures)) (c .before .before .write-number2 .ensures)
 
 pub refused-spec : {M : Type 1} → statement M
 refused-spec =

@@ -1,3 +1,14 @@
+use Rattle.replying.specs.laws.Replies.{room-text}
+-- `replying::written` meets its contract, case by case.
+use mathlib.Core.Path.{_≡_, refl, sym, ap, subst}
+use Prim.Native.Nat.{_+_}
+use native.Mathlib.Omega.{arith}
+use lib.ListN.{length}
+use denote.Ref.{now}
+use Rattle.writing.specs.Written.{Wrote}
+use Rattle.writing.specs.laws.Wrote.{wrote-length}
+use Rattle.replying.specs.Replying.{Room, Replied}
+use Rattle.replying.specs.laws.Replies.{replied-text, replied-refused}
 use borrow.Author.Needs.{needs}
 use Rattle.replying.proofs.written.Statement.{statement}
 use Rattle.replying.proofs.written.Tie as tie
@@ -16,11 +27,11 @@ slice-aggregate-put c = search needs
 
 -- src/lib.rt:79:17
 put-requires : tie.Need-put-requires
-put-requires c κs = ?
+put-requires c κs = omega (arith, room-text (c .before .before .before .answer .given .1) (c .before .before .before .before .before .before .pre))
 
 -- src/lib.rt:80:13
 add-result : tie.Need-add-result
-add-result c = ?
+add-result c = omega (arith, room-text (c .before .before .before .before .before .before .answer .given .1) (c .before .before .before .before .before .before .before .before .before .pre), c .before .before .put .ensures .size, c .before .before .before .before .before .before .before .before .before .good)
 
 -- src/lib.rt:82:26
 enum-known-answer-2 : tie.Need-enum-known-answer-2
@@ -28,7 +39,7 @@ enum-known-answer-2 c = search needs
 
 -- src/lib.rt:82:41
 refused-requires : tie.Need-refused-requires
-refused-requires c κs = ?
+refused-requires c κs = subst (λ z. Room z (length (now (c .before .before .before .before .before .args .out)))) (c .before .before .answer2 .given .1) (c .before .before .before .before .before .pre)
 
 -- src/lib.rt:73:1
 same-length : tie.Need-same-length
@@ -36,7 +47,7 @@ same-length c = search needs
 
 -- src/lib.rt:73:1
 returns : tie.Need-returns
-returns c = ?
+returns c = replied-text (c .before .before .before .before .before .before .answer .given .1) (c .before .before .put .ensures)
 
 -- src/lib.rt:73:1
 same-length-2 : tie.Need-same-length-2
@@ -44,7 +55,7 @@ same-length-2 c = search needs
 
 -- src/lib.rt:73:1
 returns-2 : tie.Need-returns-2
-returns-2 c = ?
+returns-2 c = replied-refused (c .before .before .before .before .before .answer2 .given .1) (c .before .before .refused .ensures)
 
 pub written-spec : {M : Type 1} → statement M
 written-spec =

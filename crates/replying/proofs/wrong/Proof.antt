@@ -1,3 +1,7 @@
+-- `replying::wrong` meets its contract: two bytes and a numeral behind them.
+use native.Mathlib.Omega.{arith}
+use Rattle.writing.specs.laws.Wrote.{wrote-on, wrote-room}
+use Rattle.replying.specs.laws.Sizes.{numeral-20}
 use borrow.Author.Needs.{needs}
 use Rattle.replying.proofs.wrong.Statement.{statement}
 use Rattle.replying.proofs.wrong.Tie as tie
@@ -28,7 +32,7 @@ part-write-number-end c = search needs
 
 -- src/lib.rt:43:9
 write-number-requires : tie.Need-write-number-requires
-write-number-requires c κs = ?
+write-number-requires c κs = omega (arith, wrote-room (c .before .before .before .put .ensures), c .before .before .before .put .ensures .size, numeral-20 (c .before .before .before .before .before .before .before .args .n) (omega (arith, c .before .before .before .before .before .before .before .fits .n)), c .before .before .before .before .before .before .before .pre)
 
 -- src/lib.rt:44:5
 add-result : tie.Need-add-result
@@ -40,7 +44,7 @@ same-length c = search needs
 
 -- src/lib.rt:38:1
 returns : tie.Need-returns
-returns c = ?
+returns c = wrote-on (c .before .before .before .before .before .before .put .ensures) (c .before .before .write-number .ensures)
 
 pub wrong-spec : {M : Type 1} → statement M
 wrong-spec =

@@ -13,7 +13,10 @@ use Rattle.writing.specs.Written.{Wrote}
 use Rattle.calls.specs.definitions.Buffers.{resultAfter}
 use Rattle.calls.specs.definitions.Reply.{Reply, Side, gives, refuses, asked, readAs, fitted}
 use Rattle.answering.specs.Answering.{writtenOf}
-use Rattle.replying.specs.Replying.{resultText, Room, Replied}
+use Rattle.answering.specs.declared.Written.{Written}
+use Rattle.answering.specs.declared.Written.the-variants.{Text, Refused}
+use Rattle.opening.specs.declared.Side.{Side as Told}
+use Rattle.replying.specs.Replying.{refusedText, resultText, Room, Replied}
 use lib.Dec.{leb}
 use borrow.Author.Tests.{leb-true}
 
@@ -71,3 +74,14 @@ module _ (old : List ℕ) (long : 65540 ≤ length old) where
   }
   replied (refuses n s k) h {r} {e} {new} q p =
       subst (λ l. Wrote r (resultText (refuses n s k)) l new) (ap (putMid 5 65535 old) q ∙ put-same 5 65535 old) p
+
+-- ---- case by case, as the code goes
+pub replied-text : {x : Written} {n r : ℕ} {old new : List ℕ} → x ≡ Text n → Wrote r (bytes "FORM ") old new → Replied x (r + n) old new
+replied-text {x} {n} {r} {old} {new} e h =
+    subst (λ z. Replied z (r + n) old new) (sym e) (omega (arith, h .size), subst (λ k. Wrote k (bytes "FORM ") old new) (h .size) h)
+
+pub replied-refused : {x : Written} {e p r : ℕ} {s : Told} {old new : List ℕ} → x ≡ Refused e s p → Wrote r (refusedText e s p) old new → Replied x r old new
+replied-refused {x} {e} {p} {r} {s} {old} {new} q h = subst (λ z. Replied z r old new) (sym q) h
+
+pub room-text : {x : Written} {n k : ℕ} → x ≡ Text n → Room x k → (5 + n ≤ k) × (64 ≤ k)
+room-text {x} {n} {k} e h = subst (λ z. Room z k) e h
