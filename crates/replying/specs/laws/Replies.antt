@@ -85,3 +85,19 @@ replied-refused {x} {e} {p} {r} {s} {old} {new} q h = subst (λ z. Replied z r o
 
 pub room-text : {x : Written} {n k : ℕ} → x ≡ Text n → Room x k → (5 + n ≤ k) × (64 ≤ k)
 room-text {x} {n} {k} e h = subst (λ z. Room z k) e h
+
+-- ---- a call f that is lent the bytes 5 to 65,540, and the line of its answer
+module _ (old : List ℕ) (long : 65540 ≤ length old) (f : ℕ → Reply (List ℕ)) (within : (n : ℕ) → Within n (f n)) where
+  lent-all : f (length (take 65535 (drop 5 old))) ≡ f 65535
+  lent-all = ap f (length-take-le 65535 (drop 5 old) (omega (arith, length-drop 5 old)))
+
+  pub text-room : {x : Written} {k : ℕ} → x ≡ writtenOf (f (length (take 65535 (drop 5 old)))) → k ≡ length old → Room x k
+  text-room {x} {k} a l = subst (λ z. Room z k) (sym (a ∙ ap writtenOf lent-all)) (room-for (f 65535) k (within 65535) (omega arith))
+
+  pub text-line :
+      {x : Written} {r : ℕ} {e new : List ℕ} →
+      x ≡ writtenOf (f (length (take 65535 (drop 5 old)))) → e ≡ resultAfter (f (length (take 65535 (drop 5 old)))) (take 65535 (drop 5 old)) →
+      Replied x r (putMid 5 65535 old e) new → Wrote r (resultText (f 65535)) old new
+  text-line {x} {r} {e} {new} a b p =
+      replied old long (f 65535) (within 65535) (b ∙ ap (λ z. resultAfter z (take 65535 (drop 5 old))) lent-all)
+      (subst (λ z. Replied z r (putMid 5 65535 old e) new) (a ∙ ap writtenOf lent-all) p)
