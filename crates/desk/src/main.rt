@@ -31,7 +31,25 @@ fn answer(
     }
 }
 
-// Goes on with the bytes of a piece of the input, answers each line that ends in it, and returns how many bytes of an unfinished line are kept.
+// Goes on with one byte of the input: a line feed ends the line, which is answered. Returns how many bytes of an unfinished line are kept.
+fn take_byte(
+    x: u8,
+    fill: usize,
+    line: &mut [u8],
+    out: &mut [u8],
+    a: &mut [u32],
+    b: &mut [u32],
+    c: &mut [u32],
+    d: &mut [u32],
+) -> usize {
+    if x == b'\n' {
+        answer(fill, line, out, a, b, c, d);
+        return 0;
+    }
+    keep(x, fill, line)
+}
+
+// Goes on with the bytes of a piece of the input.
 fn take_piece(
     piece: &[u8],
     kept: usize,
@@ -45,13 +63,7 @@ fn take_piece(
     let mut fill = kept;
     let mut i = 0;
     while i < piece.len() {
-        let x = piece[i];
-        if x == b'\n' {
-            answer(fill, line, out, a, b, c, d);
-            fill = 0;
-        } else {
-            fill = keep(x, fill, line);
-        }
+        fill = take_byte(piece[i], fill, line, out, a, b, c, d);
         i += 1;
     }
     fill
