@@ -103,5 +103,13 @@ fn main() {
     let mut b = [0u32; 16384];
     let mut c = [0u32; 16384];
     let mut d = [0u32; 16384];
-    serve(&mut piece, &mut line, &mut out, &mut a, &mut b, &mut c, &mut d);
+    serve(
+        &mut piece,
+        &mut line,
+        &mut out,
+        &mut a,
+        &mut b,
+        &mut c,
+        &mut d,
+    );
 }

@@ -47,7 +47,6 @@ room-for (refuses e s p) k h l = omega arith
 
 -- ---- the line
 module _ (old : List ℕ) (long : 65540 ≤ length old) where
-
   over-rest : (k : ℕ) → k ≤ 65535 → drop k (take 65535 (drop 5 old)) ++ drop 65535 (drop 5 old) ≡ drop (5 + k) old
   over-rest k h =
       sym (drop-append-le k (take 65535 (drop 5 old)) (drop 65535 (drop 5 old)) (omega (arith, length-take-le 65535 (drop 5 old) (omega (arith, length-drop 5 old)))))
