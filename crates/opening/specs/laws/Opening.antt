@@ -158,3 +158,9 @@ open-long a b c d o =
       third = leb-true 16384 c (and-l (leb 16384 c) (enough (d ∷ [])) l);
       fourth = omega (arith, m);
     }
+
+pub open-fourth : {row : List ℕ} (a b c d : ℕ) → Open row (a ∷ b ∷ c ∷ d ∷ []) → 16384 ≤ d
+open-fourth a b c d o =
+    let k = and-r (leb 16384 a) (enough (b ∷ c ∷ d ∷ [])) (o .long) in
+    let l = and-r (leb 16384 b) (enough (c ∷ d ∷ [])) k in
+    leb-true 16384 d (and-l (leb 16384 d) true (and-r (leb 16384 c) (enough (d ∷ [])) l))

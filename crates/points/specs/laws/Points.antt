@@ -71,7 +71,7 @@ module _ {A : Type 0} (R : Ring A) where
 
 -- ---- over the remainders by P
 
-nat-leaf : (a : ℕ) → nat (ringOf 0) a ≡ leaf 0 a
+pub nat-leaf : (a : ℕ) → nat (ringOf 0) a ≡ leaf 0 a
 nat-leaf a = nat-red (modulus 0) (modulus-pos 0) a
 
 -- for any bounds that hold

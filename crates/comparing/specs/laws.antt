@@ -1,0 +1,5 @@
+pub mod Points
+pub mod Verdict
+pub mod Told
+pub mod Pairs
+pub mod Whole

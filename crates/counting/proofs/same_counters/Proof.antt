@@ -1,0 +1,85 @@
+-- `counting::same_counters` meets its contract: the form of a and the negated form of c are reduced ones, and b holds their sum at the end.
+-- Assumes nothing.
+use mathlib.Core.Path.{_∙_, sym, ap, ap₂, subst}
+use Prim.Native.Nat.{ℕ, _≤_}
+use native.Mathlib.Omega.{arith}
+use lib.ListN.{length, take}
+use lib.Seq.{length-take-le}
+use Rattle.horner.specs.definitions.Form.{Form, isZero}
+use Rattle.coded.specs.Coding.{dec, enc, Codes}
+use Rattle.coded.specs.Operations.{negateOf, sumOf}
+use Rattle.coded.specs.Widths.{Leaf, ringOf}
+use Rattle.coded.specs.laws.Codes.{some, dec-enc, coded, codes-length}
+use Rattle.coded.specs.laws.Good.{sum-good, negate-good}
+use Rattle.coded.specs.laws.Sizes.{negate-length}
+use Rattle.coded.proofs.Lists.{begins-le, begins-as}
+use Rattle.coded.proofs.Making.{front-codes}
+use Rattle.walks.specs.Carrying.{reduceOf}
+use Rattle.walks.specs.laws.Carrying.{reduce-good, carry-length, carry-reduce}
+use borrow.Author.Needs.{needs}
+use Rattle.counting.proofs.same_counters.Statement.{statement}
+use Rattle.counting.proofs.same_counters.Tie as tie
+
+reduce-length : (w : ℕ) (x : Form (Leaf 0)) → length (enc w (reduceOf w x)) ≤ length (enc 0 x)
+reduce-length w x = subst (λ h. length (enc w h) ≤ length (enc 0 x)) (carry-reduce w x) (carry-length 0 w 1 x)
+
+-- ---- what the tables hold after each call
+left : (c : tie.After-reduce) → let s = c .before .before .before .before .before .before .before in Codes (s .args .width) (reduceOf (s .args .width) (dec 0 (s .args .x .now))) (take (c .reduce .result) (c .reduce .last .1 .1 .0))
+left c = let s = c .before .before .before .before .before .before .before in front-codes (c .reduce .ensures) (reduce-good (s .args .width) (dec 0 (s .args .x .now)) (s .pre .0 .0 .good))
+
+right : (c : tie.After-reduce2) → let s = c .before .before .before .before .before .before .before .before .before .before .before in Codes (s .args .width) (reduceOf (s .args .width) (dec 0 (s .args .y .now))) (take (c .reduce2 .result) (c .reduce2 .last .1 .1 .0))
+right c = let s = c .before .before .before .before .before .before .before .before .before .before .before in front-codes (c .reduce2 .ensures) (reduce-good (s .args .width) (dec 0 (s .args .y .now)) (s .pre .0 .1 .good))
+
+negative : (c : tie.After-negate) → let s = c .before .before .before .before .before .before .before .before .before .before .before .before .before .before .before .before in
+    Codes (s .args .width) (negateOf (s .args .width) (reduceOf (s .args .width) (dec 0 (s .args .y .now)))) (take (c .negate .result) (c .negate .last .1 .1 .0))
+negative c =
+    let s = c .before .before .before .before .before .before .before .before .before .before .before .before .before .before .before .before in
+    front-codes (begins-as (c .negate .ensures) (ap (λ h. enc (s .args .width) (negateOf (s .args .width) h)) (dec-enc (right (c .before .before .before .before .before))))) (negate-good (right (c .before .before .before .before .before) .good))
+
+difference : (c : tie.After-sum) → let s = c .before .before .before .before .before .before .before .before .before .before .before .before .before .before .before .before .before .before .before .before .before .before in
+    Codes (s .args .width) (sumOf (s .args .width) (reduceOf (s .args .width) (dec 0 (s .args .x .now))) (negateOf (s .args .width) (reduceOf (s .args .width) (dec 0 (s .args .y .now)))))
+    (take (c .sum .result) (c .sum .last .1 .1 .1 .0))
+difference c =
+    let s = c .before .before .before .before .before .before .before .before .before .before .before .before .before .before .before .before .before .before .before .before .before .before in
+    let l = left (c .before .before .before .before .before .before .before .before .before .before .before .before .before .before .before) in
+    let r = negative (c .before .before .before .before .before .before) in
+    front-codes (begins-as (c .sum .ensures) (ap₂ (λ g h. enc (s .args .width) (sumOf (s .args .width) g h)) (dec-enc l) (dec-enc r))) (sum-good (l .good) (r .good))
+
+-- ---- how long they are
+left-size : (c : tie.After-reduce) → length (take (c .reduce .result) (c .reduce .last .1 .1 .0)) ≤ length (c .before .before .before .before .before .before .before .args .x .now)
+left-size c =
+    let s = c .before .before .before .before .before .before .before in omega (arith, codes-length (left c), reduce-length (s .args .width) (dec 0 (s .args .x .now)), codes-length (s .pre .0 .0))
+
+right-size : (c : tie.After-reduce2) → length (take (c .reduce2 .result) (c .reduce2 .last .1 .1 .0)) ≤ length (c .before .before .before .before .before .before .before .before .before .before .before .args .y .now)
+right-size c =
+    let s = c .before .before .before .before .before .before .before .before .before .before .before in omega (arith, codes-length (right c), reduce-length (s .args .width) (dec 0 (s .args .y .now)), codes-length (s .pre .0 .1))
+
+negative-size : (c : tie.After-negate) → length (take (c .negate .result) (c .negate .last .1 .1 .0)) ≤ length (c .before .before .before .before .before .before .before .before .before .before .before .before .before .before .before .before .args .y .now)
+negative-size c =
+    let s = c .before .before .before .before .before .before .before .before .before .before .before .before .before .before .before .before in
+    omega (arith, codes-length (negative c), negate-length (s .args .width) (reduceOf (s .args .width) (dec 0 (s .args .y .now))), codes-length (right (c .before .before .before .before .before)), right-size (c .before .before .before .before .before))
+
+pub same-counters-spec : {M : Type 1} → statement M
+same-counters-spec =
+    tie.close
+    (tie.spec
+    (λ c κs. search needs)
+    (λ c κs. let s = c .before .before .before .before .before .before .before .before .before .before in (s .pre .0 .1, omega (arith, some (s .pre .0 .0), s .pre .1 .1 .0)))
+    (λ c. begins-le (c .before .before .reduce2 .ensures))
+    (λ c. let s = c .before .before .before in sym (length-take-le (s .reduce2 .result) (s .reduce2 .last .1 .1 .0) (begins-le (s .reduce2 .ensures))))
+    (λ c κs. (coded (right (c .before .before .before .before)), omega (arith, right-size (c .before .before .before .before), c .before .before .before .before .before .before .before .before .before .before .before .before .before .before .before .pre .1 .1 .1)))
+    (λ c. begins-le (c .before .before .before .before .before .before .before .before .before .before .before .reduce .ensures))
+    (λ c. let s = c .before .before .before .before .before .before .before .before .before .before .before .before in sym (length-take-le (s .reduce .result) (s .reduce .last .1 .1 .0) (begins-le (s .reduce .ensures))))
+    (λ c. begins-le (c .before .before .before .negate .ensures))
+    (λ c. let s = c .before .before .before .before in sym (length-take-le (s .negate .result) (s .negate .last .1 .1 .0) (begins-le (s .negate .ensures))))
+    -- sum-requires
+    (λ c κs.
+    ((coded (left (c .before .before .before .before .before .before .before .before .before .before .before .before .before .before)), coded (negative (c .before .before .before .before .before))), omega (arith, left-size (c .before .before .before .before .before .before .before .before .before .before .before .before .before .before), negative-size (c .before .before .before .before .before), c .before .before .before .before .before .before .before .before .before .before .reduce2 .kept .1 .1 .0, c .before .before .before .before .before .before .before .before .before .before .before .before .before .before .before .before .before .before .before .before .before .pre .1 .1 .0)))
+    (λ c. begins-le (c .before .before .sum .ensures))
+    (λ c. let s = c .before .before .before in sym (length-take-le (s .sum .result) (s .sum .last .1 .1 .1 .0) (begins-le (s .sum .ensures))))
+    (λ c κs. coded (difference (c .before .before .before)))
+    (λ c. search needs)
+    (λ c. search needs)
+    (λ c. search needs)
+    -- returns
+    (λ c. let s = c .before .before .before .before .before .before .before .before .before .before .before .before .before .before .before .before .before .before .before .before .before .before .before .before .before .before in c .is-zero .ensures ∙ ap (isZero (ringOf (s .args .width))) (dec-enc (difference (c .before .before .before .before)))))

@@ -1,0 +1,4 @@
+pub mod Spread
+pub mod Reading
+pub mod Multiples
+pub mod Counters

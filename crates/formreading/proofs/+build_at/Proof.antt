@@ -1,0 +1,96 @@
+-- The proof of the cycle of calls {build_at}. The measure is what is left of the text. The head says what stands there; the code is put together part by part.
+-- Assumes nothing.
+use mathlib.Core.List.{List}
+use mathlib.Core.Path.{_≡_, ap, _∙_}
+use Prim.Native.Nat.{ℕ, _+_, _*_, _-_, _<_}
+use native.Mathlib.Omega.{arith}
+use lib.ListN.{length, set, length-set}
+use borrow.Author.Needs.{needs}
+use borrow.Rule.Slice.PartMut.{putMid}
+use Rattle.coded.proofs.Lists.{length-tail-part}
+use Rattle.formheads.specs.laws.Heads.{standing-some}
+use Rattle.formheads.specs.laws.Parts.{first-standing, head-later, part-inside, ends-pow, ends-inside, kind-pow}
+use Rattle.formreading.specs.laws.Building.{ready-standing, ready-room, number-small, ready-first, NodeFits, node-fits, ready-second, pow-count, pop-made, pow-made}
+use Rattle.formreading.proofs.Fronts.{put-front, put-both, leaf-built}
+use borrow.Fn.Kinds.{In}
+use borrow.Fn.PlainCycle.{Measures, is, falls, and}
+use Rattle.formreading.proofs.build_at.Reads as build-at
+use Rattle.formreading.proofs.build_at.Kinds as build-at-kinds
+use Rattle.formreading.proofs.+build_at.Lts-build_at as build-at-lts
+use Rattle.formheads.proofs.head_at.Reads as head-at-reads
+use Rattle.formreading.proofs.leaf_word.Reads as leaf-word-reads
+use Rattle.formreading.proofs.+build_at.{statement}
+use Rattle.formreading.proofs.+build_at.Tie.{close}
+
+abbrev μ-build-at : Measures 2 build-at-kinds.ps ℕ
+μ-build-at κs a = length (a .0 .now) - a .1 .0
+
+abbrev build-at-at : ℕ → In 2 build-at-kinds.ps
+build-at-at t = and 2 build-at-kinds.ps (is 2 build-at-kinds.ps μ-build-at t) build-at.Pre
+
+abbrev build-at-below : ℕ → In 2 build-at-kinds.ps
+build-at-below t = and 2 build-at-kinds.ps (falls 2 build-at-kinds.ps _<_ μ-build-at t) build-at.Pre
+
+abbrev claims : ℕ → build-at-lts.Claims
+claims t = (head-at-reads.Asked, head-at-reads.Learnt, leaf-word-reads.Asked, leaf-word-reads.Learnt, build-at-below t, build-at.Post)
+
+-- behind p: the head and p's code are not too long
+fits : (t : ℕ) (c : build-at-lts.After-build-at (claims t) (build-at-at t) build-at.Post) → NodeFits (length (c .before .before .before .before .before .before .args .out .now)) (c .build-at .result .words) (c .before .before .before .head-at .result .number)
+fits t c = node-fits (c .before .before .before .head-at .ensures) (c .build-at .ensures) (c .before .before .if1 .left) (c .before .before .before .before .before .before .pre .1)
+
+is-pow : (t : ℕ) (c : build-at-lts.Else2 (claims t) (build-at-at t) build-at.Post) → c .before .before .before .before .before .before .before .head-at .result .kind ≡ 3
+is-pow t c = kind-pow (c .before .before .before .before .before .before .before .head-at .ensures) (ready-standing (c .before .before .before .before .before .before .before .before .before .before .pre .1)) (c .before .before .before .before .before .before .if1 .left) (c .if2 .left)
+
+-- the head and p's code stand in it
+abbrev table : (t : ℕ) → build-at-lts.Else2 (claims t) (build-at-at t) build-at.Post → List ℕ
+table t c = set (putMid 1 (length (c .before .before .before .before .before .before .before .before .before .before .args .out .now) - 1) (c .before .before .before .before .before .before .before .before .before .before .args .out .now) (c .before .before .before .before .build-at .last .1 .1 .0)) 0 (2147483648 + 64 * (c .before .before .before .before .build-at .result .words) + (c .before .before .before .before .before .before .before .head-at .result .number))
+
+table-length : (t : ℕ) (c : build-at-lts.Else2 (claims t) (build-at-at t) build-at.Post) → length (table t c) ≡ length (c .before .before .before .before .before .before .before .before .before .before .args .out .now)
+table-length t c = simp length-set (c .before .before .before .out .given .1)
+
+pub +build-at-spec : {M : Type 1} → statement M
++build-at-spec = close μ-build-at λ t.
+    build-at-lts.spec (claims t) (build-at-at t) build-at.Post
+    (λ c κs. ready-standing (c .before .before .pre .1))
+    (λ c κs. omega (arith, number-small (c .before .head-at .ensures) (ready-standing (c .before .before .before .before .pre .1))))
+    (λ c. omega (arith, ready-room (c .before .before .before .before .before .pre .1)))
+    (λ c. search needs)
+    -- returns
+    (λ c. leaf-built (c .before .before .head-at .ensures) (c .before .if1 .taken) (c .before .before .before .before .before .args .out .now) (ready-room (c .before .before .before .before .before .pre .1)) _ (c .leaf-word .ensures))
+    (λ c. omega (arith, ready-room (c .before .before .before .before .pre .1)))
+    (λ c. omega (arith, ready-room (c .before .before .before .before .pre .1)))
+    (λ c. search needs)
+    -- build-at-requires
+    (λ c κs.
+    let r = ready-standing (c .before .before .before .before .before .pre .1) in
+    (omega (arith, c .before .before .before .before .before .pre .0, head-later (c .before .before .head-at .ensures) (c .before .if1 .left) r, standing-some r), ready-first (c .before .before .head-at .ensures) (c .before .if1 .left) _ (length-tail-part 1 (c .before .before .before .before .before .args .out .now)) (c .before .before .before .before .before .pre .1)))
+    -- add-mid
+    (λ c. omega (arith, part-inside (c .before .before .before .before .before .before .head-at .ensures) (c .before .before .before .before .before .if1 .left) (ready-standing (c .before .before .before .before .before .before .before .before .before .pre .1)) _ (c .before .before .before .build-at .ensures .ends)))
+    (λ c. omega (arith, fits t (c .before .before .before .before)))
+    (λ c. omega (arith, ready-room (c .before .before .before .before .before .before .before .before .before .before .pre .1), c .before .before .before .out .given .1))
+    (λ c. omega (arith, fits t (c .before .before .before .before)))
+    (λ c. simp length-set (c .before .before .before .out .given .1))
+    -- returns-2
+    (λ c. pop-made (c .before .before .before .before .before .before .before .head-at .ensures) (c .before .before .before .before .build-at .ensures) (c .if2 .taken) (put-front (c .before .before .before .before .before .before .before .before .before .before .args .out .now) _ _ _ (fits t (c .before .before .before .before) .count) (c .before .before .before .out .given .1)))
+    (λ c. omega (arith, fits t (c .before .before .before .before)))
+    (λ c. omega (arith, fits t (c .before .before .before .before)))
+    (λ c. omega (arith, fits t (c .before .before .before .before)))
+    (λ c. omega (arith, fits t (c .before .before .before .before)))
+    (λ c. omega (arith, ready-room (c .before .before .before .before .before .before .before .before .before .before .pre .1), c .before .before .before .out .given .1))
+    (λ c. omega (arith, fits t (c .before .before .before .before)))
+    (λ c. omega (arith, fits t (c .before .before .before .before)))
+    (λ c. simp length-set (omega (arith, fits t (c .before .before .before .before), c .before .before .before .out .given .1)))
+    (λ c. simp length-set (omega (arith, fits t (c .before .before .before .before), c .before .before .before .out .given .1)))
+    (λ c. search needs)
+    -- build-at-requires-2
+    (λ c κs.
+    let r = ready-standing (c .before .before .before .before .before .before .before .before .before .before .before .pre .1) in
+    let f = first-standing (c .before .before .before .before .before .before .before .before .head-at .ensures) (c .before .before .before .before .before .before .before .if1 .left) r in
+    let n = 1 + c .before .before .before .before .before .build-at .result .words in
+    (omega (arith, c .before .before .before .before .before .before .before .before .before .before .before .pre .0, head-later (c .before .before .before .before .before .before .before .before .head-at .ensures) (c .before .before .before .before .before .before .before .if1 .left) r, standing-some r, ends-inside _ (c .before .before .before .before .before .build-at .ensures .ends) f), ready-second (c .before .before .before .before .before .before .before .before .head-at .ensures) (c .before .before .before .before .before .build-at .ensures) (is-pow t (c .before)) _ (length-tail-part n (table t (c .before)) ∙ ap (λ k. k - n) (table-length t (c .before))) (c .before .before .before .before .before .before .before .before .before .before .before .pre .1)))
+    -- add-t17
+    (λ c. omega (arith, (c .before .before .before .before .before .before .before .before .before .before .before .before .before .before .before .pre .1) .small, pow-count (c .before .before .before .before .before .before .before .before .before .before .before .before .head-at .ensures) (c .before .before .before .before .before .before .before .before .before .build-at .ensures) (is-pow t (c .before .before .before .before .before)) _ _ _ (c .before .before .before .build-at2 .ensures) (c .before .before .before .before .before .before .before .before .before .before .before .before .before .before .before .pre .1)))
+    (λ c. omega (arith, ends-inside _ (ends-pow (c .before .before .before .before .before .before .before .before .before .before .before .before .before .head-at .ensures) _ (c .before .before .before .before .before .before .before .before .before .before .build-at .ensures .ends) _ (is-pow t (c .before .before .before .before .before .before)) (c .before .before .before .before .build-at2 .ensures .ends)) (ready-standing (c .before .before .before .before .before .before .before .before .before .before .before .before .before .before .before .before .pre .1))))
+    (λ c. c .before .before .before .out2 .given .1 ∙ table-length t (c .before .before .before .before .before .before))
+    -- returns-3
+    (λ c. pow-made (c .before .before .before .before .before .before .before .before .before .before .before .before .before .head-at .ensures) (c .before .before .before .before .before .before .before .before .before .before .build-at .ensures) (is-pow t (c .before .before .before .before .before .before)) _ _ _ _ (c .before .before .before .before .build-at2 .ensures) (put-both (c .before .before .before .before .before .before .before .before .before .before .before .before .before .before .before .before .args .out .now) _ _ _ _ _ (fits t (c .before .before .before .before .before .before .before .before .before .before) .count) (c .before .before .before .before .before .before .before .before .before .out .given .1)))

@@ -1,0 +1,108 @@
+-- `remaindering::remainder` meets its contract: the row, the tables and the point's length are looked at, the inner call answers, the tables are cleared.
+use mathlib.Core.Path.{_≡_, refl, sym, _∙_}
+use mathlib.Core.List.{[], _∷_}
+use lib.ListN.{length}
+use Rattle.opening.specs.laws.Opening.{ready-open, open-long}
+use Rattle.opening.specs.laws.Ending.{zeros-of}
+use Rattle.remaindering.specs.laws.Remainder.{remainder-pointed, remainder-clears}
+use Rattle.remaindering.specs.laws.Whole.{refused-whole, other-length, answered-whole}
+use borrow.Author.Needs.{needs}
+use Rattle.remaindering.proofs.remainder.Statement.{statement}
+use Rattle.remaindering.proofs.remainder.Tie as tie
+use Rattle.remaindering.proofs.remainder.Reads as reads
+use Rattle.remaindering.proofs.remainder.Lts as lts
+use Rattle.opening.proofs.clear_tables.Reads as clear-tables-reads
+use Rattle.opening.proofs.ready.Reads as ready-reads
+use Rattle.remaindering.proofs.remainder_of.Reads as remainder-of-reads
+
+-- src/lib.rt:82:9
+ready-requires : tie.Need-ready-requires
+ready-requires c κs = search needs
+
+-- src/lib.rt:84:9
+returns : tie.Need-returns
+returns c = let s = c .before .before .before .before .before .before .before .before .args in
+    let ts = length (s .a .now) ∷ length (s .b .now) ∷ length (s .c .now) ∷ length (s .d .now) ∷ [] in
+    refused-whole (s .row .now) ts (s .point .now) _ _ (remainder-pointed (s .row .now) ts (s .s .now) (s .point .now)) (s .a .now) (s .b .now) (s .c .now) (s .d .now) (c .before .ready .ensures) (c .if1 .taken)
+
+-- src/lib.rt:89:9
+clear-tables-requires : tie.Need-clear-tables-requires
+clear-tables-requires c κs = search needs
+
+-- src/lib.rt:90:9
+same-length : tie.Need-same-length
+same-length c = search needs
+
+-- src/lib.rt:90:9
+same-length-2 : tie.Need-same-length-2
+same-length-2 c = search needs
+
+-- src/lib.rt:90:9
+same-length-3 : tie.Need-same-length-3
+same-length-3 c = search needs
+
+-- src/lib.rt:90:9
+same-length-4 : tie.Need-same-length-4
+same-length-4 c = search needs
+
+-- src/lib.rt:90:9
+returns-2 : tie.Need-returns-2
+returns-2 c = let s = c .before .before .before .before .before .before .before .before .before .before .before .before .before .before .before .before .before .before .before .before .before .before .args in
+    let ts = length (s .a .now) ∷ length (s .b .now) ∷ length (s .c .now) ∷ length (s .d .now) ∷ [] in
+    let o = ready-open (s .row .now) ts (sym (c .before .before .before .before .before .before .before .before .before .before .before .before .before .before .before .ready .ensures) ∙ c .before .before .before .before .before .before .before .before .before .before .before .before .before .before .if1 .left) in
+    other-length (s .row .now) ts (s .point .now) _ _ (remainder-pointed (s .row .now) ts (s .s .now) (s .point .now)) (s .a .now) (s .b .now) (s .c .now) (s .d .now) o (c .before .before .before .before .before .before .before .before .before .before .before .before .before .if2 .taken) (zeros-of refl refl refl refl (c .before .before .before .before .before .before .before .before .clear-tables .ensures))
+
+-- src/lib.rt:92:9
+remainder-of-requires : tie.Need-remainder-of-requires
+remainder-of-requires c κs = let s = c .before .before .before .before .before .before .before .before .before .before .before .before .before .args in
+    let o = ready-open (s .row .now) (length (s .a .now) ∷ length (s .b .now) ∷ length (s .c .now) ∷ length (s .d .now) ∷ []) (sym (c .before .before .before .before .before .before .ready .ensures) ∙ c .before .before .before .before .before .if1 .left) in
+    (o .proper, (open-long (length (s .a .now)) (length (s .b .now)) (length (s .c .now)) (length (s .d .now)) o, c .before .before .before .before .if2 .left))
+
+-- src/lib.rt:93:5
+clear-tables-requires-2 : tie.Need-clear-tables-requires-2
+clear-tables-requires-2 c κs = search needs
+
+-- src/lib.rt:70:1
+same-length-5 : tie.Need-same-length-5
+same-length-5 c = search needs
+
+-- src/lib.rt:70:1
+same-length-6 : tie.Need-same-length-6
+same-length-6 c = search needs
+
+-- src/lib.rt:70:1
+same-length-7 : tie.Need-same-length-7
+same-length-7 c = search needs
+
+-- src/lib.rt:70:1
+same-length-8 : tie.Need-same-length-8
+same-length-8 c = search needs
+
+-- src/lib.rt:70:1
+returns-3 : tie.Need-returns-3
+returns-3 c = let s = c .before .before .before .before .before .before .before .before .before .before .before .before .before .before .before .before .before .before .before .before .before .before .before .before .before .before .before .before .before .before .before .before .before .before .before .args in
+    let f = c .before .before .before .before .before .before .before .before .before .before .before .before .before .before .before .before .before .before .before .before .before .remainder-of in
+    let ts = length (s .a .now) ∷ length (s .b .now) ∷ length (s .c .now) ∷ length (s .d .now) ∷ [] in
+    let o = ready-open (s .row .now) ts (sym (c .before .before .before .before .before .before .before .before .before .before .before .before .before .before .before .before .before .before .before .before .before .before .before .before .before .before .before .before .ready .ensures) ∙ c .before .before .before .before .before .before .before .before .before .before .before .before .before .before .before .before .before .before .before .before .before .before .before .before .before .before .before .if1 .left) in
+    answered-whole (s .row .now) ts (s .point .now) _ _ (remainder-pointed (s .row .now) ts (s .s .now) (s .point .now)) (s .a .now) (s .b .now) (s .c .now) (s .d .now) o (c .before .before .before .before .before .before .before .before .before .before .before .before .before .before .before .before .before .before .before .before .before .before .before .before .before .before .if2 .left) (remainder-clears (s .row .now) ts (s .s .now) (s .point .now)) (f .ensures)
+    (zeros-of (f .kept .1 .1 .1 .0) (f .kept .1 .1 .1 .1 .0) (f .kept .1 .1 .1 .1 .1 .0) (f .kept .1 .1 .1 .1 .1 .1 .0) (c .before .before .before .before .before .before .before .before .clear-tables2 .ensures))
+
+pub remainder-spec : {M : Type 1} → statement M
+remainder-spec =
+    tie.close
+    (tie.spec
+    ready-requires
+    returns
+    clear-tables-requires
+    same-length
+    same-length-2
+    same-length-3
+    same-length-4
+    returns-2
+    remainder-of-requires
+    clear-tables-requires-2
+    same-length-5
+    same-length-6
+    same-length-7
+    same-length-8
+    returns-3)

@@ -1,0 +1,4 @@
+pub mod Values
+pub mod Residues
+pub mod Whole
+pub mod Remainder
