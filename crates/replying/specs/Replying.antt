@@ -30,6 +30,19 @@ abbrev pub resultText : Reply (List ℕ) → List ℕ
 resultText (gives w) = bytes "FORM " ++ w
 resultText (refuses e s p) = refusedText e (told s) p
 
+-- `REMAINDER n`
+abbrev pub remainderText : ℕ → List ℕ
+remainderText n = bytes "REMAINDER " ++ dec n
+
+-- each number behind a space
+abbrev pub spaced : List ℕ → List ℕ
+spaced [] = []
+spaced (x ∷ xs) = (32 ∷ dec x) ++ spaced xs
+
+-- `DIFF x1 .. xn l r`
+abbrev pub differentText : List ℕ → ℕ → ℕ → List ℕ
+differentText N l r = ((bytes "DIFF" ++ spaced N) ++ (32 ∷ dec l)) ++ (32 ∷ dec r)
+
 -- a buffer of k bytes has room for the line of an answer
 abbrev pub Room : Written → ℕ → Type 0
 Room (Text n) k = (5 + n ≤ k) × (64 ≤ k)

@@ -2,10 +2,11 @@
 use answering::Written;
 use opening::Side;
 ghost use mathlib.Core.Path.{_≡_};
-ghost use Prim.Native.Nat.{_≤_};
+ghost use mathlib.Core.List.{_∷_};
+ghost use Prim.Native.Nat.{_*_, _≤_};
 ghost use lib.ListN.{length};
 ghost use Rattle.writing.specs.Written.{numeral, Wrote};
-ghost use Rattle.replying.specs.Replying.{sideText, wrongText, refusedText, Room, Replied};
+ghost use Rattle.replying.specs.Replying.{sideText, wrongText, refusedText, remainderText, spaced, differentText, Room, Replied};
 
 // Writes the bytes of text, and returns how many they are.
 pub fn put(text: &[u8], out: &mut [u8]) -> usize
@@ -81,4 +82,55 @@ pub fn written(answer: Written, out: &mut [u8]) -> usize
         }
         Written::Refused(e, side, p) => refused(e, side, p, out),
     }
+}
+
+// `REMAINDER n`
+pub fn remainder(n: u32, out: &mut [u8]) -> usize
+    requires { ⌜ 64 ≤ length (now out) ⌝ }
+    ensures { λ r. ⌜ Wrote r (remainderText n) (now (out .entry)) (now (out .exit)) ⌝ }
+{
+    let at = put(b"REMAINDER ", out);
+    let k = write_number(n as u64, &mut out[at..]);
+    at + k
+}
+
+// A space and a number.
+fn put_spaced(n: u32, out: &mut [u8]) -> usize
+    requires { ⌜ 11 ≤ length (now out) ⌝ }
+    ensures { λ r. ⌜ Wrote r (32 ∷ numeral n) (now (out .entry)) (now (out .exit)) ⌝ }
+{
+    let at = put(b" ", out);
+    let k = write_number(n as u64, &mut out[at..]);
+    at + k
+}
+
+// Each number behind a space.
+fn put_numbers(numbers: &[u32], out: &mut [u8]) -> usize
+    requires { ⌜ 11 * length (now numbers) ≤ length (now out) ⌝ }
+    ensures { λ r. ⌜ Wrote r (spaced (now (numbers .entry))) (now (out .entry)) (now (out .exit)) ⌝ }
+    ensures { λ r. ⌜ r ≤ 11 * length (now (numbers .entry)) ⌝ }
+{
+    let mut at = 0;
+    let mut i = 0;
+    while i < numbers.len() {
+        let k = put_spaced(numbers[i], &mut out[at..]);
+        at += k;
+        i += 1;
+    }
+    at
+}
+
+// `DIFF x1 .. xn l r`
+pub fn different(point: &[u32], l: u32, r: u32, out: &mut [u8]) -> usize
+    requires { ⌜ length (now point) ≤ 4 ⌝ }
+    requires { ⌜ 80 ≤ length (now out) ⌝ }
+    ensures { λ n. ⌜ Wrote n (differentText (now (point .entry)) l r) (now (out .entry)) (now (out .exit)) ⌝ }
+{
+    let a = put(b"DIFF", out);
+    let k = put_numbers(point, &mut out[a..]);
+    let b = a + k;
+    let m = put_spaced(l, &mut out[b..]);
+    let c = b + m;
+    let n = put_spaced(r, &mut out[c..]);
+    c + n
 }
