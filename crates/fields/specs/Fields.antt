@@ -1,5 +1,5 @@
 -- A request line: fields parted by one tab each, and the numbers in them.
-use mathlib.Core.Bool.{true, false, cond}
+use mathlib.Core.Bool.{Bool, true, false, cond}
 use mathlib.Core.List.{List, [], _∷_}
 use mathlib.Core.Option.{Option, none, some}
 use mathlib.Core.Path.{_≡_}
@@ -58,3 +58,17 @@ signed32 (some (negsuc n)) = cond (ltb n 2147483648) (C.Is (negsuc n)) C.Wrong
 
 abbrev pub signedOf : List ℕ → Coordinate
 signedOf w = signed32 (readInt w)
+
+abbrev pub isCoordinate : Coordinate → Bool
+isCoordinate (C.Is z) = true
+isCoordinate C.Wrong = false
+
+-- the number itself; 0 where there is none
+abbrev pub coordinateOf : Coordinate → ℤ
+coordinateOf (C.Is z) = z
+coordinateOf C.Wrong = pos 0
+
+-- how many of the first n fields of s are coordinates, up to the first that is none
+abbrev pub coordinatesOf : ℕ → List ℕ → ℕ
+coordinatesOf zero s = 0
+coordinatesOf (suc n) s = elim (isCoordinate (signedOf (firstOf s))) [ true ↦ suc (coordinatesOf n (restOf s)) | false ↦ 0 ]

@@ -6,10 +6,11 @@ use Prim.Native.Nat.{ℕ, suc, _+_, _-_, _<_, _≤_}
 use native.Mathlib.Numerals.{add-one}
 use native.Mathlib.Omega.{arith}
 use lib.Dec.{eqb}
-use lib.ListN.{length, getD, take, drop, drop-of-length-le}
-use lib.Seq.{drop-cons, take-suc}
+use native.Mathlib.Nat.{add-assoc}
+use lib.ListN.{length, getD, take, drop, drop-of-length-le, length-drop}
+use lib.Seq.{drop-cons, drop-drop, take-suc, take-all}
 use borrow.Author.Tests.{eq-eqb, ne-eqb}
-use Rattle.fields.specs.Fields.{firstOf, restOf, fieldOf, tabs, EndsAt}
+use Rattle.fields.specs.Fields.{firstOf, restOf, fieldOf, tabs, EndsAt, signedOf, isCoordinate, coordinatesOf}
 
 module _ (s : List ℕ) (i : ℕ) where
   one-on : i < length s → drop i s ≡ getD s i 0 ∷ drop (i + 1) s
@@ -73,3 +74,45 @@ field-more s k n = ap (fieldOf s) (one-less k n)
   where
     one-less : (k : ℕ) → (k ≡ 0 → ⊥) → suc (k - 1) ≡ k
     one-less k n = omega arith
+
+-- ---- coordinates: k of n are behind, and s is what is left
+one-more : (n k : ℕ) → k < n → n - k ≡ suc (n - (k + 1))
+one-more n k h = omega arith
+
+module _ (n k : ℕ) (s : List ℕ) (h : k < n) where
+  pub coordinates-on : isCoordinate (signedOf (firstOf s)) ≡ true → k + coordinatesOf (n - k) s ≡ (k + 1) + coordinatesOf (n - (k + 1)) (restOf s)
+  coordinates-on e =
+      ap (λ m. k + coordinatesOf m s) (one-more n k h)
+      ∙ ap (λ b. k + elim b [ true ↦ suc (coordinatesOf (n - (k + 1)) (restOf s)) | false ↦ 0 ]) e
+      ∙ omega arith
+
+  pub coordinates-stop : isCoordinate (signedOf (firstOf s)) ≡ false → k + coordinatesOf (n - k) s ≡ k
+  coordinates-stop e =
+      ap (λ m. k + coordinatesOf m s) (one-more n k h)
+      ∙ ap (λ b. k + elim b [ true ↦ suc (coordinatesOf (n - (k + 1)) (restOf s)) | false ↦ 0 ]) e
+      ∙ omega arith
+
+pub coordinates-start : (n : ℕ) (s : List ℕ) → 0 + coordinatesOf (n - 0) s ≡ coordinatesOf n s
+coordinates-start n s = ap (λ m. 0 + coordinatesOf m s) (all-of n) ∙ omega arith
+  where
+    all-of : (n : ℕ) → n - 0 ≡ n
+    all-of n = omega arith
+
+pub coordinates-end : (n k : ℕ) (s : List ℕ) → n ≤ k → k + coordinatesOf (n - k) s ≡ k
+coordinates-end n k s h = ap (λ m. k + coordinatesOf m s) (none n k h) ∙ omega arith
+  where
+    none : (n k : ℕ) → n ≤ k → n - k ≡ 0
+    none n k h = omega arith
+
+-- ---- the place of the next field, where the first one of the rest has r bytes
+module _ (s : List ℕ) (at r : ℕ) (in-s : at ≤ length s) (e : EndsAt r (take (length s - at) (drop at s))) where
+  rest-at : drop (at + (r + 1)) s ≡ restOf (drop at s)
+  rest-at =
+      let w = take-all (length s - at) (drop at s) (omega (arith, length-drop at s)) in
+      sym (drop-drop (r + 1) at s) ∙ ap (drop (r + 1)) (sym w) ∙ e .rest ∙ ap restOf w
+
+  pub place-next : at + r < length s → (at + r + 1 ≤ length s) × (drop (at + r + 1) s ≡ restOf (drop at s))
+  place-next h = (omega arith, ap (λ k. drop k s) (add-assoc at r 1) ∙ rest-at)
+
+  pub place-end : length s ≤ at + r → (length s ≤ length s) × (drop (length s) s ≡ restOf (drop at s))
+  place-end h = (omega arith, drop-of-length-le s {i = length s} (omega arith) ∙ sym (drop-of-length-le s {i = at + (r + 1)} (omega arith)) ∙ rest-at)

@@ -2,9 +2,10 @@
 ghost use mathlib.Core.Bool.{true};
 ghost use mathlib.Core.Path.{_≡_};
 ghost use Prim.Native.Nat.{_≤_, min};
+ghost use lib.ListN.{length, drop};
 ghost use Rattle.texts.specs.definitions.Bytes.{all, digit};
 ghost use Rattle.texts.specs.definitions.Numerals.{valueFrom, readNat, below0, from0};
-ghost use Rattle.fields.specs.Fields.{EndsAt, firstOf, restOf, fieldOf, countOf, naturalOf, signed32, signedOf};
+ghost use Rattle.fields.specs.Fields.{EndsAt, firstOf, restOf, fieldOf, countOf, naturalOf, signed32, signedOf, isCoordinate, coordinateOf, coordinatesOf};
 
 const TAB: u8 = 9;
 
@@ -152,4 +153,62 @@ pub fn signed(w: &[u8]) -> Coordinate
         return below_zero(&w[1..]);
     }
     from_zero(w)
+}
+
+// Whether the first field of s is a coordinate.
+fn begins_coordinate(s: &[u8]) -> bool
+    ensures { λ r. ⌜ r ≡ isCoordinate (signedOf (firstOf (now (s .entry)))) ⌝ }
+{
+    let x = signed(first(s));
+    match x {
+        Coordinate::Is(_) => true,
+        Coordinate::Wrong => false,
+    }
+}
+
+// Where the field behind the one at a place begins.
+fn place_behind(s: &[u8], at: usize) -> usize
+    requires { ⌜ at ≤ length (now s) ⌝ }
+    ensures { λ r. ⌜ r ≤ length (now (s .entry)) ⌝ }
+    ensures { λ r. ⌜ drop r (now (s .entry)) ≡ restOf (drop at (now (s .entry))) ⌝ }
+{
+    let e = at + first_end(&s[at..]);
+    if e < s.len() {
+        return e + 1;
+    }
+    s.len()
+}
+
+// How many of the first n fields of s are coordinates, up to the first that is none.
+fn coordinates_in(s: &[u8], n: usize) -> usize
+    ensures { λ r. ⌜ r ≡ coordinatesOf n (now (s .entry)) ⌝ }
+{
+    let mut at = 0;
+    let mut k = 0;
+    while k < n {
+        if !begins_coordinate(&s[at..]) {
+            return k;
+        }
+        at = place_behind(s, at);
+        k += 1;
+    }
+    k
+}
+
+// How many of the n fields from field 3 on are coordinates, up to the first that is none.
+pub fn coordinates(line: &[u8], n: usize) -> usize
+    ensures { λ r. ⌜ r ≡ coordinatesOf n (restOf (restOf (restOf (now (line .entry))))) ⌝ }
+{
+    coordinates_in(rest(rest(rest(line))), n)
+}
+
+// The coordinate that the field w is; 0 where it is none.
+pub fn coordinate_in(w: &[u8]) -> i32
+    ensures { λ r. ⌜ r ≡ coordinateOf (signedOf (now (w .entry))) ⌝ }
+{
+    let x = signed(w);
+    match x {
+        Coordinate::Is(z) => z,
+        Coordinate::Wrong => 0,
+    }
 }
