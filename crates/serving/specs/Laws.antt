@@ -2,23 +2,26 @@
 use mathlib.Core.Bool.{Bool, true, false, cond}
 use mathlib.Core.List.{List, []}
 use mathlib.Core.Path.{_≡_, refl, sym, ap, _∙_}
-use Prim.Native.Nat.{ℕ, _≤_, _<_, min}
+use Prim.Native.Nat.{ℕ, _+_, _-_, _≤_, _<_, min}
 use native.Mathlib.Omega.{arith}
-use lib.Dec.{eqb, leb}
+use lib.Dec.{eqb, leb, ltb}
+use lib.IntN.{ℤ}
 use lib.ListN.{length}
-use borrow.Author.Tests.{eq-eqb, ne-eqb, le-leb, lt-leb}
+use borrow.Author.Tests.{eq-eqb, ne-eqb, le-leb, lt-leb, le-ltb, lt-ltb}
 use Rattle.texts.specs.definitions.Bytes.{bytes, same, isRow}
 use Rattle.texts.specs.definitions.FormText.{text}
 use Rattle.texts.specs.definitions.Limits.{acceptTerm}
 use Rattle.texts.specs.definitions.Tree.{termOf}
 use Rattle.textlaws.specs.laws.Bytes.{same-eq, same-refl}
 use Rattle.horner.specs.definitions.Term.{normℤ}
-use Rattle.calls.specs.definitions.Reply.{left, enough, fitted, asked, readAs}
-use Rattle.calls.specs.definitions.Terms.{formOf, formReply}
-use Rattle.fields.specs.Fields.{fieldOf, countOf}
+use Rattle.calls.specs.definitions.Reply.{Reply, gives, refuses, left, enough, fitted, asked, readAs}
+use Rattle.calls.specs.definitions.Terms.{formOf, formReply, remainderReply}
+use Rattle.fields.specs.Fields.{fieldOf, restOf, countOf, coordinatesOf}
 use Rattle.replying.specs.Replying.{wrongText, resultText}
 use Rattle.replying.specs.laws.Replies.{Within, within-asked, within-read, within-fitted}
-use Rattle.serving.specs.Serving.{counted, asks, formLine, lineAnswer, answerIn}
+use Rattle.remaindering.specs.Remaindering.{remainderedOf}
+use Rattle.remaindering.specs.declared.Remaindered.{Remaindered}
+use Rattle.serving.specs.Serving.{counted, asks, formLine, pointFault, pointOf, pointed, remainderedText, remainderedLine, remainderLine, lineAnswer, answerIn}
 
 -- ---- the number of fields
 module _ (k : ℕ) (line w : List ℕ) where
@@ -68,13 +71,74 @@ module _ (tables line : List ℕ) where
       ∙ ap (λ v. resultText (formReply (fieldOf line 1) tables v 65535)) t
       ∙ counted-is 3 line (resultText (formReply (fieldOf line 1) tables (fieldOf line 2) 65535)) (sym e ∙ h)
 
--- ---- word by word, into a buffer of n bytes; v is the word, and each b whether it is the one that is asked for
+-- ---- coordinates
+module _ (line : List ℕ) {n : ℕ} (is : n ≡ countOf line) where
+  pub fault-missing : n < 3 → n ≡ pointFault line
+  unfolding pointFault
+  fault-missing h = is ∙ sym (ap (λ b. cond b (countOf line) (cond (ltb (coordinatesOf (countOf line - 3) (restOf (restOf (restOf line)))) (countOf line - 3)) (3 + coordinatesOf (countOf line - 3) (restOf (restOf (restOf line)))) 0)) (lt-ltb (countOf line) 3 (omega arith)))
+
+  module _ {k : ℕ} (read : k ≡ coordinatesOf (n - 3) (restOf (restOf (restOf line)))) (more : 3 ≤ n) where
+    as-counted : k ≡ coordinatesOf (countOf line - 3) (restOf (restOf (restOf line)))
+    as-counted = read ∙ ap (λ m. coordinatesOf (m - 3) (restOf (restOf (restOf line)))) is
+
+    rest-of : {x : ℕ} → cond (ltb k (countOf line - 3)) (3 + k) 0 ≡ x → pointFault line ≡ x
+    unfolding pointFault
+    rest-of e =
+        ap (λ b. cond b (countOf line) (cond (ltb (coordinatesOf (countOf line - 3) (restOf (restOf (restOf line)))) (countOf line - 3)) (3 + coordinatesOf (countOf line - 3) (restOf (restOf (restOf line)))) 0)) (le-ltb (countOf line) 3 (omega arith))
+        ∙ ap (λ v. cond (ltb v (countOf line - 3)) (3 + v) 0) (sym as-counted)
+        ∙ e
+
+    pub fault-wrong : k < n - 3 → 3 + k ≡ pointFault line
+    fault-wrong h = sym (rest-of (ap (λ b. cond b (3 + k) 0) (lt-ltb k (countOf line - 3) (omega arith))))
+
+    pub fault-none : n - 3 ≤ k → 0 ≡ pointFault line
+    fault-none h = sym (rest-of (ap (λ b. cond b (3 + k) 0) (le-ltb k (countOf line - 3) (omega arith))))
+
+module _ (line w : List ℕ) {f : ℕ} (is : f ≡ pointFault line) where
+  pub pointed-not : (f ≡ 0 → ⊥) → wrongText f ≡ pointed line w
+  pointed-not h = ap wrongText is ∙ sym (ap (λ b. cond b w (wrongText (pointFault line))) (ne-eqb (pointFault line) 0 (λ q. h (is ∙ q))))
+
+  pub pointed-is : f ≡ 0 → w ≡ pointed line w
+  pointed-is e = sym (ap (λ b. cond b w (wrongText (pointFault line))) (eq-eqb (pointFault line) 0 (sym is ∙ e)))
+
+-- ---- remainder
+pub remaindered-is : (x : Reply ℕ) → remainderedLine (remainderedOf x) ≡ remainderedText x
+remaindered-is (gives n) = refl
+remaindered-is (refuses e s p) = refl
+
+module _ (tables line : List ℕ) where
+  pub remainder-faulty : {f : ℕ} → f ≡ pointFault line → (f ≡ 0 → ⊥) → wrongText f ≡ remainderLine tables line
+  remainder-faulty e h = pointed-not line (remainderedText (remainderReply (fieldOf line 1) tables (fieldOf line 2) (pointOf line))) e h
+
+  pub remainder-fields :
+      {f : ℕ} {row s : List ℕ} {N : List ℤ} {x : Remaindered} →
+      f ≡ pointFault line → f ≡ 0 → row ≡ fieldOf line 1 → s ≡ fieldOf line 2 → N ≡ pointOf line → x ≡ remainderedOf (remainderReply row tables s N) →
+      remainderedLine x ≡ remainderLine tables line
+  remainder-fields {f} {row} {s} {N} {x} e h r t p a =
+      ap remainderedLine a
+      ∙ remaindered-is (remainderReply row tables s N)
+      ∙ ap (λ v. remainderedText (remainderReply v tables s N)) r
+      ∙ ap (λ v. remainderedText (remainderReply (fieldOf line 1) tables v N)) t
+      ∙ ap (λ v. remainderedText (remainderReply (fieldOf line 1) tables (fieldOf line 2) v)) p
+      ∙ pointed-is line (remainderedText (remainderReply (fieldOf line 1) tables (fieldOf line 2) (pointOf line))) e h
+
+-- ---- word by word, into a buffer of n bytes; v is the word, and each Boolean whether it is the one that is asked for
 module _ (n : ℕ) (tables line : List ℕ) (long : 65540 ≤ n) {v : List ℕ} (is : v ≡ fieldOf line 0) where
-  module _ {form : Bool} (told : (form ≡ true → v ≡ bytes "form") × (v ≡ bytes "form" → form ≡ true)) where
+  abbrev Tells : Bool → List ℕ → Type 0
+  Tells b word = (b ≡ true → v ≡ word) × (v ≡ word → b ≡ true)
+
+  module _ {form : Bool} (form-told : Tells form (bytes "form")) where
     pub answers-form : form ≡ true → formLine tables line ≡ answerIn n tables line
     unfolding lineAnswer
-    answers-form e = asks-is line (bytes "form") (formLine tables line) (wrongText 0) is told e ∙ answer-some n tables line long
+    answers-form e = asks-is line (bytes "form") (formLine tables line) _ is form-told e ∙ answer-some n tables line long
 
-    pub answers-none : form ≡ false → wrongText 0 ≡ answerIn n tables line
-    unfolding lineAnswer
-    answers-none e = asks-not line (bytes "form") (formLine tables line) (wrongText 0) is told e ∙ answer-some n tables line long
+    module _ (no-form : form ≡ false) {remainder : Bool} (remainder-told : Tells remainder (bytes "remainder")) where
+      after-form : {w : List ℕ} → w ≡ asks line (bytes "remainder") (remainderLine tables line) (wrongText 0) → w ≡ answerIn n tables line
+      unfolding lineAnswer
+      after-form e = e ∙ asks-not line (bytes "form") (formLine tables line) _ is form-told no-form ∙ answer-some n tables line long
+
+      pub answers-remainder : remainder ≡ true → remainderLine tables line ≡ answerIn n tables line
+      answers-remainder e = after-form (asks-is line (bytes "remainder") (remainderLine tables line) (wrongText 0) is remainder-told e)
+
+      pub answers-none : remainder ≡ false → wrongText 0 ≡ answerIn n tables line
+      answers-none e = after-form (asks-not line (bytes "remainder") (remainderLine tables line) (wrongText 0) is remainder-told e)
