@@ -1,0 +1,113 @@
+-- `replying::refused` meets its contract: the word, a numeral, the side, a numeral, each behind the one before.
+use native.Mathlib.Omega.{arith}
+use Rattle.writing.specs.laws.Wrote.{wrote-on, wrote-room}
+use Rattle.replying.specs.laws.Sizes.{numeral-20, side-9}
+use borrow.Author.Needs.{needs}
+use Rattle.replying.proofs.refused.Statement.{statement}
+use Rattle.replying.proofs.refused.Tie as tie
+use Rattle.replying.proofs.refused.Reads as reads
+use Rattle.replying.proofs.refused.Lts as lts
+use Rattle.replying.proofs.put.Reads as put-reads
+use Rattle.replying.proofs.put_side.Reads as put-side-reads
+use Rattle.replying.proofs.write_number.Reads as write-number-reads
+
+-- src/lib.rt:63:17
+slice-aggregate-put : tie.Need-slice-aggregate-put
+slice-aggregate-put c = search needs
+
+-- src/lib.rt:63:9
+put-requires : tie.Need-put-requires
+put-requires c κs = search needs
+
+-- src/lib.rt:64:41
+sub-write-number : tie.Need-sub-write-number
+sub-write-number c = search needs
+
+-- src/lib.rt:64:41
+part-write-number-start : tie.Need-part-write-number-start
+part-write-number-start c = search needs
+
+-- src/lib.rt:64:41
+part-write-number-end : tie.Need-part-write-number-end
+part-write-number-end c = search needs
+
+-- src/lib.rt:64:9
+write-number-requires : tie.Need-write-number-requires
+write-number-requires c κs = omega (arith, wrote-room (c .before .before .before .put .ensures), c .before .before .before .put .ensures .size, numeral-20 (c .before .before .before .before .before .before .before .args .number) (omega (arith, c .before .before .before .before .before .before .before .fits .number)), c .before .before .before .before .before .before .before .pre)
+
+-- src/lib.rt:65:13
+add-b : tie.Need-add-b
+add-b c = search needs
+
+-- src/lib.rt:66:28
+sub-put-side : tie.Need-sub-put-side
+sub-put-side c = search needs
+
+-- src/lib.rt:66:28
+part-put-side-start : tie.Need-part-put-side-start
+part-put-side-start c = search needs
+
+-- src/lib.rt:66:28
+part-put-side-end : tie.Need-part-put-side-end
+part-put-side-end c = search needs
+
+-- src/lib.rt:66:9
+put-side-requires : tie.Need-put-side-requires
+put-side-requires c κs = omega (arith, wrote-room (wrote-on (c .before .before .before .before .before .before .before .put .ensures) (c .before .before .before .write-number .ensures)), c .before .before .before .before .before .before .before .put .ensures .size, c .before .before .before .write-number .ensures .size, numeral-20 (c .before .before .before .before .before .before .before .before .before .before .before .args .number) (omega (arith, c .before .before .before .before .before .before .before .before .before .before .before .fits .number)), c .before .before .before .before .before .before .before .before .before .before .before .pre)
+
+-- src/lib.rt:67:13
+add-c : tie.Need-add-c
+add-c c = search needs
+
+-- src/lib.rt:68:40
+sub-write-number-2 : tie.Need-sub-write-number-2
+sub-write-number-2 c = search needs
+
+-- src/lib.rt:68:40
+part-write-number-start-2 : tie.Need-part-write-number-start-2
+part-write-number-start-2 c = search needs
+
+-- src/lib.rt:68:40
+part-write-number-end-2 : tie.Need-part-write-number-end-2
+part-write-number-end-2 c = search needs
+
+-- src/lib.rt:68:9
+write-number-requires-2 : tie.Need-write-number-requires-2
+write-number-requires-2 c κs = let w = wrote-on (wrote-on (c .before .before .before .before .before .before .before .before .before .before .before .put .ensures) (c .before .before .before .before .before .before .before .write-number .ensures)) (c .before .before .before .put-side .ensures) in
+    omega (arith, wrote-room w, c .before .before .before .before .before .before .before .before .before .before .before .put .ensures .size, c .before .before .before .before .before .before .before .write-number .ensures .size, c .before .before .before .put-side .ensures .size, side-9 (c .before .before .before .before .before .before .before .before .before .before .before .before .before .before .before .args .side), numeral-20 (c .before .before .before .before .before .before .before .before .before .before .before .before .before .before .before .args .number) (omega (arith, c .before .before .before .before .before .before .before .before .before .before .before .before .before .before .before .fits .number)), numeral-20 (c .before .before .before .before .before .before .before .before .before .before .before .before .before .before .before .args .place) (omega (arith, c .before .before .before .before .before .before .before .before .before .before .before .before .before .before .before .fits .place)), c .before .before .before .before .before .before .before .before .before .before .before .before .before .before .before .pre)
+
+-- src/lib.rt:69:5
+add-result : tie.Need-add-result
+add-result c = search needs
+
+-- src/lib.rt:59:1
+same-length : tie.Need-same-length
+same-length c = search needs
+
+-- src/lib.rt:59:1
+returns : tie.Need-returns
+returns c = wrote-on (wrote-on (wrote-on (c .before .before .before .before .before .before .before .before .before .before .before .before .before .before .put .ensures) (c .before .before .before .before .before .before .before .before .before .before .write-number .ensures)) (c .before .before .before .before .before .before .put-side .ensures)) (c .before .before .write-number2 .ensures)
+
+pub refused-spec : {M : Type 1} → statement M
+refused-spec =
+    tie.close
+    (tie.spec
+    slice-aggregate-put
+    put-requires
+    sub-write-number
+    part-write-number-start
+    part-write-number-end
+    write-number-requires
+    add-b
+    sub-put-side
+    part-put-side-start
+    part-put-side-end
+    put-side-requires
+    add-c
+    sub-write-number-2
+    part-write-number-start-2
+    part-write-number-end-2
+    write-number-requires-2
+    add-result
+    same-length
+    returns)

@@ -1,0 +1,61 @@
+-- `replying::wrong` meets its contract: two bytes and a numeral behind them.
+use native.Mathlib.Omega.{arith}
+use Rattle.writing.specs.laws.Wrote.{wrote-on, wrote-room}
+use Rattle.replying.specs.laws.Sizes.{numeral-20}
+use borrow.Author.Needs.{needs}
+use Rattle.replying.proofs.wrong.Statement.{statement}
+use Rattle.replying.proofs.wrong.Tie as tie
+use Rattle.replying.proofs.wrong.Reads as reads
+use Rattle.replying.proofs.wrong.Lts as lts
+use Rattle.replying.proofs.put.Reads as put-reads
+use Rattle.replying.proofs.write_number.Reads as write-number-reads
+
+-- src/lib.rt:42:18
+slice-aggregate-put : tie.Need-slice-aggregate-put
+slice-aggregate-put c = search needs
+
+-- src/lib.rt:42:9
+put-requires : tie.Need-put-requires
+put-requires c κs = search needs
+
+-- src/lib.rt:43:36
+sub-write-number : tie.Need-sub-write-number
+sub-write-number c = search needs
+
+-- src/lib.rt:43:36
+part-write-number-start : tie.Need-part-write-number-start
+part-write-number-start c = search needs
+
+-- src/lib.rt:43:36
+part-write-number-end : tie.Need-part-write-number-end
+part-write-number-end c = search needs
+
+-- src/lib.rt:43:9
+write-number-requires : tie.Need-write-number-requires
+write-number-requires c κs = omega (arith, wrote-room (c .before .before .before .put .ensures), c .before .before .before .put .ensures .size, numeral-20 (c .before .before .before .before .before .before .before .args .n) (omega (arith, c .before .before .before .before .before .before .before .fits .n)), c .before .before .before .before .before .before .before .pre)
+
+-- src/lib.rt:44:5
+add-result : tie.Need-add-result
+add-result c = search needs
+
+-- src/lib.rt:38:1
+same-length : tie.Need-same-length
+same-length c = search needs
+
+-- src/lib.rt:38:1
+returns : tie.Need-returns
+returns c = wrote-on (c .before .before .before .before .before .before .put .ensures) (c .before .before .write-number .ensures)
+
+pub wrong-spec : {M : Type 1} → statement M
+wrong-spec =
+    tie.close
+    (tie.spec
+    slice-aggregate-put
+    put-requires
+    sub-write-number
+    part-write-number-start
+    part-write-number-end
+    write-number-requires
+    add-result
+    same-length
+    returns)

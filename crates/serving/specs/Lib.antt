@@ -1,0 +1,3 @@
+-- What a request line is answered with.
+pub mod Serving
+pub mod Laws
