@@ -23,7 +23,7 @@ fn answer(
         io::write_all(1, b"? 0\n");
         return;
     }
-    let n = serving::answer_line(&line[..fill], out, a, b, c, d);
+    let n = asking::answer_line(&line[..fill], out, a, b, c, d);
     if n < out.len() {
         let e = n + 1;
         out[n] = b'\n';

@@ -46,7 +46,7 @@ fn form_line(
 }
 
 // The first wrong field of a request with coordinates from field 3 on; 0 where none is wrong.
-fn point_fault(line: &[u8]) -> usize
+pub fn point_fault(line: &[u8]) -> usize
     ensures { λ r. ⌜ r ≡ pointFault (now (line .entry)) ⌝ }
 {
     let n = fields::count(line);
@@ -62,7 +62,7 @@ fn point_fault(line: &[u8]) -> usize
 }
 
 // The numbers of the fields 3 to 7.
-fn five(line: &[u8]) -> [i32; 5]
+pub fn five(line: &[u8]) -> [i32; 5]
     ensures { λ r. ⌜ r ≡ fiveOf (now (line .entry)) ⌝ }
 {
     let x = fields::coordinate_in(fields::field(line, 3));
@@ -74,7 +74,7 @@ fn five(line: &[u8]) -> [i32; 5]
 }
 
 // How many coordinates the point has, at most five.
-fn point_length(line: &[u8]) -> usize
+pub fn point_length(line: &[u8]) -> usize
     ensures { λ r. ⌜ r ≡ min (countOf (now (line .entry)) - 3) 5 ⌝ }
 {
     let n = fields::count(line);

@@ -1,0 +1,116 @@
+-- `asking::say_counted`: the answer stays within the buffer.
+use mathlib.Core.Path.{_≡_, sym}
+use native.Mathlib.Omega.{arith}
+use lib.Seq.{length-take-le}
+use borrow.Author.Needs.{needs}
+use Rattle.asking.proofs.say_counted.Statement.{statement}
+use Rattle.asking.proofs.say_counted.Tie as tie
+use Rattle.asking.proofs.say_counted.Reads as reads
+use Rattle.asking.proofs.say_counted.Lts as lts
+use Rattle.replying.proofs.put.Reads as put-reads
+use Rattle.replying.proofs.refused.Reads as refused-reads
+
+-- src/lib.rt:68:40
+enum-told : tie.Need-enum-told
+enum-told c = search needs
+
+-- src/lib.rt:68:40
+slice-aggregate-put : tie.Need-slice-aggregate-put
+slice-aggregate-put c = search needs
+
+-- src/lib.rt:68:49
+slice-relend-prefix-put : tie.Need-slice-relend-prefix-put
+slice-relend-prefix-put c = search needs
+
+-- src/lib.rt:68:49
+slice-aggregate-put-2 : tie.Need-slice-aggregate-put-2
+slice-aggregate-put-2 c = sym (length-take-le 64 (c .before .before .before .before .before .args .out .now) (omega (arith, c .before .before .before .before .before .pre)))
+
+-- src/lib.rt:68:26
+put-requires : tie.Need-put-requires
+put-requires c κs = omega (arith, length-take-le 64 (c .before .before .before .before .before .args .out .now) (omega (arith, c .before .before .before .before .before .pre)))
+
+-- src/lib.rt:69:45
+enum-told-2 : tie.Need-enum-told-2
+enum-told-2 c = search needs
+
+-- src/lib.rt:69:45
+slice-aggregate-put-3 : tie.Need-slice-aggregate-put-3
+slice-aggregate-put-3 c = search needs
+
+-- src/lib.rt:69:54
+slice-relend-prefix-put-2 : tie.Need-slice-relend-prefix-put-2
+slice-relend-prefix-put-2 c = search needs
+
+-- src/lib.rt:69:54
+slice-aggregate-put-4 : tie.Need-slice-aggregate-put-4
+slice-aggregate-put-4 c = sym (length-take-le 64 (c .before .before .before .before .before .args .out .now) (omega (arith, c .before .before .before .before .before .pre)))
+
+-- src/lib.rt:69:31
+put-requires-2 : tie.Need-put-requires-2
+put-requires-2 c κs = omega (arith, length-take-le 64 (c .before .before .before .before .before .args .out .now) (omega (arith, c .before .before .before .before .before .pre)))
+
+-- src/lib.rt:70:26
+enum-known-answer : tie.Need-enum-known-answer
+enum-known-answer c = search needs
+
+-- src/lib.rt:70:71
+slice-relend-prefix-refused : tie.Need-slice-relend-prefix-refused
+slice-relend-prefix-refused c = search needs
+
+-- src/lib.rt:70:71
+slice-aggregate-refused : tie.Need-slice-aggregate-refused
+slice-aggregate-refused c = sym (length-take-le 64 (c .before .before .before .before .before .args .out .now) (omega (arith, c .before .before .before .before .before .pre)))
+
+-- src/lib.rt:70:41
+refused-requires : tie.Need-refused-requires
+refused-requires c κs = omega (arith, length-take-le 64 (c .before .before .before .before .before .args .out .now) (omega (arith, c .before .before .before .before .before .pre)))
+
+-- src/lib.rt:63:1
+same-length : tie.Need-same-length
+same-length c = search needs
+
+-- src/lib.rt:63:1
+returns : tie.Need-returns
+returns c = search needs
+
+-- src/lib.rt:63:1
+same-length-2 : tie.Need-same-length-2
+same-length-2 c = search needs
+
+-- src/lib.rt:63:1
+returns-2 : tie.Need-returns-2
+returns-2 c = search needs
+
+-- src/lib.rt:63:1
+same-length-3 : tie.Need-same-length-3
+same-length-3 c = search needs
+
+-- src/lib.rt:63:1
+returns-3 : tie.Need-returns-3
+returns-3 c = omega (arith, c .before .before .refused .ensures .fits, length-take-le 64 (c .before .before .before .before .before .before .before .before .args .out .now) (omega (arith, c .before .before .before .before .before .before .before .before .pre)))
+
+pub say-counted-spec : {M : Type 1} → statement M
+say-counted-spec =
+    tie.close
+    (tie.spec
+    enum-told
+    slice-aggregate-put
+    slice-relend-prefix-put
+    slice-aggregate-put-2
+    put-requires
+    enum-told-2
+    slice-aggregate-put-3
+    slice-relend-prefix-put-2
+    slice-aggregate-put-4
+    put-requires-2
+    enum-known-answer
+    slice-relend-prefix-refused
+    slice-aggregate-refused
+    refused-requires
+    same-length
+    returns
+    same-length-2
+    returns-2
+    same-length-3
+    returns-3)

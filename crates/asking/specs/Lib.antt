@@ -1,0 +1,1 @@
+-- Nothing is defined here: the functions of asking promise only that an answer stays within its buffer.
