@@ -1,5 +1,5 @@
 -- `raising::write_power` meets its contract: the exponent or a limit is passed, or the power is written.
-use mathlib.Core.Path.{_≡_, sym, ap, _∙_}
+use mathlib.Core.Path.{sym, ap, _∙_}
 use native.Mathlib.Omega.{arith}
 use denote.Ref.{now}
 use lib.ListN.{length}

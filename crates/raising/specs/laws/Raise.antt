@@ -1,8 +1,8 @@
 -- What `raise` answers, by what is read of the form.
-use mathlib.Core.Bool.{true, false}
+use mathlib.Core.Bool.{false}
 use mathlib.Core.List.{List}
-use mathlib.Core.Path.{_≡_, refl, sym, ap, subst, _∙_}
-use Prim.Native.Nat.{ℕ, _+_, _*_, _^_, _≤_, _<_, min}
+use mathlib.Core.Path.{_≡_, sym, ap, subst, _∙_}
+use Prim.Native.Nat.{ℕ, _*_, _≤_, _<_}
 use native.Mathlib.Omega.{arith}
 use borrow.Author.Tests.{le-leb, lt-leb}
 use lib.Dec.{leb}
@@ -10,11 +10,10 @@ use lib.IntN.{ℤ}
 use lib.ListN.{length, take, length-map}
 use Rattle.horner.specs.definitions.Form.{Form as HForm, raise}
 use Rattle.horner.specs.definitions.Integers.{ℤ-ring}
-use Rattle.horner.specs.definitions.Measures.{AllLe, box, degrees, multiples, one-if, terms}
+use Rattle.horner.specs.definitions.Measures.{degrees, multiples, one-if, terms}
 use Rattle.horner.specs.laws.Bounds.{bounded-raise}
 use Rattle.horner.specs.laws.Carry.{carry-raise}
 use Rattle.horner.specs.laws.Count.{count-size, count-box, one-if-le}
-use Rattle.horner.specs.laws.Degree.{all-le-below}
 use Rattle.horner.specs.laws.Measure.{meas-raise}
 use Rattle.horner.specs.laws.Normal.{normal-raise}
 use Rattle.horner.specs.laws.Room.{words-3073}
@@ -27,13 +26,13 @@ use Rattle.fits.specs.laws.Lists.{box-below}
 use Rattle.fits.specs.laws.Tables.{tables-for}
 use Rattle.powers.specs.Raise as P
 use Rattle.powers.specs.laws.Raise.{below-multiples, power-mono}
-use Rattle.texts.specs.definitions.Answer.{Reading, read, refused}
+use Rattle.texts.specs.definitions.Answer.{Reading, read}
 use Rattle.texts.specs.definitions.FormJudging.{acceptForm}
 use Rattle.texts.specs.definitions.FormText.{text}
 use Rattle.writing.specs.Written.{textOf}
-use Rattle.calls.specs.definitions.Buffers.{resultAfter, untouched}
+use Rattle.calls.specs.definitions.Buffers.{untouched}
 use Rattle.calls.specs.definitions.Forms.{ofPower, limited, raiseOf, raiseReply}
-use Rattle.calls.specs.definitions.Reply.{Reply, left, neither, refuses, readAs, asked, fitted}
+use Rattle.calls.specs.definitions.Reply.{left, neither, refuses, readAs, asked, fitted}
 use Rattle.measures.specs.declared.Measures.{Measures}
 use Rattle.measures.specs.Measuring.{powM, limitM}
 use Rattle.opening.specs.Opening.{readyOf}
@@ -47,7 +46,7 @@ use Rattle.formopening.specs.Reading.{IsForm, FormRead}
 use Rattle.formopening.specs.declared.Read.{Read}
 use Rattle.formopening.specs.declared.Read.the-variants as R
 use Rattle.formopening.specs.laws.Reading.{read-refusal, form-words}
-use Rattle.operating.specs.laws.Limits.{Meets, Inside, power-meets, inside, passed, stopped}
+use Rattle.operating.specs.laws.Limits.{Meets, power-meets, inside, passed, stopped}
 use Rattle.operating.specs.laws.Results.{Within, operand, result, over-remainders, decoded, few-words, codes, words, result-text}
 use Rattle.operating.specs.laws.Two.{Answers, answers, limited-clears}
 
