@@ -1,5 +1,4 @@
 -- The enum that `judge` answers, for each reply.
-use Prim.Native.Nat.{ℕ}
 use Rattle.calls.specs.definitions.Reply.{Reply, gives, refuses}
 use Rattle.opening.specs.Opening.{told}
 use Rattle.judging.specs.declared.Verdict.{Verdict}

@@ -1,5 +1,5 @@
 -- `adding::write_sum` meets its contract: a limit is passed, or the sum is written.
-use mathlib.Core.Path.{_≡_, sym, ap, _∙_}
+use mathlib.Core.Path.{sym, ap, _∙_}
 use native.Mathlib.Omega.{arith}
 use denote.Ref.{now}
 use lib.ListN.{length}

@@ -1,12 +1,10 @@
 -- What `add` answers, by what is read of the two forms.
-use mathlib.Core.Bool.{true, false}
 use mathlib.Core.List.{List}
-use mathlib.Core.Path.{_≡_, refl, sym, ap, ap₂, _∙_}
-use Prim.Native.Nat.{ℕ, _+_, _≤_}
+use mathlib.Core.Path.{_≡_, sym, ap₂, _∙_}
+use Prim.Native.Nat.{ℕ, _≤_}
 use native.Mathlib.Omega.{arith}
-use lib.IntN.{ℤ}
 use lib.ListN.{length, take}
-use Rattle.horner.specs.definitions.Form.{Form as HForm, sum}
+use Rattle.horner.specs.definitions.Form.{sum}
 use Rattle.horner.specs.definitions.Integers.{ℤ-ring}
 use Rattle.horner.specs.definitions.Measures.{degrees, maxs}
 use Rattle.horner.specs.laws.Carry.{carry-sum}
@@ -17,9 +15,8 @@ use Rattle.coded.specs.Coding.{Codes, Made, dec}
 use Rattle.coded.specs.Operations.{sumOf}
 use Rattle.texts.specs.definitions.FormText.{text}
 use Rattle.writing.specs.Written.{textOf}
-use Rattle.calls.specs.definitions.Buffers.{untouched}
 use Rattle.calls.specs.definitions.Forms.{ofSum, twoOf, addReply}
-use Rattle.calls.specs.definitions.Reply.{Reply, neither, refuses, fitted}
+use Rattle.calls.specs.definitions.Reply.{neither, refuses}
 use Rattle.measures.specs.declared.Measures.{Measures}
 use Rattle.measures.specs.Measuring.{addM, limitM}
 use Rattle.building.specs.Stack.{left, right}
@@ -27,9 +24,8 @@ use Rattle.opening.specs.Opening.{readyOf}
 use Rattle.opening.specs.laws.Opening.{Open, open-goes, not-open}
 use Rattle.formreading.specs.Building.{overP}
 use Rattle.operating.specs.Pairs.{IsPair}
-use Rattle.operating.specs.laws.Limits.{Meets, Inside, sum-meets, inside}
+use Rattle.operating.specs.laws.Limits.{Meets, sum-meets, inside}
 use Rattle.operating.specs.laws.Results.{Within, operand, result, decoded, codes, words, result-text}
-use Rattle.operating.specs.laws.Two.{two-stopped, two-goes, two-clears}
 
 module _ {m : ℕ} {s t l : List ℕ} {x y : Measures} {n k : ℕ} (few : m ≤ 4) (P : IsPair m s t x n y k l) where
   wx : Within m (degrees m (P .of-left .f)) (P .of-left .f)

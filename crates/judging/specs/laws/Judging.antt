@@ -6,11 +6,11 @@ use Prim.Native.Nat.{ℕ}
 use lib.IntN.{ℤ}
 use lib.ListN.{length}
 use Rattle.horner.specs.definitions.Form.{Form as HForm}
-use Rattle.texts.specs.definitions.Answer.{Reading, read, refused}
+use Rattle.texts.specs.definitions.Answer.{Reading}
 use Rattle.texts.specs.definitions.Bytes.{isRow}
 use Rattle.texts.specs.definitions.FormJudging.{acceptForm}
 use Rattle.calls.specs.definitions.Forms.{judgeReply}
-use Rattle.calls.specs.definitions.Reply.{Reply, gives, refuses, left, neither, readAs}
+use Rattle.calls.specs.definitions.Reply.{gives, left, readAs}
 use Rattle.measures.specs.declared.Measures.{Measures}
 use Rattle.formreading.specs.Answer.{judgedOf}
 use Rattle.formreading.specs.declared.Judged.the-variants as J

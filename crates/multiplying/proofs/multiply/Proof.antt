@@ -1,7 +1,6 @@
 -- `multiplying::multiply` meets its contract: the row and the tables are looked at, the inner call answers, the tables are cleared.
-use mathlib.Core.Path.{_≡_, refl, sym, _∙_}
+use mathlib.Core.Path.{sym, _∙_}
 use mathlib.Core.List.{[], _∷_}
-use native.Mathlib.Omega.{arith}
 use lib.ListN.{length}
 use Rattle.horner.specs.definitions.Form.{prod}
 use Rattle.horner.specs.definitions.Integers.{ℤ-ring}

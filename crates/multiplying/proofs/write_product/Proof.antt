@@ -1,5 +1,5 @@
 -- `multiplying::write_product` meets its contract: a limit is passed, or the product is written.
-use mathlib.Core.Path.{_≡_, sym, ap, _∙_}
+use mathlib.Core.Path.{sym, ap, _∙_}
 use native.Mathlib.Omega.{arith}
 use denote.Ref.{now}
 use lib.ListN.{length}
@@ -13,7 +13,7 @@ use Rattle.coded.proofs.Lists.{begins-le}
 use Rattle.coded.specs.laws.Codes.{coded}
 use Rattle.measures.specs.Measuring.{limitM}
 use Rattle.answering.specs.Answering.{writtenOf}
-use Rattle.formopening.specs.laws.Reading.{form-small, form-words}
+use Rattle.formopening.specs.laws.Reading.{form-small}
 use Rattle.operating.specs.laws.Pairs.{side-by-side}
 use Rattle.operating.specs.laws.Two.{two-stopped, two-goes}
 use Rattle.multiplying.specs.laws.Multiply.{meets, lengths, space, product-room, product-codes, product-words, product-text}

@@ -1,9 +1,8 @@
 -- What `multiply` answers, by what is read of the two forms.
 use mathlib.Core.List.{List}
-use mathlib.Core.Path.{_≡_, refl, sym, ap, ap₂, subst, _∙_}
+use mathlib.Core.Path.{_≡_, sym, ap, ap₂, subst, _∙_}
 use Prim.Native.Nat.{ℕ, _≤_}
 use native.Mathlib.Omega.{arith}
-use lib.IntN.{ℤ}
 use lib.ListN.{length, take}
 use Rattle.horner.specs.definitions.Form.{Form as HForm, prod}
 use Rattle.horner.specs.definitions.Integers.{ℤ-ring}

@@ -1,7 +1,6 @@
 -- `negating::negate` meets its contract: the row and the tables are looked at, the inner call answers, the tables are cleared.
-use mathlib.Core.Path.{_≡_, refl, sym, _∙_}
+use mathlib.Core.Path.{refl, sym, _∙_}
 use mathlib.Core.List.{[], _∷_}
-use native.Mathlib.Omega.{arith}
 use lib.ListN.{length}
 use Rattle.answering.specs.laws.Whole.{refused-whole, answered-whole}
 use Rattle.opening.specs.laws.Opening.{ready-open, open-long}

@@ -1,5 +1,5 @@
 -- `negating::negate_of` meets its contract: the form is refused, or its negative is written.
-use mathlib.Core.Path.{_≡_, sym, ap, _∙_}
+use mathlib.Core.Path.{sym, ap, _∙_}
 use native.Mathlib.Omega.{arith}
 use denote.Ref.{now}
 use lib.ListN.{length}

@@ -1,7 +1,7 @@
 -- What `negate` answers, by what is read of the form.
-use mathlib.Core.Bool.{true, false}
+use mathlib.Core.Bool.{false}
 use mathlib.Core.List.{List}
-use mathlib.Core.Path.{_≡_, refl, sym, ap, _∙_}
+use mathlib.Core.Path.{_≡_, sym, ap, _∙_}
 use Prim.Native.Nat.{ℕ, _≤_}
 use native.Mathlib.Omega.{arith}
 use lib.IntN.{ℤ}
@@ -20,7 +20,7 @@ use Rattle.texts.specs.definitions.FormText.{text}
 use Rattle.writing.specs.Written.{textOf}
 use Rattle.calls.specs.definitions.Buffers.{resultAfter, untouched}
 use Rattle.calls.specs.definitions.Forms.{negateOf, negateReply}
-use Rattle.calls.specs.definitions.Reply.{Reply, left, neither, refuses, readAs, fitted}
+use Rattle.calls.specs.definitions.Reply.{left, neither, refuses, readAs, fitted}
 use Rattle.measures.specs.declared.Measures.{Measures}
 use Rattle.opening.specs.Opening.{readyOf}
 use Rattle.opening.specs.declared.Side.the-variants.{Left}
@@ -28,7 +28,6 @@ use Rattle.opening.specs.laws.Opening.{Open, open-goes, not-open}
 use Rattle.opening.specs.laws.Ending.{read-clears, fitted-clears}
 use Rattle.opening.specs.laws.Numbers.{form-number}
 use Rattle.answering.specs.Answering.{writtenOf}
-use Rattle.answering.specs.declared.Written.{Written}
 use Rattle.answering.specs.declared.Written.the-variants.{Refused}
 use Rattle.formreading.specs.Building.{overP}
 use Rattle.formopening.specs.Reading.{IsForm, FormRead}

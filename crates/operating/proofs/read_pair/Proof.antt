@@ -1,5 +1,4 @@
 -- `operating::read_pair` meets its contract: the left form is refused, the right one is, or both stand side by side.
-use mathlib.Core.Path.{_≡_, sym, _∙_}
 use native.Mathlib.Omega.{arith}
 use Rattle.coded.proofs.Lists.{length-tail-part}
 use Rattle.formopening.specs.laws.Reading.{read-form, form-words}

@@ -1,6 +1,5 @@
 -- The measures of a result: the number that code finds is the one that the reply is refused with.
-use mathlib.Core.Bool.{Bool, true, false, true≢false}
-use mathlib.Core.List.{List}
+use mathlib.Core.Bool.{Bool, true, false}
 use mathlib.Core.Path.{_≡_, refl, sym, ap, _∙_, subst}
 use Prim.Native.Nat.{ℕ, _+_, _*_, _^_, _≤_, _<_, min, max}
 use native.Mathlib.Omega.{arith}
@@ -20,7 +19,7 @@ use Rattle.calls.specs.definitions.Forms.{Measured, ofSum, ofProduct, ofPower, 
 use Rattle.calls.specs.definitions.Reply.{Reply, refuses, neither}
 use Rattle.measures.specs.declared.Measures.{Measures}
 use Rattle.measures.specs.Limits.{Limited, fits, degree-over, weight-passed, terms-passed, limited as found, is-small, all-63, degree-63}
-use Rattle.measures.specs.Measuring.{addM, mulM, powM, limitM, Small}
+use Rattle.measures.specs.Measuring.{addM, mulM, powM, limitM}
 use Rattle.measures.specs.Nodes.{sums-getD, multiples-getD, box-is, box-le}
 use Rattle.formreading.specs.Measuring.{measuresOf}
 

@@ -8,7 +8,7 @@ use lib.ListN.{length, take, drop, length-drop}
 use Rattle.coded.proofs.Lists.{begins-le}
 use Rattle.coded.proofs.Regions.{region-before, region-put}
 use Rattle.measures.specs.declared.Measures.{Measures}
-use Rattle.formopening.specs.Reading.{IsForm, FormRead}
+use Rattle.formopening.specs.Reading.{FormRead}
 use Rattle.formopening.specs.declared.Read.{Read}
 use Rattle.formopening.specs.declared.Read.the-variants as R
 use Rattle.building.specs.Stack as Stack

@@ -1,8 +1,8 @@
 -- The reply of an operation on two forms, by what is read of them.
-use mathlib.Core.Bool.{true, false}
+use mathlib.Core.Bool.{false}
 use mathlib.Core.List.{List}
-use mathlib.Core.Path.{_≡_, refl, sym, ap, _∙_}
-use Prim.Native.Nat.{ℕ, _≤_, min}
+use mathlib.Core.Path.{_≡_, sym, ap, _∙_}
+use Prim.Native.Nat.{ℕ, min}
 use native.Mathlib.Omega.{arith}
 use lib.Dec.{leb}
 use lib.IntN.{ℤ}
@@ -15,10 +15,9 @@ use Rattle.texts.specs.definitions.FormJudging.{acceptForm}
 use Rattle.texts.specs.definitions.FormText.{text}
 use Rattle.calls.specs.definitions.Buffers.{resultAfter, untouched}
 use Rattle.calls.specs.definitions.Forms.{Measured, limited, twoOf}
-use Rattle.calls.specs.definitions.Reply.{Reply, left, right, neither, refuses, readAs, asked, fitted}
+use Rattle.calls.specs.definitions.Reply.{Reply, left, right, readAs, asked, fitted}
 use Rattle.measures.specs.declared.Measures.{Measures}
 use Rattle.measures.specs.Measuring.{limitM}
-use Rattle.opening.specs.Opening.{told}
 use Rattle.opening.specs.declared.Side.{Side}
 use Rattle.opening.specs.declared.Side.the-variants.{Left, Right, Neither}
 use Rattle.opening.specs.laws.Ending.{read-clears, asked-clears, fitted-clears}
@@ -28,7 +27,7 @@ use Rattle.answering.specs.declared.Written.{Written}
 use Rattle.answering.specs.declared.Written.the-variants as W
 use Rattle.operating.specs.Pairs.{IsPair, PairRead, left-refusal, right-refusal, forms}
 use Rattle.operating.specs.declared.Pair.{Pair}
-use Rattle.operating.specs.declared.Pair.the-variants.{Forms, Refused}
+use Rattle.operating.specs.declared.Pair.the-variants.{Refused}
 use Rattle.operating.specs.laws.Limits.{Meets, passed, stopped}
 
 -- the answer and the result buffer are as the reply says

@@ -1,0 +1,79 @@
+-- `raising::raise_of` meets its contract: the form is refused, or its power is written.
+use native.Mathlib.Omega.{arith}
+use denote.Ref.{now}
+use lib.ListN.{length}
+use Rattle.textlaws.specs.laws.Rows.{row-length}
+use Rattle.formopening.specs.laws.Reading.{read-form}
+use Rattle.raising.specs.laws.Raise.{raise-refused}
+use borrow.Author.Needs.{needs}
+use Rattle.raising.proofs.raise_of.Statement.{statement}
+use Rattle.raising.proofs.raise_of.Tie as tie
+use Rattle.raising.proofs.raise_of.Reads as reads
+use Rattle.raising.proofs.raise_of.Lts as lts
+use Rattle.formopening.proofs.read_form.Reads as read-form-reads
+use Rattle.raising.proofs.write_power.Reads as write-power-reads
+
+-- src/lib.rt:63:9
+read-form-requires : tie.Need-read-form-requires
+read-form-requires c κs = omega (arith, row-length (now (c .before .before .before .before .before .before .before .before .args .row)) (c .before .before .before .before .before .before .before .before .pre .0) .1, c .before .before .before .before .before .before .before .before .pre .1 .first)
+
+-- src/lib.rt:65:23
+enum-known-reading : tie.Need-enum-known-reading
+enum-known-reading c = search needs
+
+-- src/lib.rt:66:20
+enum-known-reading-2 : tie.Need-enum-known-reading-2
+enum-known-reading-2 c = search needs
+
+-- src/lib.rt:66:29
+write-power-requires : tie.Need-write-power-requires
+write-power-requires c κs = ((row-length (now (c .before .before .before .before .before .before .before .before .before .before .before .before .before .before .before .before .before .before .before .args .row)) (c .before .before .before .before .before .before .before .before .before .before .before .before .before .before .before .before .before .before .before .pre .0) .1, omega (arith, c .before .before .before .before .before .before .before .before .before .before .before .before .before .before .before .before .before .before .before .pre .1 .first, c .before .before .before .before .before .before .before .before .before .before .before .before .before .before .before .before .before .before .before .pre .1 .second, c .before .before .before .before .before .before .before .before .before .before .before .before .before .before .before .before .before .before .before .pre .1 .third, c .before .before .before .before .before .before .before .before .before .before .before .before .before .before .before .before .before .before .before .pre .1 .fourth, c .before .before .before .before .before .before .before .before .before .before .read-form .kept .1 .1 .0)), read-form (c .before .before .before .before .before .before .reading2 .given .1) (c .before .before .before .before .before .before .before .before .before .before .read-form .ensures))
+
+-- src/lib.rt:48:1
+same-length : tie.Need-same-length
+same-length c = search needs
+
+-- src/lib.rt:48:1
+returns : tie.Need-returns
+returns c = raise-refused (now (c .before .before .before .before .before .before .before .before .before .before .before .before .before .before .args .row)) (now (c .before .before .before .before .before .before .before .before .before .before .before .before .before .before .args .s)) (c .before .before .before .before .before .before .before .before .before .before .before .before .before .before .args .k) (length (now (c .before .before .before .before .before .before .before .before .before .before .before .before .before .before .args .result))) (now (c .before .before .before .before .before .before .before .before .before .before .before .before .before .before .args .result)) (c .before .reading .given .1) (c .before .before .before .before .before .read-form .ensures)
+
+-- src/lib.rt:48:1
+same-length-2 : tie.Need-same-length-2
+same-length-2 c = search needs
+
+-- src/lib.rt:48:1
+same-length-3 : tie.Need-same-length-3
+same-length-3 c = search needs
+
+-- src/lib.rt:48:1
+same-length-4 : tie.Need-same-length-4
+same-length-4 c = search needs
+
+-- src/lib.rt:48:1
+same-length-5 : tie.Need-same-length-5
+same-length-5 c = search needs
+
+-- src/lib.rt:48:1
+same-length-6 : tie.Need-same-length-6
+same-length-6 c = search needs
+
+-- src/lib.rt:48:1
+returns-2 : tie.Need-returns-2
+returns-2 c = search needs
+
+pub raise-of-spec : {M : Type 1} → statement M
+raise-of-spec =
+    tie.close
+    (tie.spec
+    read-form-requires
+    enum-known-reading
+    enum-known-reading-2
+    write-power-requires
+    same-length
+    returns
+    same-length-2
+    same-length-3
+    same-length-4
+    same-length-5
+    same-length-6
+    returns-2)
