@@ -110,7 +110,10 @@ fn judge_line(line: &[u8], out: &mut [u8]) -> usize
     if n != 3 {
         return say_miscounted(n, 3, out);
     }
-    say_judged(judging::judge(fields::field(line, 1), fields::field(line, 2)), out)
+    say_judged(
+        judging::judge(fields::field(line, 1), fields::field(line, 2)),
+        out,
+    )
 }
 
 // `negate ROW FORM`
@@ -235,6 +238,35 @@ fn counters_line(
     say_counted(answer, out)
 }
 
+// `raise ROW FORM N`
+fn raise_line(
+    line: &[u8],
+    out: &mut [u8],
+    a: &mut [u32],
+    b: &mut [u32],
+    c: &mut [u32],
+    d: &mut [u32],
+) -> usize
+    requires { ⌜ 65540 ≤ length (now out) ⌝ }
+    ensures { λ r. ⌜ r ≤ 65540 ⌝ }
+{
+    let n = fields::count(line);
+    if n < 4 {
+        return say_wrong(n, out);
+    }
+    let power = fields::natural(fields::field(line, 3));
+    let Number::Is(k) = power else {
+        return say_wrong(3, out);
+    };
+    if n != 4 {
+        return say_wrong(4, out);
+    }
+    let row = fields::field(line, 1);
+    let x = fields::field(line, 2);
+    let answer = raising::raise(row, x, k, &mut out[5..ROOM], a, b, c, d);
+    say_written(answer, out)
+}
+
 // `formremainder ROW FORM X1 ..`
 fn form_remainder_line(
     line: &[u8],
@@ -294,6 +326,9 @@ pub fn answer_line(
     }
     if check::same(word, b"formremainder") {
         return form_remainder_line(line, out, a, b, c, d);
+    }
+    if check::same(word, b"raise") {
+        return raise_line(line, out, a, b, c, d);
     }
     serving::answer_line(line, out, a, b, c, d)
 }

@@ -1,3 +1,8 @@
+-- `asking::form_remainder_line`: the answer stays within the buffer.
+use mathlib.Core.Path.{_≡_, sym, ap}
+use native.Mathlib.Omega.{arith}
+use lib.ListN.{length}
+use lib.Seq.{length-take-le}
 use borrow.Author.Needs.{needs}
 use Rattle.asking.proofs.form_remainder_line.Statement.{statement}
 use Rattle.asking.proofs.form_remainder_line.Tie as tie
@@ -49,7 +54,7 @@ array-share-prefix-point c = search needs
 
 -- src/lib.rt:258:59
 slice-aggregate-form-remainder : tie.Need-slice-aggregate-form-remainder
-slice-aggregate-form-remainder c = ?
+slice-aggregate-form-remainder c = sym (length-take-le (c .before .point-length .result) (c .before .before .five .result) (omega (arith, c .before .point-length .ensures, ap length (c .before .before .five .ensures))))
 
 -- src/lib.rt:258:9
 form-remainder-requires : tie.Need-form-remainder-requires

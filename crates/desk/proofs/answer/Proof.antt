@@ -10,7 +10,7 @@ use Rattle.desk.proofs.answer.Tie as tie
 use Rattle.desk.proofs.answer.Reads as reads
 use Rattle.desk.proofs.answer.Lts as lts
 use Rattle.io.proofs.write_all.Reads as write-all-reads
-use Rattle.serving.proofs.answer_line.Reads as answer-line-reads
+use Rattle.asking.proofs.answer_line.Reads as answer-line-reads
 
 -- src/main.rt:23:26
 slice-aggregate-write-all : tie.Need-slice-aggregate-write-all
