@@ -9,7 +9,7 @@ ghost use Rattle.writing.specs.Written.{numeral, Wrote};
 ghost use Rattle.booklines.specs.Lines.{parted, refusedStart, refusedText, differentText, answerText, entryText, headText, refusalText};
 
 // Writes the bytes of text, and returns how many they are.
-fn put(text: &[u8], out: &mut [u8]) -> usize
+pub fn put(text: &[u8], out: &mut [u8]) -> usize
     requires { ⌜ length (now text) ≤ length (now out) ⌝ }
     ensures { λ r. ⌜ Wrote r (now (text .entry)) (now (out .entry)) (now (out .exit)) ⌝ }
 {

@@ -60,13 +60,13 @@ head-onward (read a) f = refl
 head-onward (refused e p) f = refl
 
 module _ (book : List ℕ) (n : ℕ) where
-  abbrev count : ℕ
+  abbrev pub count : ℕ
   count = getD book (1 + n) 0
 
-  abbrev listed : Unit {0} → Reading Book
+  abbrev pub listed : Unit {0} → Reading Book
   listed v = onward (entries book (2 + n) (2 + n + 8 * count) count) (λ es. read (record { row = part book 1 n; all = es }))
 
-  abbrev counted : Unit {0} → Reading Book
+  abbrev pub counted : Unit {0} → Reading Book
   counted u = right (leb 1 count && leb count 64) (1 + n) listed
 
   pub contents-cut : length book < 1 + n + 1 → headOf (contents book n) ≡ H.Refused 13 (length book)
@@ -96,13 +96,13 @@ module _ (book : List ℕ) where
     unfolding readBook
     book-headed = rw (le-leb (length book) 65535 short, readBook)
 
-    abbrev variables : ℕ
+    abbrev pub variables : ℕ
     variables = getD book 0 0
 
-    abbrev lettered : Unit {0} → Reading Book
+    abbrev pub lettered : Unit {0} → Reading Book
     lettered v = onward (letters book 0 variables) (λ w. contents book variables)
 
-    abbrev numbered : Unit {0} → Reading Book
+    abbrev pub numbered : Unit {0} → Reading Book
     numbered u = right (leb 1 variables && leb variables 4) 0 lettered
 
     pub book-cut : length book < 1 → headOf (readBook book) ≡ H.Refused 13 (length book)

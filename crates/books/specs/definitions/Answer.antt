@@ -6,7 +6,7 @@ use Rattle.texts.specs.definitions.Answer.{Reading, read, refused}
 use Rattle.texts.specs.definitions.Bytes.{bytes}
 use Rattle.texts.specs.definitions.Numerals.{dec}
 use Rattle.calls.specs.definitions.Comparing.{Verdict, equal, different, compareOf}
-use Rattle.calls.specs.definitions.Reply.{Reply, Side, gives, refuses, left, right, neither}
+use Rattle.calls.specs.definitions.Reply.{Reply, Side, gives, refuses, left, right, neither, asked, enough, fitted}
 use Rattle.books.specs.definitions.Reading.{Entry, Book, readBook}
 
 -- "fields are parted by one space; lines end with a line feed"
@@ -51,3 +51,7 @@ answer (refused e p) = line (bytes "BOOK" ∷ bytes "REFUSED" ∷ dec e ∷ dec 
 
 unfoldable pub printed : List ℕ → List ℕ
 printed book = answer (readBook book)
+
+-- the call: "2: work table under its fixed length"; then the whole text, unless "11: result text longer than the lent result buffer", which has n bytes
+unfoldable pub printReply : (tables book : List ℕ) (n : ℕ) → Reply (List ℕ)
+printReply tables book n = asked (enough tables) 2 (λ u. fitted n (printed book))
