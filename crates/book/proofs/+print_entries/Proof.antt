@@ -1,0 +1,312 @@
+-- `book::print_entries` meets its contract, entry by entry: a line, and the others behind it. The measure is how many are left.
+use borrow.Author.Needs.{needs}
+use native.Mathlib.Omega.{arith}
+use Rattle.writing.specs.laws.Wrote.{wrote-none, wrote-as, wrote-on, wrote-room, wrote-length}
+use Rattle.book.specs.laws.Walk.{here-of, step, no-lines}
+use Prim.Native.Nat.{ℕ, _<_}
+use borrow.Fn.Kinds.{In}
+use borrow.Fn.PlainCycle.{Measures, is, falls, and}
+use Rattle.book.proofs.print_entries.Reads as print-entries
+use Rattle.book.proofs.print_entries.Kinds as print-entries-kinds
+use Rattle.book.proofs.+print_entries.Lts-print_entries as print-entries-lts
+use Rattle.book.proofs.print_entry.Reads as print-entry-reads
+use Rattle.bookreading.proofs.number_at.Reads as number-at-reads
+use Rattle.book.proofs.+print_entries.{statement}
+use Rattle.book.proofs.+print_entries.Tie.{close}
+
+abbrev μ-print-entries : Measures 6 print-entries-kinds.ps ℕ
+μ-print-entries κs a = a .1 .1 .1 .1 .1 .0
+
+abbrev print-entries-at : ℕ → In 6 print-entries-kinds.ps
+print-entries-at t =
+    and 6 print-entries-kinds.ps (is 6 print-entries-kinds.ps μ-print-entries t) print-entries.Pre
+
+abbrev print-entries-below : ℕ → In 6 print-entries-kinds.ps
+print-entries-below t =
+    and
+    6
+    print-entries-kinds.ps
+    (falls 6 print-entries-kinds.ps _<_ μ-print-entries t)
+    print-entries.Pre
+
+-- src/lib.rt:76:9
+print-entries-returns : (t : ℕ) → print-entries-lts.Need-returns (
+  number-at-reads.Asked,
+  number-at-reads.Learnt,
+  print-entry-reads.Asked,
+  print-entry-reads.Learnt,
+  print-entries-below t,
+  print-entries.Post,
+) (print-entries-at t) print-entries.Post
+print-entries-returns t c = (wrote-as (wrote-none (c .before .before .before .before .before .before .before .args .out .now)) (no-lines (c .before .before .before .before .before .before .before .args .book .now) (c .before .before .before .before .before .before .before .args .n) (c .before .before .before .before .before .before .before .args .p) (c .before .before .before .before .before .before .before .args .at) (c .before .before .before .before .before .before .before .args .i) (c .if1 .taken)), omega arith)
+
+-- src/lib.rt:78:49
+print-entries-add-number-at : (t : ℕ) → print-entries-lts.Need-add-number-at (
+  number-at-reads.Asked,
+  number-at-reads.Learnt,
+  print-entry-reads.Asked,
+  print-entry-reads.Learnt,
+  print-entries-below t,
+  print-entries.Post,
+) (print-entries-at t) print-entries.Post
+print-entries-add-number-at t c = omega (arith, c .before .before .before .before .before .before .before .pre .1 .0 .1 .fields)
+
+-- src/lib.rt:78:20
+print-entries-number-at-requires : (t : ℕ) → print-entries-lts.Need-number-at-requires (
+  number-at-reads.Asked,
+  number-at-reads.Learnt,
+  print-entry-reads.Asked,
+  print-entry-reads.Learnt,
+  print-entries-below t,
+  print-entries.Post,
+) (print-entries-at t) print-entries.Post
+print-entries-number-at-requires t c κs = omega (arith, here-of (c .before .before .before .before .before .before .before .args .book .now) (c .before .before .before .before .before .before .before .args .p) (c .before .before .before .before .before .before .before .args .at) (c .before .before .before .before .before .before .before .args .i) (c .before .before .before .before .before .before .before .args .k) (c .if1 .left) (c .before .before .before .before .before .before .before .pre .1 .0 .1) .fields)
+
+-- src/lib.rt:78:15
+print-entries-add-mid : (t : ℕ) → print-entries-lts.Need-add-mid (
+  number-at-reads.Asked,
+  number-at-reads.Learnt,
+  print-entry-reads.Asked,
+  print-entry-reads.Learnt,
+  print-entries-below t,
+  print-entries.Post,
+) (print-entries-at t) print-entries.Post
+print-entries-add-mid t c = omega (arith, c .before .before .before .before .before .before .before .before .pre .1 .0 .1 .start, c .number-at .ensures .1)
+
+-- src/lib.rt:79:50
+print-entries-add-number-at-2 : (t : ℕ) → print-entries-lts.Need-add-number-at-2 (
+  number-at-reads.Asked,
+  number-at-reads.Learnt,
+  print-entry-reads.Asked,
+  print-entry-reads.Learnt,
+  print-entries-below t,
+  print-entries.Post,
+) (print-entries-at t) print-entries.Post
+print-entries-add-number-at-2 t c = omega (arith, c .before .before .before .before .before .before .before .before .pre .1 .0 .1 .fields)
+
+-- src/lib.rt:79:21
+print-entries-number-at-requires-2 : (t : ℕ) → print-entries-lts.Need-number-at-requires-2 (
+  number-at-reads.Asked,
+  number-at-reads.Learnt,
+  print-entry-reads.Asked,
+  print-entry-reads.Learnt,
+  print-entries-below t,
+  print-entries.Post,
+) (print-entries-at t) print-entries.Post
+print-entries-number-at-requires-2 t c κs = omega (arith, here-of (c .before .before .before .before .before .before .before .before .args .book .now) (c .before .before .before .before .before .before .before .before .args .p) (c .before .before .before .before .before .before .before .before .args .at) (c .before .before .before .before .before .before .before .before .args .i) (c .before .before .before .before .before .before .before .before .args .k) (c .before .if1 .left) (c .before .before .before .before .before .before .before .before .pre .1 .0 .1) .fields)
+
+-- src/lib.rt:79:15
+print-entries-add-end : (t : ℕ) → print-entries-lts.Need-add-end (
+  number-at-reads.Asked,
+  number-at-reads.Learnt,
+  print-entry-reads.Asked,
+  print-entry-reads.Learnt,
+  print-entries-below t,
+  print-entries.Post,
+) (print-entries-at t) print-entries.Post
+print-entries-add-end t c = omega (arith, c .before .before .before .before .before .before .before .before .before .pre .1 .0 .1 .start, c .before .number-at .ensures .1, c .number-at2 .ensures .1)
+
+-- src/lib.rt:80:9
+print-entries-print-entry-requires : (t : ℕ) → print-entries-lts.Need-print-entry-requires (
+  number-at-reads.Asked,
+  number-at-reads.Learnt,
+  print-entry-reads.Asked,
+  print-entry-reads.Learnt,
+  print-entries-below t,
+  print-entries.Post,
+) (print-entries-at t) print-entries.Post
+print-entries-print-entry-requires t c κs = ((c .before .before .before .before .before .before .before .before .before .before .before .before .before .before .pre .1 .0 .0, here-of (c .before .before .before .before .before .before .before .before .before .before .before .before .before .before .args .book .now) (c .before .before .before .before .before .before .before .before .before .before .before .before .before .before .args .p) (c .before .before .before .before .before .before .before .before .before .before .before .before .before .before .args .at) (c .before .before .before .before .before .before .before .before .before .before .before .before .before .before .args .i) (c .before .before .before .before .before .before .before .before .before .before .before .before .before .before .args .k) (c .before .before .before .before .before .before .before .if1 .left) (c .before .before .before .before .before .before .before .before .before .before .before .before .before .before .pre .1 .0 .1)), (c .before .before .before .before .before .before .before .before .before .before .before .before .before .before .pre .1 .1 .0, omega (arith, c .before .before .before .before .before .before .before .if1 .left, c .before .before .before .before .before .before .before .before .before .before .before .before .before .before .pre .1 .1 .1)))
+
+-- src/lib.rt:84:9
+print-entries-add-print-entries : (t : ℕ) → print-entries-lts.Need-add-print-entries (
+  number-at-reads.Asked,
+  number-at-reads.Learnt,
+  print-entry-reads.Asked,
+  print-entry-reads.Learnt,
+  print-entries-below t,
+  print-entries.Post,
+) (print-entries-at t) print-entries.Post
+print-entries-add-print-entries t c = omega (arith, c .before .before .before .before .before .before .before .before .before .before .before .before .before .before .before .before .before .before .before .before .before .before .before .before .before .pre .1 .0 .1 .fields)
+
+-- src/lib.rt:86:9
+print-entries-add-print-entries-2 : (t : ℕ) → print-entries-lts.Need-add-print-entries-2 (
+  number-at-reads.Asked,
+  number-at-reads.Learnt,
+  print-entry-reads.Asked,
+  print-entry-reads.Learnt,
+  print-entries-below t,
+  print-entries.Post,
+) (print-entries-at t) print-entries.Post
+print-entries-add-print-entries-2 t c = omega (arith, c .before .before .before .before .before .before .before .before .before .before .before .before .before .before .before .before .before .before .before .before .before .before .before .before .before .pre .1 .0 .1 .number)
+
+-- src/lib.rt:87:9
+print-entries-sub-print-entries : (t : ℕ) → print-entries-lts.Need-sub-print-entries (
+  number-at-reads.Asked,
+  number-at-reads.Learnt,
+  print-entry-reads.Asked,
+  print-entry-reads.Learnt,
+  print-entries-below t,
+  print-entries.Post,
+) (print-entries-at t) print-entries.Post
+print-entries-sub-print-entries t c = omega (arith, c .before .before .before .before .before .before .before .before .before .before .before .before .before .before .before .before .before .before .if1 .left)
+
+-- src/lib.rt:88:9
+print-entries-sub-print-entries-2 : (t : ℕ) → print-entries-lts.Need-sub-print-entries-2 (
+  number-at-reads.Asked,
+  number-at-reads.Learnt,
+  print-entry-reads.Asked,
+  print-entry-reads.Learnt,
+  print-entries-below t,
+  print-entries.Post,
+) (print-entries-at t) print-entries.Post
+print-entries-sub-print-entries-2 t c = omega (arith, wrote-length (c .before .before .before .before .before .before .before .before .before .before .print-entry .ensures .0), c .before .before .before .before .before .before .before .before .before .before .print-entry .ensures .0 .fits)
+
+-- src/lib.rt:88:9
+print-entries-part-print-entries-start : (t : ℕ) → print-entries-lts.Need-part-print-entries-start (
+  number-at-reads.Asked,
+  number-at-reads.Learnt,
+  print-entry-reads.Asked,
+  print-entry-reads.Learnt,
+  print-entries-below t,
+  print-entries.Post,
+) (print-entries-at t) print-entries.Post
+print-entries-part-print-entries-start t c = search needs
+
+-- src/lib.rt:88:9
+print-entries-part-print-entries-end : (t : ℕ) → print-entries-lts.Need-part-print-entries-end (
+  number-at-reads.Asked,
+  number-at-reads.Learnt,
+  print-entry-reads.Asked,
+  print-entry-reads.Learnt,
+  print-entries-below t,
+  print-entries.Post,
+) (print-entries-at t) print-entries.Post
+print-entries-part-print-entries-end t c = search needs
+
+-- src/lib.rt:81:9
+print-entries-print-entries-requires : (t : ℕ) → print-entries-lts.Need-print-entries-requires (
+  number-at-reads.Asked,
+  number-at-reads.Learnt,
+  print-entry-reads.Asked,
+  print-entry-reads.Learnt,
+  print-entries-below t,
+  print-entries.Post,
+) (print-entries-at t) print-entries.Post
+print-entries-print-entries-requires t c κs = (
+  omega (arith, c .before .before .before .before .before .before .before .before .before .before .before .before .before .before .before .before .before .before .before .before .before .before .before .before .before .before .before .before .before .before .pre .0, c .before .before .before .before .before .before .before .before .before .before .before .before .before .before .before .before .before .before .before .before .before .before .before .if1 .left),
+  (
+    (c .before .before .before .before .before .before .before .before .before .before .before .before .before .before .before .before .before .before .before .before .before .before .before .before .before .before .before .before .before .before .pre .1 .0 .0, step (c .before .before .before .before .before .before .before .before .before .before .before .before .before .before .before .before .before .before .before .before .before .before .before .before .before .before .before .before .before .before .args .book .now) (c .before .before .before .before .before .before .before .before .before .before .before .before .before .before .before .before .before .before .before .before .before .before .before .before .before .before .before .before .before .before .args .n) (c .before .before .before .before .before .before .before .before .before .before .before .before .before .before .before .before .before .before .before .before .before .before .before .before .before .before .before .before .before .before .args .p) (c .before .before .before .before .before .before .before .before .before .before .before .before .before .before .before .before .before .before .before .before .before .before .before .before .before .before .before .before .before .before .args .at) (c .before .before .before .before .before .before .before .before .before .before .before .before .before .before .before .before .before .before .before .before .before .before .before .before .before .before .before .before .before .before .args .i) (c .before .before .before .before .before .before .before .before .before .before .before .before .before .before .before .before .before .before .before .before .before .before .before .before .before .before .before .before .before .before .args .k) (c .before .before .before .before .before .before .before .before .before .before .before .before .before .before .before .before .before .before .before .before .before .before .before .before .before .before .before .before .before .before .pre .1 .0 .0 .short) (c .before .before .before .before .before .before .before .before .before .before .before .before .before .before .before .before .before .before .before .before .before .before .before .if1 .left) (c .before .before .before .before .before .before .before .before .before .before .before .before .before .before .before .before .before .before .before .before .before .before .before .before .before .before .before .before .before .before .pre .1 .0 .1) (c .before .before .before .before .before .before .before .before .before .before .before .before .before .before .before .before .before .before .before .before .before .before .number-at .ensures .0) (c .before .before .before .before .before .before .before .before .before .before .before .before .before .before .before .before .before .before .before .before .before .number-at2 .ensures .0) .left),
+    (omega (arith, c .before .before .before .before .before .before .before .before .before .before .before .before .before .before .before .print-entry .kept, c .before .before .before .before .before .before .before .before .before .before .before .before .before .before .before .before .before .before .before .before .before .before .before .before .before .before .before .before .before .before .pre .1 .1 .0), omega (arith, wrote-room (c .before .before .before .before .before .before .before .before .before .before .before .before .before .before .before .print-entry .ensures .0), c .before .before .before .before .before .before .before .before .before .before .before .before .before .before .before .print-entry .ensures .1, c .before .before .before .before .before .before .before .before .before .before .before .before .before .before .before .before .before .before .before .before .before .before .before .before .before .before .before .before .before .before .pre .1 .1 .1, c .before .before .before .before .before .before .before .before .before .before .before .before .before .before .before .before .before .before .before .before .before .before .before .if1 .left)),
+  ),
+)
+
+-- src/lib.rt:94:5
+print-entries-add-result : (t : ℕ) → print-entries-lts.Need-add-result (
+  number-at-reads.Asked,
+  number-at-reads.Learnt,
+  print-entry-reads.Asked,
+  print-entry-reads.Learnt,
+  print-entries-below t,
+  print-entries.Post,
+) (print-entries-at t) print-entries.Post
+print-entries-add-result t c = omega (arith, c .before .before .before .before .before .before .before .before .before .before .before .before .before .before .before .before .before .before .before .before .before .before .before .before .before .before .print-entry .ensures .1, c .before .before .before .before .before .before .before .before .before .before .print-entries .ensures .1, c .before .before .before .before .before .before .before .before .before .before .before .before .before .before .before .before .before .before .before .before .before .before .before .before .before .before .before .before .before .before .before .before .before .before .before .before .before .before .before .before .before .pre .1 .0 .1 .number)
+
+-- src/lib.rt:57:1
+print-entries-same-length : (t : ℕ) → print-entries-lts.Need-same-length (
+  number-at-reads.Asked,
+  number-at-reads.Learnt,
+  print-entry-reads.Asked,
+  print-entry-reads.Learnt,
+  print-entries-below t,
+  print-entries.Post,
+) (print-entries-at t) print-entries.Post
+print-entries-same-length t c = search needs
+
+-- src/lib.rt:57:1
+print-entries-same-length-2 : (t : ℕ) → print-entries-lts.Need-same-length-2 (
+  number-at-reads.Asked,
+  number-at-reads.Learnt,
+  print-entry-reads.Asked,
+  print-entry-reads.Learnt,
+  print-entries-below t,
+  print-entries.Post,
+) (print-entries-at t) print-entries.Post
+print-entries-same-length-2 t c = search needs
+
+-- src/lib.rt:57:1
+print-entries-same-length-3 : (t : ℕ) → print-entries-lts.Need-same-length-3 (
+  number-at-reads.Asked,
+  number-at-reads.Learnt,
+  print-entry-reads.Asked,
+  print-entry-reads.Learnt,
+  print-entries-below t,
+  print-entries.Post,
+) (print-entries-at t) print-entries.Post
+print-entries-same-length-3 t c = search needs
+
+-- src/lib.rt:57:1
+print-entries-same-length-4 : (t : ℕ) → print-entries-lts.Need-same-length-4 (
+  number-at-reads.Asked,
+  number-at-reads.Learnt,
+  print-entry-reads.Asked,
+  print-entry-reads.Learnt,
+  print-entries-below t,
+  print-entries.Post,
+) (print-entries-at t) print-entries.Post
+print-entries-same-length-4 t c = search needs
+
+-- src/lib.rt:57:1
+print-entries-same-length-5 : (t : ℕ) → print-entries-lts.Need-same-length-5 (
+  number-at-reads.Asked,
+  number-at-reads.Learnt,
+  print-entry-reads.Asked,
+  print-entry-reads.Learnt,
+  print-entries-below t,
+  print-entries.Post,
+) (print-entries-at t) print-entries.Post
+print-entries-same-length-5 t c = search needs
+
+-- src/lib.rt:57:1
+print-entries-returns-2 : (t : ℕ) → print-entries-lts.Need-returns-2 (
+  number-at-reads.Asked,
+  number-at-reads.Learnt,
+  print-entry-reads.Asked,
+  print-entry-reads.Learnt,
+  print-entries-below t,
+  print-entries.Post,
+) (print-entries-at t) print-entries.Post
+print-entries-returns-2 t c = (wrote-as (wrote-on (c .before .before .before .before .before .before .before .before .before .before .before .before .before .before .before .before .before .before .before .before .before .before .before .before .before .before .print-entry .ensures .0) (c .before .before .before .before .before .before .before .before .before .before .print-entries .ensures .0)) (step (c .before .before .before .before .before .before .before .before .before .before .before .before .before .before .before .before .before .before .before .before .before .before .before .before .before .before .before .before .before .before .before .before .before .before .before .before .before .before .before .before .before .args .book .now) (c .before .before .before .before .before .before .before .before .before .before .before .before .before .before .before .before .before .before .before .before .before .before .before .before .before .before .before .before .before .before .before .before .before .before .before .before .before .before .before .before .before .args .n) (c .before .before .before .before .before .before .before .before .before .before .before .before .before .before .before .before .before .before .before .before .before .before .before .before .before .before .before .before .before .before .before .before .before .before .before .before .before .before .before .before .before .args .p) (c .before .before .before .before .before .before .before .before .before .before .before .before .before .before .before .before .before .before .before .before .before .before .before .before .before .before .before .before .before .before .before .before .before .before .before .before .before .before .before .before .before .args .at) (c .before .before .before .before .before .before .before .before .before .before .before .before .before .before .before .before .before .before .before .before .before .before .before .before .before .before .before .before .before .before .before .before .before .before .before .before .before .before .before .before .before .args .i) (c .before .before .before .before .before .before .before .before .before .before .before .before .before .before .before .before .before .before .before .before .before .before .before .before .before .before .before .before .before .before .before .before .before .before .before .before .before .before .before .before .before .args .k) (c .before .before .before .before .before .before .before .before .before .before .before .before .before .before .before .before .before .before .before .before .before .before .before .before .before .before .before .before .before .before .before .before .before .before .before .before .before .before .before .before .before .pre .1 .0 .0 .short) (c .before .before .before .before .before .before .before .before .before .before .before .before .before .before .before .before .before .before .before .before .before .before .before .before .before .before .before .before .before .before .before .before .before .before .if1 .left) (c .before .before .before .before .before .before .before .before .before .before .before .before .before .before .before .before .before .before .before .before .before .before .before .before .before .before .before .before .before .before .before .before .before .before .before .before .before .before .before .before .before .pre .1 .0 .1) (c .before .before .before .before .before .before .before .before .before .before .before .before .before .before .before .before .before .before .before .before .before .before .before .before .before .before .before .before .before .before .before .before .before .number-at .ensures .0) (c .before .before .before .before .before .before .before .before .before .before .before .before .before .before .before .before .before .before .before .before .before .before .before .before .before .before .before .before .before .before .before .before .number-at2 .ensures .0) .lines), omega (arith, c .before .before .before .before .before .before .before .before .before .before .before .before .before .before .before .before .before .before .before .before .before .before .before .before .before .before .print-entry .ensures .1, c .before .before .before .before .before .before .before .before .before .before .print-entries .ensures .1, c .before .before .before .before .before .before .before .before .before .before .before .before .before .before .before .before .before .before .before .before .before .before .before .before .before .before .before .before .before .before .before .before .before .before .if1 .left))
+
+pub +print-entries-spec : {M : Type 1} → statement M
++print-entries-spec = close μ-print-entries λ t. print-entries-lts.spec (
+  number-at-reads.Asked,
+  number-at-reads.Learnt,
+  print-entry-reads.Asked,
+  print-entry-reads.Learnt,
+  print-entries-below t,
+  print-entries.Post,
+)
+    (print-entries-at t)
+    print-entries.Post
+    (print-entries-returns t)
+    (print-entries-add-number-at t)
+    (print-entries-number-at-requires t)
+    (print-entries-add-mid t)
+    (print-entries-add-number-at-2 t)
+    (print-entries-number-at-requires-2 t)
+    (print-entries-add-end t)
+    (print-entries-print-entry-requires t)
+    (print-entries-add-print-entries t)
+    (print-entries-add-print-entries-2 t)
+    (print-entries-sub-print-entries t)
+    (print-entries-sub-print-entries-2 t)
+    (print-entries-part-print-entries-start t)
+    (print-entries-part-print-entries-end t)
+    (print-entries-print-entries-requires t)
+    (print-entries-add-result t)
+    (print-entries-same-length t)
+    (print-entries-same-length-2 t)
+    (print-entries-same-length-3 t)
+    (print-entries-same-length-4 t)
+    (print-entries-same-length-5 t)
+    (print-entries-returns-2 t)

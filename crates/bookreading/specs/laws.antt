@@ -1,0 +1,4 @@
+pub mod Fields
+pub mod Bodies
+pub mod Entries
+pub mod Whole

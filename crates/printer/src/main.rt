@@ -1,0 +1,27 @@
+// The printer: a formula book from standard input, one line per entry on standard output.
+use answering::Written;
+
+// Writes the text at the front of out. With buffers of these lengths no answer is refused.
+fn write_answer(answer: Written, out: &[u8]) {
+    match answer {
+        Written::Text(n) => {
+            if n <= out.len() {
+                io::write_all(1, &out[..n]);
+            }
+        }
+        Written::Refused(_, _, _) => {}
+    }
+}
+
+// Reads at most 65,536 bytes: a book that is longer is too long already.
+fn main() {
+    let mut bytes = io::large_buffer();
+    let n = io::read_full(0, &mut bytes);
+    let mut out = [0u8; 16384];
+    let mut a = [0u32; 16384];
+    let mut b = [0u32; 16384];
+    let mut c = [0u32; 16384];
+    let mut d = [0u32; 16384];
+    let answer = book::print_book(&bytes[..n], &mut out, &mut a, &mut b, &mut c, &mut d);
+    write_answer(answer, &out);
+}
