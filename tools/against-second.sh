@@ -7,20 +7,19 @@ work=$(mktemp -d)
 trap 'rm -rf "$work"' EXIT
 cargo build --quiet --release --offline --manifest-path second/Cargo.toml
 second=second/target/release/second
-run() { # the desk is a program for x86-64: elsewhere it runs under the kit's emulator
-    if [ "$(uname -m)" = x86_64 ]; then
-        target/bin/desk
-    else
-        local tools
-        tools=$(dirname "$(dirname "$(rt doc)")")/on/$(uname -m)/toolchain
-        "$tools/bin/qemu-x86_64" "$tools/lib/ld-linux-x86-64.so.2" --library-path "$tools/lib" target/bin/desk
-    fi
-}
 "$second" generate "$seed" "$count" > "$work/lines"
 "$second" desk < "$work/lines" > "$work/expected"
-run < "$work/lines" > "$work/answered"
+bash tools/on-x86.sh target/bin/desk < "$work/lines" > "$work/answered"
 cmp "$work/expected" "$work/answered" || {
     diff "$work/expected" "$work/answered" | head -n 4 | cut -c 1-300
     exit 1
 }
-echo "desk: $(wc -l < "$work/answered") answers are the second program's (seed $seed)"
+mkdir "$work/books"
+"$second" books "$seed" 200 "$work/books"
+for book in "$work"/books/*; do
+    "$second" book < "$book" > "$work/expected"
+    bash tools/on-x86.sh target/bin/printer < "$book" > "$work/answered"
+    cmp "$work/expected" "$work/answered" || { echo "a book's answers differ" >&2; exit 1; }
+done
+echo "printer: $(ls "$work/books" | wc -l) books are answered as by the second program (seed $seed)"
+echo "desk: $count answers are the second program's (seed $seed)"
