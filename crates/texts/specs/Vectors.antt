@@ -155,6 +155,46 @@ forms =
     noForm 1 (b "(POW 1 1073741823 1)") 9 0 ∷
     []
 
+-- ---- bytes that are neither blank nor part of any token of a term: 0, 9, 13, 127, 128, 255, in every position of `(+ X 1)`
+abbrev put : ℕ → ℕ → List ℕ → List ℕ
+put k x [] = []
+put zero x (c ∷ s) = x ∷ s
+put (suc k) x (c ∷ s) = c ∷ put k x s
+
+-- the byte x in position k: 4 at the token that it makes or spoils
+abbrev strange : ℕ → List Vector
+strange x =
+    noTerm "X" (put 0 x (b "(+ X 1)")) 4 0 ∷
+    noTerm "X" (put 1 x (b "(+ X 1)")) 4 1 ∷
+    noTerm "X" (put 2 x (b "(+ X 1)")) 4 1 ∷
+    noTerm "X" (put 3 x (b "(+ X 1)")) 4 3 ∷
+    noTerm "X" (put 4 x (b "(+ X 1)")) 4 3 ∷
+    noTerm "X" (put 5 x (b "(+ X 1)")) 4 5 ∷
+    noTerm "X" (put 6 x (b "(+ X 1)")) 4 5 ∷
+    []
+
+-- and in a form's text, at that byte
+abbrev strangeForm : ℕ → List Vector
+strangeForm x =
+    noForm 1 (put 0 x (b "(POW 1 7 5)")) 4 0 ∷
+    noForm 1 (put 1 x (b "(POW 1 7 5)")) 4 1 ∷
+    noForm 1 (put 4 x (b "(POW 1 7 5)")) 4 4 ∷
+    noForm 1 (put 5 x (b "(POW 1 7 5)")) 4 5 ∷
+    noForm 1 (put 6 x (b "(POW 1 7 5)")) 4 6 ∷
+    noForm 1 (put 7 x (b "(POW 1 7 5)")) 4 7 ∷
+    noForm 1 (put 8 x (b "(POW 1 7 5)")) 4 8 ∷
+    noForm 1 (put 9 x (b "(POW 1 7 5)")) 4 9 ∷
+    noForm 1 (put 10 x (b "(POW 1 7 5)")) 4 10 ∷
+    []
+
+abbrev allStrange : List ℕ → Bool
+allStrange [] = true
+allStrange (x ∷ xs) = allHold (strange x) && (allHold (strangeForm x) && allStrange xs)
+
+pub strange-hold : T (allStrange (0 ∷ 9 ∷ 13 ∷ 127 ∷ 128 ∷ 255 ∷ []))
+unfolding allHold
+strange-hold = tt
+
 pub terms-hold : T (allHold terms)
 unfolding allHold
 terms-hold = tt
