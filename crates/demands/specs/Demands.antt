@@ -47,7 +47,7 @@ pub record Lent (row tables : List ℕ) : Type 0 where
   pub proper : isRow row ≡ true
   pub long : enough tables ≡ true
 
-goes : {A : Type 0} {row tables : List ℕ} (r : Unit {0} → Reply A) → Lent row tables → opened row tables r ≡ r tt
+pub goes : {A : Type 0} {row tables : List ℕ} (r : Unit {0} → Reply A) → Lent row tables → opened row tables r ≡ r tt
 goes r l = rw (l .proper) (rw (l .long) refl)
 
 -- ---- demand 2

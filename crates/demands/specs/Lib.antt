@@ -1,3 +1,4 @@
 -- The three demands on which the whole is judged.
 pub mod One
 pub mod Demands
+pub mod Operations

@@ -6,6 +6,8 @@ use Prim.Native.Nat.{ℕ}
 use Rattle.calls.specs.definitions.Buffers.{Tables}
 use Rattle.calls.specs.definitions.Comparing.{Verdict}
 use Rattle.calls.specs.definitions.Reply.{Reply}
+use Rattle.judging.specs.Judging.{verdictOf}
+use Rattle.judging.specs.declared.Verdict.{Verdict as Judgement}
 use Rattle.answering.specs.declared.Written.{Written}
 use Rattle.answering.specs.laws.Whole as Text
 use Rattle.comparing.specs.declared.Compared.{Compared}
@@ -51,3 +53,7 @@ module _ (a b c d : List ℕ) {a₁ b₁ c₁ d₁ a₂ b₂ c₂ d₂ : List �
   pub one-remainder : (x : Reply ℕ) {p q : Remaindered} → Remainder.Whole x p a b c d a₁ b₁ c₁ d₁ → Remainder.Whole x q a b c d a₂ b₂ c₂ d₂
       → (p ≡ q) × Same a₁ b₁ c₁ d₁ a₂ b₂ c₂ d₂
   one-remainder x s t = (s .0 ∙ sym (t .0), one-tables x a b c d (s .1) (t .1))
+
+-- `judge`: the answer alone; no buffer is lent
+pub one-judgement : (x : Reply (Unit {0})) {p q : Judgement} → p ≡ verdictOf x → q ≡ verdictOf x → p ≡ q
+one-judgement x s t = s ∙ sym t
