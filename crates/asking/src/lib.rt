@@ -23,7 +23,7 @@ fn say_written(answer: Written, out: &mut [u8]) -> usize
             if 65535 < n {
                 return 0;
             }
-            replying::put(b"FORM ", &mut out[..5]);
+            writing::put(b"FORM ", &mut out[..5]);
             5 + n
         }
         Written::Refused(e, side, p) => replying::refused(e, side, p, &mut out[..64]),
@@ -48,7 +48,7 @@ fn say_compared(answer: Compared, letters: usize, point: &[u32], out: &mut [u8])
     ensures { λ r. ⌜ r ≤ 65540 ⌝ }
 {
     match answer {
-        Compared::Same => replying::put(b"SAME", &mut out[..64]),
+        Compared::Same => writing::put(b"SAME", &mut out[..64]),
         Compared::Different(l, r) => {
             if point.len() < letters {
                 return 0;
@@ -65,8 +65,8 @@ fn say_counted(answer: Counted, out: &mut [u8]) -> usize
     ensures { λ r. ⌜ r ≤ 65540 ⌝ }
 {
     match answer {
-        Counted::Same => replying::put(b"SAME", &mut out[..64]),
-        Counted::Different => replying::put(b"DIFF", &mut out[..64]),
+        Counted::Same => writing::put(b"SAME", &mut out[..64]),
+        Counted::Different => writing::put(b"DIFF", &mut out[..64]),
         Counted::Refused(e, side, p) => replying::refused(e, side, p, &mut out[..64]),
     }
 }
@@ -77,7 +77,7 @@ fn say_judged(answer: Verdict, out: &mut [u8]) -> usize
     ensures { λ r. ⌜ r ≤ 65540 ⌝ }
 {
     match answer {
-        Verdict::Form => replying::put(b"YES", &mut out[..64]),
+        Verdict::Form => writing::put(b"YES", &mut out[..64]),
         Verdict::Refused(e, side, p) => replying::refused(e, side, p, &mut out[..64]),
     }
 }

@@ -167,6 +167,6 @@ pub fn print_book(
     if out.len() < n {
         return Written::Refused(11, Side::Neither, 0);
     }
-    booklines::put(&text[..n], out);
+    writing::put(&text[..n], out);
     Written::Text(n)
 }

@@ -8,40 +8,13 @@ ghost use lib.ListN.{length};
 ghost use Rattle.writing.specs.Written.{numeral, Wrote};
 ghost use Rattle.booklines.specs.Lines.{parted, refusedStart, refusedText, differentText, answerText, entryText, headText, refusalText};
 
-// Writes the bytes of text, and returns how many they are.
-pub fn put(text: &[u8], out: &mut [u8]) -> usize
-    requires { ⌜ length (now text) ≤ length (now out) ⌝ }
-    ensures { λ r. ⌜ Wrote r (now (text .entry)) (now (out .entry)) (now (out .exit)) ⌝ }
-{
-    let mut i = 0;
-    while i < text.len() {
-        out[i] = text[i];
-        i += 1;
-    }
-    i
-}
-
-// Writes the digits of n, and returns how many they are.
-fn write_number(n: usize, out: &mut [u8]) -> usize
-    requires { ⌜ length (numeral n) ≤ length (now out) ⌝ }
-    ensures { λ r. ⌜ Wrote r (numeral n) (now (out .entry)) (now (out .exit)) ⌝ }
-{
-    if n < 10 {
-        out[0] = 48 + (n as u8);
-        return 1;
-    }
-    let k = write_number(n / 10, out);
-    out[k] = 48 + ((n % 10) as u8);
-    k + 1
-}
-
 // A number and the byte behind it: a space, or a line feed.
 fn put_number(n: usize, last: u8, out: &mut [u8]) -> usize
     requires { ⌜ 21 ≤ length (now out) ⌝ }
     ensures { λ r. ⌜ Wrote r (numeral n ++ (last ∷ [])) (now (out .entry)) (now (out .exit)) ⌝ }
     ensures { λ r. ⌜ r ≤ 21 ⌝ }
 {
-    let k = write_number(n, out);
+    let k = writing::write_number(n as u64, out);
     out[k] = last;
     k + 1
 }
@@ -67,7 +40,7 @@ fn different(point: &[u32], l: u32, r: u32, out: &mut [u8]) -> usize
     ensures { λ n. ⌜ Wrote n (differentText (now (point .entry)) l r) (now (out .entry)) (now (out .exit)) ⌝ }
     ensures { λ n. ⌜ n ≤ 139 ⌝ }
 {
-    let a = put(b"DIFF ", out);
+    let a = writing::put(b"DIFF ", out);
     let k = put_numbers(point, &mut out[a..]);
     let b = a + k;
     let m = put_number(l as usize, b' ', &mut out[b..]);
@@ -82,9 +55,9 @@ fn put_refused(side: Side, out: &mut [u8]) -> usize
     ensures { λ r. ⌜ Wrote r (refusedStart side) (now (out .entry)) (now (out .exit)) ⌝ }
 {
     match side {
-        Side::Left => put(b"REFUSED E ", out),
-        Side::Right => put(b"REFUSED C ", out),
-        Side::Neither => put(b"REFUSED  ", out),
+        Side::Left => writing::put(b"REFUSED E ", out),
+        Side::Right => writing::put(b"REFUSED C ", out),
+        Side::Neither => writing::put(b"REFUSED  ", out),
     }
 }
 
@@ -109,7 +82,7 @@ fn put_answer(answer: Compared, point: &[u32], out: &mut [u8]) -> usize
     ensures { λ n. ⌜ n ≤ 139 ⌝ }
 {
     match answer {
-        Compared::Same => put(b"SAME\n", out),
+        Compared::Same => writing::put(b"SAME\n", out),
         Compared::Different(l, r) => different(point, l, r, out),
         Compared::Refused(e, side, p) => refused(e, side, p, out),
     }
@@ -133,7 +106,7 @@ pub fn put_head(variables: usize, entries: usize, out: &mut [u8]) -> usize
     ensures { λ r. ⌜ Wrote r (headText variables entries) (now (out .entry)) (now (out .exit)) ⌝ }
     ensures { λ n. ⌜ n ≤ 64 ⌝ }
 {
-    let a = put(b"BOOK ", out);
+    let a = writing::put(b"BOOK ", out);
     let k = put_number(variables, b' ', &mut out[a..]);
     let b = a + k;
     let m = put_number(entries, b'\n', &mut out[b..]);
@@ -145,7 +118,7 @@ pub fn put_refusal(number: u32, place: usize, out: &mut [u8]) -> usize
     requires { ⌜ 64 ≤ length (now out) ⌝ }
     ensures { λ r. ⌜ Wrote r (refusalText number place) (now (out .entry)) (now (out .exit)) ⌝ }
 {
-    let a = put(b"BOOK REFUSED ", out);
+    let a = writing::put(b"BOOK REFUSED ", out);
     let k = put_number(number as usize, b' ', &mut out[a..]);
     let b = a + k;
     let m = put_number(place, b'\n', &mut out[b..]);

@@ -12,7 +12,6 @@ ghost use Rattle.texts.specs.definitions.Answer.{read};
 ghost use Rattle.texts.specs.definitions.FormJudging.{acceptForm};
 ghost use Rattle.formheads.specs.Heads.{Standing};
 ghost use Rattle.formreading.specs.Measuring.{leafM, laterM, popM, powM, atLeastOne, MeasuredAt};
-ghost use Rattle.measures.specs.Measuring.{limitM};
 ghost use Rattle.formreading.specs.Answer.{IsRead, judgedOf, limitedM};
 ghost use Rattle.formreading.specs.Building.{overP, leafWord, ReadyAt, BuiltAt, Accepted};
 
@@ -140,36 +139,11 @@ fn at_least_one(a: Measures) -> Measures
     }
 }
 
-// 0, or the number of the limit that the measures pass: the lowest.
-fn limit_of(m: Measures) -> u32
-    ensures { λ r. ⌜ r ≡ limitM m ⌝ }
-{
-    if 63 < m.d0 {
-        return 8;
-    }
-    if 63 < m.d1 {
-        return 8;
-    }
-    if 63 < m.d2 {
-        return 8;
-    }
-    if 63 < m.d3 {
-        return 8;
-    }
-    if 1073741823 < m.weight {
-        return 9;
-    }
-    if 256 < m.terms {
-        return 10;
-    }
-    0
-}
-
 // A normal form by its measures: refusals 8, 9, 10.
 fn limited(a: Measures) -> Judged
     ensures { λ r. ⌜ r ≡ limitedM a ⌝ }
 {
-    let e = limit_of(a);
+    let e = measures::limit_of(a);
     if e == 0 {
         return Judged::Form(a);
     }

@@ -3,7 +3,6 @@ ghost use mathlib.Core.Path.{_≡_};
 ghost use mathlib.Core.Bool.{false};
 ghost use Prim.Native.Nat.{_≤_};
 ghost use lib.ListN.{length};
-ghost use Rattle.texts.specs.definitions.Bytes.{digit};
 ghost use Rattle.texts.specs.definitions.FormReading.{readForm};
 ghost use Rattle.formsyntax.specs.Answer.{formSyntaxOf};
 ghost use Rattle.formsyntax.specs.Found.{isAt, Expects, DigitsAt, NaturalAt, IntAt, IndexAt, LettersAt, FormAt, LastAt, PopAt, PowAt};
@@ -17,15 +16,6 @@ pub enum Syntax {
 enum Part {
     On(usize),
     Off(u32, usize),
-}
-
-fn is_digit(b: u8) -> bool
-    ensures { λ r. ⌜ r ≡ digit b ⌝ }
-{
-    if b < 48 {
-        return false;
-    }
-    b <= 57
 }
 
 // Whether the byte b stands at a place.
@@ -55,7 +45,7 @@ fn digits_at(s: &[u8], at: usize) -> usize
 {
     let mut i = at;
     while i < s.len() {
-        if !is_digit(s[i]) {
+        if !words::is_digit(s[i]) {
             return i;
         }
         i += 1;
@@ -75,7 +65,7 @@ fn natural_at(s: &[u8], at: usize) -> Part
     if b == 48 {
         return Part::On(i);
     }
-    if !is_digit(b) {
+    if !words::is_digit(b) {
         return Part::Off(4, at);
     }
     Part::On(digits_at(s, i))

@@ -8,40 +8,13 @@ ghost use lib.ListN.{length};
 ghost use Rattle.writing.specs.Written.{numeral, Wrote};
 ghost use Rattle.replying.specs.Replying.{sideText, wrongText, refusedText, remainderText, spaced, differentText, Room, Replied};
 
-// Writes the bytes of text, and returns how many they are.
-pub fn put(text: &[u8], out: &mut [u8]) -> usize
-    requires { ⌜ length (now text) ≤ length (now out) ⌝ }
-    ensures { λ r. ⌜ Wrote r (now (text .entry)) (now (out .entry)) (now (out .exit)) ⌝ }
-{
-    let mut i = 0;
-    while i < text.len() {
-        out[i] = text[i];
-        i += 1;
-    }
-    i
-}
-
-// Writes the digits of n, and returns how many they are.
-pub fn write_number(n: u64, out: &mut [u8]) -> usize
-    requires { ⌜ length (numeral n) ≤ length (now out) ⌝ }
-    ensures { λ r. ⌜ Wrote r (numeral n) (now (out .entry)) (now (out .exit)) ⌝ }
-{
-    if n < 10 {
-        out[0] = 48 + (n as u8);
-        return 1;
-    }
-    let k = write_number(n / 10, out);
-    out[k] = 48 + ((n % 10) as u8);
-    k + 1
-}
-
 // `? n`: field n of the request is the first wrong one.
 pub fn wrong(n: usize, out: &mut [u8]) -> usize
     requires { ⌜ 64 ≤ length (now out) ⌝ }
     ensures { λ r. ⌜ Wrote r (wrongText n) (now (out .entry)) (now (out .exit)) ⌝ }
 {
-    let at = put(b"? ", out);
-    let k = write_number(n as u64, &mut out[at..]);
+    let at = writing::put(b"? ", out);
+    let k = writing::write_number(n as u64, &mut out[at..]);
     at + k
 }
 
@@ -50,9 +23,9 @@ fn put_side(side: Side, out: &mut [u8]) -> usize
     ensures { λ r. ⌜ Wrote r (sideText side) (now (out .entry)) (now (out .exit)) ⌝ }
 {
     match side {
-        Side::Left => put(b" left ", out),
-        Side::Right => put(b" right ", out),
-        Side::Neither => put(b" neither ", out),
+        Side::Left => writing::put(b" left ", out),
+        Side::Right => writing::put(b" right ", out),
+        Side::Neither => writing::put(b" neither ", out),
     }
 }
 
@@ -61,12 +34,12 @@ pub fn refused(number: u32, side: Side, place: usize, out: &mut [u8]) -> usize
     requires { ⌜ 64 ≤ length (now out) ⌝ }
     ensures { λ r. ⌜ Wrote r (refusedText number side place) (now (out .entry)) (now (out .exit)) ⌝ }
 {
-    let a = put(b"REFUSED ", out);
-    let k = write_number(number as u64, &mut out[a..]);
+    let a = writing::put(b"REFUSED ", out);
+    let k = writing::write_number(number as u64, &mut out[a..]);
     let b = a + k;
     let m = put_side(side, &mut out[b..]);
     let c = b + m;
-    let n = write_number(place as u64, &mut out[c..]);
+    let n = writing::write_number(place as u64, &mut out[c..]);
     c + n
 }
 
@@ -77,7 +50,7 @@ pub fn written(answer: Written, out: &mut [u8]) -> usize
 {
     match answer {
         Written::Text(n) => {
-            let at = put(b"FORM ", out);
+            let at = writing::put(b"FORM ", out);
             at + n
         }
         Written::Refused(e, side, p) => refused(e, side, p, out),
@@ -89,8 +62,8 @@ pub fn remainder(n: u32, out: &mut [u8]) -> usize
     requires { ⌜ 64 ≤ length (now out) ⌝ }
     ensures { λ r. ⌜ Wrote r (remainderText n) (now (out .entry)) (now (out .exit)) ⌝ }
 {
-    let at = put(b"REMAINDER ", out);
-    let k = write_number(n as u64, &mut out[at..]);
+    let at = writing::put(b"REMAINDER ", out);
+    let k = writing::write_number(n as u64, &mut out[at..]);
     at + k
 }
 
@@ -99,8 +72,8 @@ fn put_spaced(n: u32, out: &mut [u8]) -> usize
     requires { ⌜ 11 ≤ length (now out) ⌝ }
     ensures { λ r. ⌜ Wrote r (32 ∷ numeral n) (now (out .entry)) (now (out .exit)) ⌝ }
 {
-    let at = put(b" ", out);
-    let k = write_number(n as u64, &mut out[at..]);
+    let at = writing::put(b" ", out);
+    let k = writing::write_number(n as u64, &mut out[at..]);
     at + k
 }
 
@@ -126,7 +99,7 @@ pub fn different(point: &[u32], l: u32, r: u32, out: &mut [u8]) -> usize
     requires { ⌜ 80 ≤ length (now out) ⌝ }
     ensures { λ n. ⌜ Wrote n (differentText (now (point .entry)) l r) (now (out .entry)) (now (out .exit)) ⌝ }
 {
-    let a = put(b"DIFF", out);
+    let a = writing::put(b"DIFF", out);
     let k = put_numbers(point, &mut out[a..]);
     let b = a + k;
     let m = put_spaced(l, &mut out[b..]);

@@ -7,7 +7,7 @@ ghost use Rattle.texts.specs.definitions.Bytes.{digit, capital, indexIn, isRow,
 ghost use Rattle.texts.specs.definitions.Numerals.{canonical, valueFrom};
 ghost use Rattle.words.specs.Words.{isInteger, operatorOf, operatorLong};
 
-fn is_digit(b: u8) -> bool
+pub fn is_digit(b: u8) -> bool
     ensures { λ r. ⌜ r ≡ digit b ⌝ }
 {
     if b < 48 {

@@ -21,8 +21,21 @@ fn digits_of(n: u32) -> usize
     digits_of(n / 10) + 1
 }
 
+// Writes the bytes of text, and returns how many they are.
+pub fn put(text: &[u8], out: &mut [u8]) -> usize
+    requires { ⌜ length (now text) ≤ length (now out) ⌝ }
+    ensures { λ r. ⌜ Wrote r (now (text .entry)) (now (out .entry)) (now (out .exit)) ⌝ }
+{
+    let mut i = 0;
+    while i < text.len() {
+        out[i] = text[i];
+        i += 1;
+    }
+    i
+}
+
 // Writes the digits of n, and returns how many they are.
-fn write_number(n: u32, out: &mut [u8]) -> usize
+pub fn write_number(n: u64, out: &mut [u8]) -> usize
     requires { ⌜ length (numeral n) ≤ length (now out) ⌝ }
     ensures { λ r. ⌜ Wrote r (numeral n) (now (out .entry)) (now (out .exit)) ⌝ }
 {
@@ -53,10 +66,10 @@ fn write_leaf(x: u32, out: &mut [u8]) -> usize
     ensures { λ r. ⌜ Wrote r (leafText x) (now (out .entry)) (now (out .exit)) ⌝ }
 {
     if x <= HALF {
-        return write_number(x, out);
+        return write_number(x as u64, out);
     }
     out[0] = b'-';
-    let n = write_number(P - x, &mut out[1..]);
+    let n = write_number((P - x) as u64, &mut out[1..]);
     1 + n
 }
 
@@ -70,7 +83,7 @@ fn write_head(c: u8, i: u32, out: &mut [u8]) -> usize
     out[2] = b'O';
     out[3] = c;
     out[4] = b' ';
-    let n = write_number(i, &mut out[5..]);
+    let n = write_number(i as u64, &mut out[5..]);
     let e = 5 + n;
     out[e] = b' ';
     e + 1

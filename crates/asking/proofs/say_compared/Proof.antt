@@ -8,7 +8,6 @@ use Rattle.asking.proofs.say_compared.Tie as tie
 use Rattle.asking.proofs.say_compared.Reads as reads
 use Rattle.asking.proofs.say_compared.Lts as lts
 use Rattle.replying.proofs.different.Reads as different-reads
-use Rattle.replying.proofs.put.Reads as put-reads
 use Rattle.replying.proofs.refused.Reads as refused-reads
 
 -- src/lib.rt:51:41

@@ -7,7 +7,6 @@ use Rattle.asking.proofs.say_counted.Statement.{statement}
 use Rattle.asking.proofs.say_counted.Tie as tie
 use Rattle.asking.proofs.say_counted.Reads as reads
 use Rattle.asking.proofs.say_counted.Lts as lts
-use Rattle.replying.proofs.put.Reads as put-reads
 use Rattle.replying.proofs.refused.Reads as refused-reads
 
 -- src/lib.rt:68:40

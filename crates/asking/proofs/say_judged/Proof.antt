@@ -7,7 +7,6 @@ use Rattle.asking.proofs.say_judged.Statement.{statement}
 use Rattle.asking.proofs.say_judged.Tie as tie
 use Rattle.asking.proofs.say_judged.Reads as reads
 use Rattle.asking.proofs.say_judged.Lts as lts
-use Rattle.replying.proofs.put.Reads as put-reads
 use Rattle.replying.proofs.refused.Reads as refused-reads
 
 -- src/lib.rt:80:40

@@ -7,7 +7,6 @@ use Rattle.asking.proofs.say_written.Statement.{statement}
 use Rattle.asking.proofs.say_written.Tie as tie
 use Rattle.asking.proofs.say_written.Reads as reads
 use Rattle.asking.proofs.say_written.Lts as lts
-use Rattle.replying.proofs.put.Reads as put-reads
 use Rattle.replying.proofs.refused.Reads as refused-reads
 
 -- src/lib.rt:22:23

@@ -13,7 +13,6 @@ use Rattle.book.proofs.print_book.Reads as reads
 use Rattle.book.proofs.print_book.Lts as lts
 use Rattle.book.proofs.enough_lent.Reads as enough-lent-reads
 use Rattle.book.proofs.print_any.Reads as print-any-reads
-use Rattle.booklines.proofs.put.Reads as put-reads
 use Rattle.opening.proofs.clear_tables.Reads as clear-tables-reads
 
 -- src/lib.rt:173:9

@@ -6,7 +6,6 @@ use Rattle.booklines.proofs.different.Statement.{statement}
 use Rattle.booklines.proofs.different.Tie as tie
 use Rattle.booklines.proofs.different.Reads as reads
 use Rattle.booklines.proofs.different.Lts as lts
-use Rattle.booklines.proofs.put.Reads as put-reads
 use Rattle.booklines.proofs.put_number.Reads as put-number-reads
 use Rattle.booklines.proofs.put_numbers.Reads as put-numbers-reads
 

@@ -10,7 +10,6 @@ use Rattle.booklines.proofs.put_answer.Tie as tie
 use Rattle.booklines.proofs.put_answer.Reads as reads
 use Rattle.booklines.proofs.put_answer.Lts as lts
 use Rattle.booklines.proofs.different.Reads as different-reads
-use Rattle.booklines.proofs.put.Reads as put-reads
 use Rattle.booklines.proofs.refused.Reads as refused-reads
 
 -- src/lib.rt:112:31

@@ -7,7 +7,6 @@ use Rattle.booklines.proofs.put_head.Statement.{statement}
 use Rattle.booklines.proofs.put_head.Tie as tie
 use Rattle.booklines.proofs.put_head.Reads as reads
 use Rattle.booklines.proofs.put_head.Lts as lts
-use Rattle.booklines.proofs.put.Reads as put-reads
 use Rattle.booklines.proofs.put_number.Reads as put-number-reads
 
 -- src/lib.rt:136:17

@@ -7,7 +7,6 @@ use Rattle.booklines.proofs.put_number.Statement.{statement}
 use Rattle.booklines.proofs.put_number.Tie as tie
 use Rattle.booklines.proofs.put_number.Reads as reads
 use Rattle.booklines.proofs.put_number.Lts as lts
-use Rattle.booklines.proofs.write_number.Reads as write-number-reads
 
 -- src/lib.rt:44:9
 write-number-requires : tie.Need-write-number-requires

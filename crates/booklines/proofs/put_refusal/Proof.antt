@@ -6,7 +6,6 @@ use Rattle.booklines.proofs.put_refusal.Statement.{statement}
 use Rattle.booklines.proofs.put_refusal.Tie as tie
 use Rattle.booklines.proofs.put_refusal.Reads as reads
 use Rattle.booklines.proofs.put_refusal.Lts as lts
-use Rattle.booklines.proofs.put.Reads as put-reads
 use Rattle.booklines.proofs.put_number.Reads as put-number-reads
 
 -- src/lib.rt:148:17

@@ -7,7 +7,6 @@ use Rattle.booklines.proofs.put_refused.Statement.{statement}
 use Rattle.booklines.proofs.put_refused.Tie as tie
 use Rattle.booklines.proofs.put_refused.Reads as reads
 use Rattle.booklines.proofs.put_refused.Lts as lts
-use Rattle.booklines.proofs.put.Reads as put-reads
 
 -- src/lib.rt:85:27
 enum-told : tie.Need-enum-told

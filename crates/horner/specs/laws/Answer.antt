@@ -52,6 +52,10 @@ degrees-map h n (pow i p q) = ap₂ (λ ds es. (i + firstOr0 ds) ∷ maxs (tl ds
 pub degrees-normP : (n : ℕ) (t : Term) → Within n t → degrees n (normP t) ≡ degrees n (normℤ t)
 degrees-normP n t W = ap (degrees n) (residue n t (W .over) (W .degrees) (omega (arith, W .weight))) ∙ degrees-map (redℤ prime prime-pos) n (normℤ t)
 
+-- a difference of 0 is one of equals
+pub level : (a b : Res prime) → P-ring .add a (P-ring .neg b) ≡ P-ring .nil → a ≡ b
+level a b e = sym (neg-neg P-ring a) ∙ ap (P-ring .neg) (sym (neg-unique P-ring a (P-ring .neg b) e)) ∙ neg-neg P-ring b
+
 module _ (n : ℕ) (f g : Term) (F : Within n f) (G : Within n g) where
   pub same-iff : (normP f ≡ normP g) ↔ ((N : List ℤ) → length N ≡ n → evalℤ f N ≡ evalℤ g N)
   same-iff = (
@@ -61,7 +65,8 @@ module _ (n : ℕ) (f g : Term) (F : Within n f) (G : Within n g) where
         ∙ sym (residue n g (G .over) (G .degrees) (omega (arith, G .weight))),
   )
 
-  val-gap : (N : List ℕ) → val P-ring (gap f g) (nats P-ring N) ≡ P-ring .add (evalP f N) (P-ring .neg (evalP g N))
+  -- at a point the difference of the forms is that of the terms
+  pub val-gap : (N : List ℕ) → val P-ring (gap f g) (nats P-ring N) ≡ P-ring .add (evalP f N) (P-ring .neg (evalP g N))
   val-gap N =
       val-sum P-ring (normP f) (negate P-ring (normP g)) (nats P-ring N)
       ∙ ap₂ (P-ring .add) (val-norm P-ring (redℤ prime prime-pos) f (nats P-ring N))
@@ -103,9 +108,6 @@ module _ (n : ℕ) (f g : Term) (F : Within n f) (G : Within n g) where
     where
       p : IsFirst P-ring (sides n f g) (gap f g) (firstPoint P-ring (sides n f g) (gap f g))
       p = first-is P-ring 63 P-regular (sides n f g) sides-63 (gap f g) normal-gap bounded-gap nz
-
-      level : (a b : Res prime) → P-ring .add a (P-ring .neg b) ≡ P-ring .nil → a ≡ b
-      level a b e = sym (neg-neg P-ring a) ∙ ap (P-ring .neg) (sym (neg-unique P-ring a (P-ring .neg b) e)) ∙ neg-neg P-ring b
 
   -- and the difference is 0 exactly where the forms are one
   pub gap-zero : Zero P-ring (gap f g) ↔ (normP f ≡ normP g)

@@ -2,24 +2,21 @@
 use mathlib.Core.Bool.{false}
 use mathlib.Core.List.{List}
 use mathlib.Core.Logic.{_⊎_, inl, inr}
-use mathlib.Core.Path.{_≡_, refl, sym, ap, ap₂, subst, _∙_}
+use mathlib.Core.Path.{_≡_, refl, sym, ap, subst, _∙_}
 use Prim.Native.Nat.{ℕ, _≤_}
 use lib.ListN.{length}
 use Rattle.horner.specs.definitions.Form.{isZero, negate}
 use Rattle.horner.specs.definitions.Measures.{Within}
 use Rattle.horner.specs.definitions.Normal.{Normal}
 use Rattle.horner.specs.definitions.Points.{Before, firstPoint, IsFirst, gap, sides, IsPoint}
-use Rattle.horner.specs.definitions.Residues.{Res, redℤ, prime, prime-pos, P-ring}
+use Rattle.horner.specs.definitions.Residues.{redℤ, prime, prime-pos, P-ring}
 use Rattle.horner.specs.definitions.Term.{Term, normP, evalP}
-use Rattle.horner.specs.definitions.Value.{val, nats}
-use Rattle.horner.specs.laws.Answer.{length-sides, point-is, point-before}
+use Rattle.horner.specs.laws.Answer.{length-sides, point-is, point-before, val-gap, level}
 use Rattle.horner.specs.laws.Canonical.{length-box}
 use Rattle.horner.specs.laws.First.{first-is}
 use Rattle.horner.specs.laws.Normal.{normal-sum, normal-negate}
 use Rattle.horner.specs.laws.Prime.{P-regular}
-use Rattle.horner.specs.laws.Ring.{neg-unique, neg-neg}
-use Rattle.horner.specs.laws.Term.{val-norm, normal-norm}
-use Rattle.horner.specs.laws.Value.{val-sum, val-negate}
+use Rattle.horner.specs.laws.Term.{normal-norm}
 use Rattle.coded.specs.Coding.{limits, Good}
 use Rattle.coded.specs.Operations.{sumOf, negateOf}
 use Rattle.points.specs.Points.{pointOf, Ready}
@@ -39,16 +36,6 @@ module _ (n : ℕ) (f g : Term) (few : n ≤ 4) (F : Within n f) (G : Within n g
         (normal-negate P-ring n (normP g) (normal-norm P-ring (redℤ prime prime-pos) refl n g (G .over)));
     counts = nz;
   }
-
-  -- at a point the difference of the forms is that of the terms
-  val-gap : (N : List ℕ) → val P-ring (gap f g) (nats P-ring N) ≡ P-ring .add (evalP f N) (P-ring .neg (evalP g N))
-  val-gap N =
-      val-sum P-ring (normP f) (negate P-ring (normP g)) (nats P-ring N)
-      ∙ ap₂ (P-ring .add) (val-norm P-ring (redℤ prime prime-pos) f (nats P-ring N))
-      (val-negate P-ring (normP g) (nats P-ring N) ∙ ap (P-ring .neg) (val-norm P-ring (redℤ prime prime-pos) g (nats P-ring N)))
-
-  level : (a b : Res prime) → P-ring .add a (P-ring .neg b) ≡ P-ring .nil → a ≡ b
-  level a b e = sym (neg-neg P-ring a) ∙ ap (P-ring .neg) (sym (neg-unique P-ring a (P-ring .neg b) e)) ∙ neg-neg P-ring b
 
   module _ (good : Good 0 (gap f g)) where
     first-of : IsFirst P-ring (limits n) (gap f g) (pointOf n (gap f g))
@@ -74,8 +61,8 @@ module _ (n : ℕ) (f g : Term) (few : n ≤ 4) (F : Within n f) (G : Within n g
         l = length-box (limits n) N (first-of .inside) ∙ length-limits n
 
         differs : evalP f N ≡ evalP g N → ⊥
-        differs e = first-of .counts (val-gap N ∙ ap (λ z. P-ring .add z (P-ring .neg (evalP g N))) e ∙ P-ring .add-neg (evalP g N))
+        differs e = first-of .counts (val-gap n f g F G N ∙ ap (λ z. P-ring .add z (P-ring .neg (evalP g N))) e ∙ P-ring .add-neg (evalP g N))
 
         at : (N ≡ M) ⊎ Before M N → N ≡ M
         at (inl e) = e
-        at (inr b) = absurd (P .differs (level (evalP f M) (evalP g M) (sym (val-gap M) ∙ first-of .earlier M b (length-box (sides n f g) M (P .inside) ∙ length-sides n f g F G ∙ sym (length-limits n)))))
+        at (inr b) = absurd (P .differs (level (evalP f M) (evalP g M) (sym (val-gap n f g F G M) ∙ first-of .earlier M b (length-box (sides n f g) M (P .inside) ∙ length-sides n f g F G ∙ sym (length-limits n)))))

@@ -7,7 +7,6 @@ use Rattle.replying.proofs.different.Statement.{statement}
 use Rattle.replying.proofs.different.Tie as tie
 use Rattle.replying.proofs.different.Reads as reads
 use Rattle.replying.proofs.different.Lts as lts
-use Rattle.replying.proofs.put.Reads as put-reads
 use Rattle.replying.proofs.put_numbers.Reads as put-numbers-reads
 use Rattle.replying.proofs.put_spaced.Reads as put-spaced-reads
 

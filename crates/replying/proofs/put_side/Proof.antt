@@ -7,7 +7,6 @@ use Rattle.replying.proofs.put_side.Statement.{statement}
 use Rattle.replying.proofs.put_side.Tie as tie
 use Rattle.replying.proofs.put_side.Reads as reads
 use Rattle.replying.proofs.put_side.Lts as lts
-use Rattle.replying.proofs.put.Reads as put-reads
 
 -- src/lib.rt:52:27
 enum-told : tie.Need-enum-told

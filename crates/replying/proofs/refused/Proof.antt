@@ -7,9 +7,7 @@ use Rattle.replying.proofs.refused.Statement.{statement}
 use Rattle.replying.proofs.refused.Tie as tie
 use Rattle.replying.proofs.refused.Reads as reads
 use Rattle.replying.proofs.refused.Lts as lts
-use Rattle.replying.proofs.put.Reads as put-reads
 use Rattle.replying.proofs.put_side.Reads as put-side-reads
-use Rattle.replying.proofs.write_number.Reads as write-number-reads
 
 -- src/lib.rt:63:17
 slice-aggregate-put : tie.Need-slice-aggregate-put

@@ -14,7 +14,6 @@ use Rattle.replying.proofs.written.Statement.{statement}
 use Rattle.replying.proofs.written.Tie as tie
 use Rattle.replying.proofs.written.Reads as reads
 use Rattle.replying.proofs.written.Lts as lts
-use Rattle.replying.proofs.put.Reads as put-reads
 use Rattle.replying.proofs.refused.Reads as refused-reads
 
 -- src/lib.rt:78:23

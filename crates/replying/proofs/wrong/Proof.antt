@@ -7,8 +7,6 @@ use Rattle.replying.proofs.wrong.Statement.{statement}
 use Rattle.replying.proofs.wrong.Tie as tie
 use Rattle.replying.proofs.wrong.Reads as reads
 use Rattle.replying.proofs.wrong.Lts as lts
-use Rattle.replying.proofs.put.Reads as put-reads
-use Rattle.replying.proofs.write_number.Reads as write-number-reads
 
 -- src/lib.rt:42:18
 slice-aggregate-put : tie.Need-slice-aggregate-put

@@ -64,7 +64,7 @@ pass-fits m f e (many i h k l) z = absurd (omega arith)
 
 -- ---- the nodes
 module _ (m : ℕ) where
-  all-stand : (r : Reading (Form ℤ)) (ks : List Node) → AllStand m ks → firstWrong m r ks ≡ r
+  pub all-stand : (r : Reading (Form ℤ)) (ks : List Node) → AllStand m ks → firstWrong m r ks ≡ r
   all-stand r [] h = refl
   all-stand r (k ∷ ks) h = rw (h .0, firstWrong) (all-stand r ks (h .1))
 

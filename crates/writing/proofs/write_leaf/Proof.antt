@@ -25,6 +25,9 @@ slice-write-out c = omega (arith, leaf-length-minus (c .before .before .args .x)
 sub-write-number : tie.Need-sub-write-number
 sub-write-number c = search needs
 
+cast-write-number : tie.Need-cast-write-number
+cast-write-number c = omega arith
+
 sub-write-number-2 : tie.Need-sub-write-number-2
 sub-write-number-2 c = simp length-set (omega (arith, leaf-length-minus (c .before .before .args .x) (c .if1 .left) (c .before .before .pre .0), c .before .before .pre .1))
 
@@ -59,6 +62,7 @@ write-leaf-spec =
     returns
     slice-write-out
     sub-write-number
+    cast-write-number
     sub-write-number-2
     part-write-number-start
     part-write-number-end

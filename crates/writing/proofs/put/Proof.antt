@@ -1,4 +1,4 @@
--- `replying::put` meets its contract. The invariant: the first i bytes of text stand in front.
+-- `writing::put` meets its contract. The invariant: the first i bytes of text stand in front.
 use mathlib.Core.List.{[], _∷_, _++_}
 use mathlib.Core.Path.{_≡_, refl, sym, ap, _∙_}
 use Prim.Native.Nat.{_+_, _-_, _≤_, _<_}
@@ -7,12 +7,12 @@ use native.Mathlib.Omega.{arith}
 use lib.ListN.{length, take, getD, length-set}
 use lib.Seq.{take-suc, take-all}
 use denote.Ref.{now}
 use Rattle.writing.specs.Written.{Wrote}
 use Rattle.writing.specs.laws.Wrote.{wrote-none, wrote-as, wrote-byte, wrote-length}
-use Rattle.replying.proofs.put.Statement.{statement}
-use Rattle.replying.proofs.put.Tie as tie
-use Rattle.replying.proofs.put.Reads as reads
-use Rattle.replying.proofs.put.Lts as lts
+use Rattle.writing.proofs.put.Statement.{statement}
+use Rattle.writing.proofs.put.Tie as tie
+use Rattle.writing.proofs.put.Reads as reads
+use Rattle.writing.proofs.put.Lts as lts
 
 abbrev Inv-loop : tie.InvT-loop
 Inv-loop text out₀ i₀ out i = (i ≤ length text) × Wrote i (take i text) out₀ out
