@@ -137,8 +137,11 @@ module _ (row tables s t : List ℕ) (l : Lent row tables) (k : ℕ) (room : len
 
   -- "Otherwise the point returned is the first, in row order, among all assignments of whole numbers from zero up where the values leave different remainders by
   -- 2,147,483,647; no coordinate exceeds that variable's highest power in the two forms": IsPoint says so, and the remainders are the terms', left first
-  pub other-answer : (normP f ≡ normP g → ⊥) → (compareReply row tables k s t ≡ gives (different (pointOf n f g) (evalP f (pointOf n f g) .0) (evalP g (pointOf n f g) .0))) × IsPoint n f g (pointOf n f g)
-  other-answer h = (compare-is ∙ ap gives (verdict-apart n f g F G h), point-is n f g F G (not-zero n f g F G h))
+  pub other-answer : (text (normℤ f) ≡ text (normℤ g) → ⊥) → (compareReply row tables k s t ≡ gives (different (pointOf n f g) (evalP f (pointOf n f g) .0) (evalP g (pointOf n f g) .0))) × IsPoint n f g (pointOf n f g)
+  other-answer h = (compare-is ∙ ap gives (verdict-apart n f g F G apart), point-is n f g F G (not-zero n f g F G apart))
+    where
+      apart : normP f ≡ normP g → ⊥
+      apart e = h (verdict-bytes n f g F G (verdict-same n f g F G e))
 
 -- ---- counters
 -- "It answers 'same' when each coefficient of the difference is a multiple of 2 to the width"

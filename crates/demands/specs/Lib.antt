@@ -2,3 +2,5 @@
 pub mod One
 pub mod Demands
 pub mod Operations
+pub mod Refusals
+pub mod Entries
