@@ -1,5 +1,6 @@
 #!/usr/bin/env bash
-# against-second.sh SEED COUNT: COUNT fresh request lines of the second program's generator through the desk and through the second program; every byte is compared.
+# against-second.sh SEED COUNT: COUNT fresh request lines of the second program's generator through the desk and through the second program; every byte is compared. So are
+# the stored output of the trials and 200 fresh books.
 set -euo pipefail
 cd "$(dirname "$0")/.."
 seed=${1:-1} count=${2:-10000}
@@ -7,6 +8,7 @@ work=$(mktemp -d)
 trap 'rm -rf "$work"' EXIT
 cargo build --quiet --release --offline --manifest-path second/Cargo.toml
 second=second/target/release/second
+"$second" trials | cmp - crates/trials/stdout || { echo "the trials' stored output is not the second program's" >&2; exit 1; }
 "$second" generate "$seed" "$count" > "$work/lines"
 "$second" desk < "$work/lines" > "$work/expected"
 bash tools/on-x86.sh target/bin/desk < "$work/lines" > "$work/answered"

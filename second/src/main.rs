@@ -17,6 +17,7 @@ mod term;
 mod termwork;
 #[cfg(test)]
 mod tests;
+mod trials;
 
 use std::io::{self, Read, Write};
 use std::process::ExitCode;
@@ -28,6 +29,7 @@ second makebook ROW                      formulas on standard input, panel and c
 second generate SEED COUNT               COUNT request lines for the desk
 second books SEED COUNT DIR              COUNT books as DIR/0.book, DIR/1.book, ...
 second coded SEED COUNT FILE_IN FILE_OUT requests on coded forms, and their answers
+second trials                            what crate trials has to print
 second help                              this text
 ";
 
@@ -83,6 +85,7 @@ fn run(words: &[&str]) -> Result<(), Trouble> {
             let requests = make::coded::requests(decimal(seed)?, decimal(count)?);
             Ok(coded::write(&requests, file_in, file_out)?)
         }
+        ["trials"] => write_out(trials::lines().as_bytes()),
         ["help"] => write_out(HELP.as_bytes()),
         _ => Err(Trouble::Call(format!("no such call; the modes are\n{HELP}"))),
     }

@@ -1,0 +1,170 @@
+// Every call on tables and buffers of every telling length: one short, exact, longer, full of ones beforehand; on an empty and an over-long row. For each try one line: the
+// call, the try's number, the answer, what the lent buffer then holds, and how many words of each table are not 0.
+mod lent;
+mod saying;
+mod telling_tries;
+mod writing_tries;
+
+use crate::lent::blank;
+use crate::lent::fill;
+use crate::lent::given;
+use crate::lent::letters;
+use crate::lent::words;
+use crate::saying::begin;
+use crate::saying::end;
+use crate::saying::say_judged;
+use crate::telling_tries::try_telling;
+use crate::writing_tries::try_writing;
+
+const TRIES: u32 = 12;
+
+// The call by its number.
+fn try_lent(
+    call: u32,
+    k: u32,
+    row: &[u8],
+    at: &[i32],
+    result: &mut [u8],
+    point: &mut [u32],
+    a: &mut [u32],
+    b: &mut [u32],
+    c: &mut [u32],
+    d: &mut [u32],
+) {
+    if call < 5 {
+        return try_writing(call, k, row, result, a, b, c, d);
+    }
+    try_telling(call, k, row, at, point, a, b, c, d);
+}
+
+// Buffers as they are before each call: tables full of ones.
+fn prepare(
+    result: &mut [u8],
+    point: &mut [u32],
+    a: &mut [u32],
+    b: &mut [u32],
+    c: &mut [u32],
+    d: &mut [u32],
+) {
+    blank(result);
+    fill(7, point);
+    fill(u32::MAX, a);
+    fill(u32::MAX, b);
+    fill(u32::MAX, c);
+    fill(u32::MAX, d);
+}
+
+// The call in try k, on the parts that it is lent.
+fn try_parts(
+    call: u32,
+    k: u32,
+    row: &[u8],
+    at: &[i32],
+    result: &mut [u8],
+    point: &mut [u32],
+    a: &mut [u32],
+    b: &mut [u32],
+    c: &mut [u32],
+    d: &mut [u32],
+) {
+    let m = letters(k, row.len());
+    let la = words(k, 1, a.len());
+    let lb = words(k, 2, b.len());
+    let lc = words(k, 3, c.len());
+    let ld = words(k, 4, d.len());
+    try_lent(
+        call,
+        k,
+        &row[..m],
+        at,
+        result,
+        point,
+        &mut a[..la],
+        &mut b[..lb],
+        &mut c[..lc],
+        &mut d[..ld],
+    );
+}
+
+// One call in try k, from tables full of ones to what it left.
+fn try_call(
+    call: u32,
+    k: u32,
+    row: &[u8],
+    at: &[i32],
+    result: &mut [u8],
+    point: &mut [u32],
+    a: &mut [u32],
+    b: &mut [u32],
+    c: &mut [u32],
+    d: &mut [u32],
+) {
+    prepare(result, point, a, b, c, d);
+    try_parts(call, k, row, at, result, point, a, b, c, d);
+    end(a, b, c, d);
+}
+
+// `judge`, which takes no tables.
+fn try_judge(k: u32, row: &[u8]) {
+    let m = letters(k, row.len());
+    begin(b"judge", k);
+    say_judged(judging::judge(&row[..m], given(k, 10, b"(POW 2 1 (POW 2 -1 0))")));
+    io::write_all(1, b"\n");
+}
+
+// Every call in try k.
+fn try_all(
+    k: u32,
+    row: &[u8],
+    at: &[i32],
+    result: &mut [u8],
+    point: &mut [u32],
+    a: &mut [u32],
+    b: &mut [u32],
+    c: &mut [u32],
+    d: &mut [u32],
+) {
+    let mut call = 0;
+    while call < 9 {
+        try_call(call, k, row, at, result, point, a, b, c, d);
+        call += 1;
+    }
+    try_judge(k, row);
+}
+
+// Every try.
+fn try_tries(
+    row: &[u8],
+    at: &[i32],
+    result: &mut [u8],
+    point: &mut [u32],
+    a: &mut [u32],
+    b: &mut [u32],
+    c: &mut [u32],
+    d: &mut [u32],
+) {
+    let mut k = 0;
+    while k < TRIES {
+        try_all(k, row, at, result, point, a, b, c, d);
+        k += 1;
+    }
+}
+
+fn main() {
+    let mut result = [0u8; 64];
+    let mut point = [0u32; 3];
+    let mut a = [0u32; 16391];
+    let mut b = [0u32; 16391];
+    let mut c = [0u32; 16391];
+    let mut d = [0u32; 16391];
+    try_tries(
+        b"XYABC",
+        &[-3, 2, 5],
+        &mut result,
+        &mut point,
+        &mut a,
+        &mut b,
+        &mut c,
+        &mut d,
+    );
+}

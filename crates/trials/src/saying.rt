@@ -1,0 +1,132 @@
+// What came back, on standard output.
+use answering::Written;
+use comparing::Compared;
+use countering::Counted;
+use judging::Verdict;
+use opening::Side;
+use remaindering::Remaindered;
+
+// How many words are not 0.
+pub fn dirty(t: &[u32]) -> u64 {
+    let mut n = 0u64;
+    let mut i = 0;
+    while i < t.len() {
+        if t[i] != 0 {
+            n = std::num::wrapping_add_u64(n, 1);
+        }
+        i += 1;
+    }
+    n
+}
+
+pub fn say_refused(number: u32, side: Side, place: usize) {
+    io::write_all(1, b"REFUSED ");
+    io::print_decimal(1, number as u64);
+    match side {
+        Side::Left => io::write_all(1, b" left "),
+        Side::Right => io::write_all(1, b" right "),
+        Side::Neither => io::write_all(1, b" neither "),
+    }
+    ;
+    io::print_decimal(1, place as u64);
+}
+
+pub fn say_written(answer: Written) {
+    match answer {
+        Written::Text(n) => {
+            io::write_all(1, b"TEXT ");
+            io::print_decimal(1, n as u64);
+        }
+        Written::Refused(e, side, p) => say_refused(e, side, p),
+    }
+}
+
+pub fn say_remainder(answer: Remaindered) {
+    match answer {
+        Remaindered::Remainder(n) => {
+            io::write_all(1, b"REMAINDER ");
+            io::print_decimal(1, n as u64);
+        }
+        Remaindered::Refused(e, side, p) => say_refused(e, side, p),
+    }
+}
+
+pub fn say_compared(answer: Compared) {
+    match answer {
+        Compared::Same => {
+            io::write_all(1, b"SAME");
+        }
+        Compared::Different(l, r) => {
+            io::write_all(1, b"DIFF ");
+            io::print_decimal(1, l as u64);
+            io::write_all(1, b" ");
+            io::print_decimal(1, r as u64);
+        }
+        Compared::Refused(e, side, p) => say_refused(e, side, p),
+    }
+}
+
+pub fn say_counted(answer: Counted) {
+    match answer {
+        Counted::Same => {
+            io::write_all(1, b"SAME");
+        }
+        Counted::Different => {
+            io::write_all(1, b"DIFF");
+        }
+        Counted::Refused(e, side, p) => say_refused(e, side, p),
+    }
+}
+
+pub fn say_judged(answer: Verdict) {
+    match answer {
+        Verdict::Form => {
+            io::write_all(1, b"YES");
+        }
+        Verdict::Refused(e, side, p) => say_refused(e, side, p),
+    }
+}
+
+// The call and the try's number, at the front of its line.
+pub fn begin(call: &[u8], k: u32) {
+    io::write_all(1, call);
+    io::write_all(1, b" ");
+    io::print_decimal(1, k as u64);
+    io::write_all(1, b": ");
+}
+
+// What the result buffer holds.
+pub fn say_result(result: &[u8]) {
+    io::write_all(1, b"; result ");
+    io::write_all(1, result);
+}
+
+fn say_number(n: u32) {
+    io::write_all(1, b" ");
+    io::print_decimal(1, n as u64);
+}
+
+// What the point buffer holds.
+pub fn say_point(point: &[u32]) {
+    io::write_all(1, b"; point");
+    let mut i = 0;
+    while i < point.len() {
+        say_number(point[i]);
+        i += 1;
+    }
+}
+
+// How many words of the tables are not 0, at the end of the line.
+pub fn end(a: &[u32], b: &[u32], c: &[u32], d: &[u32]) {
+    io::write_all(1, b"; not 0");
+    say_dirty(a);
+    say_dirty(b);
+    say_dirty(c);
+    say_dirty(d);
+    io::write_all(1, b"\n");
+}
+
+pub fn say_dirty(t: &[u32]) {
+    io::write_all(1, b" ");
+    io::print_decimal(1, dirty(t));
+}

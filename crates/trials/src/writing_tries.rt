@@ -1,0 +1,155 @@
+// Each call with a result text, on what is lent in try k.
+use crate::lent::given;
+use crate::lent::room;
+use crate::saying::begin;
+use crate::saying::say_result;
+use crate::saying::say_written;
+
+fn try_form(
+    k: u32,
+    row: &[u8],
+    result: &mut [u8],
+    a: &mut [u32],
+    b: &mut [u32],
+    c: &mut [u32],
+    d: &mut [u32],
+) {
+    let n = room(k, 22, result.len());
+    let answer = forming::form(
+        row,
+        given(k, 10, b"(* (+ X Y) (- X Y))"),
+        &mut result[..n],
+        a,
+        b,
+        c,
+        d,
+    );
+    begin(b"form", k);
+    say_written(answer);
+    say_result(result);
+}
+
+fn try_negate(
+    k: u32,
+    row: &[u8],
+    result: &mut [u8],
+    a: &mut [u32],
+    b: &mut [u32],
+    c: &mut [u32],
+    d: &mut [u32],
+) {
+    let n = room(k, 22, result.len());
+    let answer = negating::negate(
+        row,
+        given(k, 10, b"(POW 2 1 (POW 2 -1 0))"),
+        &mut result[..n],
+        a,
+        b,
+        c,
+        d,
+    );
+    begin(b"negate", k);
+    say_written(answer);
+    say_result(result);
+}
+
+fn try_add(
+    k: u32,
+    row: &[u8],
+    result: &mut [u8],
+    a: &mut [u32],
+    b: &mut [u32],
+    c: &mut [u32],
+    d: &mut [u32],
+) {
+    let n = room(k, 21, result.len());
+    let answer = adding::add(
+        row,
+        given(k, 10, b"(POW 1 1 0)"),
+        given(k, 11, b"(POP 1 (POW 1 1 0))"),
+        &mut result[..n],
+        a,
+        b,
+        c,
+        d,
+    );
+    begin(b"add", k);
+    say_written(answer);
+    say_result(result);
+}
+
+fn try_multiply(
+    k: u32,
+    row: &[u8],
+    result: &mut [u8],
+    a: &mut [u32],
+    b: &mut [u32],
+    c: &mut [u32],
+    d: &mut [u32],
+) {
+    let n = room(k, 22, result.len());
+    let answer = multiplying::multiply(
+        row,
+        given(k, 10, b"(POW 1 1 (POW 1 1 0))"),
+        given(k, 11, b"(POW 1 1 (POW 1 -1 0))"),
+        &mut result[..n],
+        a,
+        b,
+        c,
+        d,
+    );
+    begin(b"multiply", k);
+    say_written(answer);
+    say_result(result);
+}
+
+fn try_raise(
+    k: u32,
+    row: &[u8],
+    result: &mut [u8],
+    a: &mut [u32],
+    b: &mut [u32],
+    c: &mut [u32],
+    d: &mut [u32],
+) {
+    let n = room(k, 41, result.len());
+    let answer = raising::raise(
+        row,
+        given(k, 10, b"(POW 1 1 (POW 1 1 0))"),
+        2,
+        &mut result[..n],
+        a,
+        b,
+        c,
+        d,
+    );
+    begin(b"raise", k);
+    say_written(answer);
+    say_result(result);
+}
+
+// A call with a result text: 0 to 4.
+pub fn try_writing(
+    call: u32,
+    k: u32,
+    row: &[u8],
+    result: &mut [u8],
+    a: &mut [u32],
+    b: &mut [u32],
+    c: &mut [u32],
+    d: &mut [u32],
+) {
+    if call == 0 {
+        return try_form(k, row, result, a, b, c, d);
+    }
+    if call == 1 {
+        return try_negate(k, row, result, a, b, c, d);
+    }
+    if call == 2 {
+        return try_add(k, row, result, a, b, c, d);
+    }
+    if call == 3 {
+        return try_multiply(k, row, result, a, b, c, d);
+    }
+    try_raise(k, row, result, a, b, c, d);
+}
