@@ -97,9 +97,11 @@ fn trial(call: &str, fields: &[&str], k: usize) -> String {
     line + "\n"
 }
 
-/// All lines, try by try.
+/// All lines: try by try those of the calls with tables, then those of `judge`.
 pub fn lines() -> String {
     let calls = requests();
-    let one = |k: usize| calls.iter().map(move |(call, fields)| trial(call, fields, k));
-    (0..TRIES).flat_map(one).collect()
+    let (judge, others) = calls.split_last().expect("ten calls");
+    let line = |k: usize, call: &(&str, Vec<&str>)| trial(call.0, &call.1, k);
+    let with_tables = (0..TRIES).flat_map(|k| others.iter().map(move |call| line(k, call)));
+    with_tables.chain((0..TRIES).map(|k| line(k, judge))).collect()
 }

@@ -112,41 +112,30 @@ fn try_judge(k: u32, row: &[u8]) {
     io::write_all(1, b"\n");
 }
 
-// Every call in try k.
-fn try_all(
-    k: u32,
-    row: &[u8],
-    at: &[i32],
-    result: &mut [u8],
-    point: &mut [u32],
-    a: &mut [u32],
-    b: &mut [u32],
-    c: &mut [u32],
-    d: &mut [u32],
-) {
-    let mut call = 0;
-    while call < 9 {
-        try_call(call, k, row, at, result, point, a, b, c, d);
-        call += 1;
-    }
-    try_judge(k, row);
-}
-
-// Every try.
-fn try_tries(
-    row: &[u8],
-    at: &[i32],
-    result: &mut [u8],
-    point: &mut [u32],
-    a: &mut [u32],
-    b: &mut [u32],
-    c: &mut [u32],
-    d: &mut [u32],
-) {
+// `judge` in every try.
+fn try_judges(row: &[u8]) {
     let mut k = 0;
     while k < TRIES {
-        try_all(k, row, at, result, point, a, b, c, d);
+        try_judge(k, row);
         k += 1;
+    }
+}
+
+// Every other call in every try: nine calls to a try.
+fn try_calls(
+    row: &[u8],
+    at: &[i32],
+    result: &mut [u8],
+    point: &mut [u32],
+    a: &mut [u32],
+    b: &mut [u32],
+    c: &mut [u32],
+    d: &mut [u32],
+) {
+    let mut turn = 0;
+    while turn < 9 * TRIES {
+        try_call(turn % 9, turn / 9, row, at, result, point, a, b, c, d);
+        turn += 1;
     }
 }
 
@@ -157,7 +146,7 @@ fn main() {
     let mut b = [0u32; 16391];
     let mut c = [0u32; 16391];
     let mut d = [0u32; 16391];
-    try_tries(
+    try_calls(
         b"XYABC",
         &[-3, 2, 5],
         &mut result,
@@ -167,4 +156,5 @@ fn main() {
         &mut c,
         &mut d,
     );
+    try_judges(b"XYABC");
 }
