@@ -1,11 +1,11 @@
 -- The code of a product, from the codes of its parts: what the functions that multiply forms return.
 -- Assumes nothing.
 use mathlib.Core.Path.{_≡_, sym, ap, _∙_}
-use mathlib.Core.List.{List, _∷_, _++_}
+use mathlib.Core.List.{List, _∷_}
 use Prim.Native.Nat.{ℕ, suc, _+_, _-_, _%_, _≤_, _<_}
 use native.Mathlib.Omega.{arith}
 use lib.ListN.{length, getD, take, drop, set}
-use lib.Seq.{take-set-le, set-split, take-at, drop-at, length-take-le}
+use lib.Seq.{take-set-le, set-split, drop-at, length-take-le}
 use borrow.Rule.Slice.PartMut.{putMid, take-put}
 use Rattle.horner.specs.definitions.Form.{Form, pop, lower, mkpop}
 use Rattle.coded.specs.Coding.{enc, dec, Good, Codes, Begins}
@@ -13,7 +13,6 @@ use Rattle.coded.specs.Operations.{popOf, powOf, scaleOf, zeroOf}
 use Rattle.coded.specs.Widths.{Leaf}
 use Rattle.coded.specs.laws.Codes.{IsInt}
 use Rattle.coded.specs.laws.Parts.{inner, first, rest, PopAt, PowAt}
-use Rattle.coded.proofs.Lists.{begins-le}
 use Rattle.coded.proofs.Making.{zero-codes}
 use Rattle.coded.proofs.Regions.{region-sub}
 use Rattle.fits.specs.Fit.{prodOf}
@@ -81,7 +80,3 @@ stored-zero w f d l =
       is = ap (take 1) (ap (drop f) (set-split d f 0 l) ∙ drop-at (take f d) (0 ∷ drop (suc f) d) f (length-take-le f d (omega arith))) ∙ zero-codes w .is;
       good = zero-codes w .good;
     }
-
--- a front, copied
-pub copied-front : {n : ℕ} {l d e : List ℕ} (r : List ℕ) → Begins n l d → e ≡ take n d ++ r → Begins n l e
-copied-front {n} {l} {d} {e} r m q = record { size = m .size; is = rw q (take-at (take n d) r n (length-take-le n d (begins-le m)) ∙ m .is) }

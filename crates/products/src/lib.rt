@@ -10,31 +10,6 @@ ghost use Rattle.coded.specs.Operations.{popOf, sumOf, scaleOf};
 ghost use Rattle.fits.specs.Fit.{prodOf, leadOf, crossOf, Held};
 ghost use Rattle.fits.specs.Tables.{Space, PopSpace, CrossSpace, PowWord};
 
-// The sum of the form at the front of out, of n words, and of y: it is made in u, and copied back to out.
-fn sum_back(width: u32, out: &mut [u32], n: usize, y: &[u32], u: &mut [u32]) -> usize
-    requires { ⌜ n ≤ length (now out) ⌝ }
-    requires { ⌜ Coded width (take n (now out)) × Coded width (now y) ⌝ }
-    requires { ⌜ length (enc width (sumOf width (dec width (take n (now out))) (dec width (now y)))) ≤ length (now out) ⌝ }
-    requires { ⌜ Room (n + length (now y)) (now u) ⌝ }
-    ensures { λ l. ⌜ Made width (sumOf width (dec width (take n (now (out .entry)))) (dec width (now (y .entry)))) l (now (out .exit)) ⌝ }
-{
-    let l = sums::sum(width, &out[..n], y, u);
-    coded::copy(&u[..l], out);
-    l
-}
-
-// The product of a leaf and (POP i p).
-fn scale_pop(width: u32, a: u32, i: u32, p: &[u32], out: &mut [u32]) -> usize
-    requires { ⌜ a < modulus width ⌝ }
-    requires { ⌜ Coded width (now p) ⌝ }
-    requires { ⌜ Good width (pop i (dec width (now p))) ⌝ }
-    requires { ⌜ Room (2 + length (now p)) (now out) ⌝ }
-    ensures { λ l. ⌜ Made width (scaleOf width a (pop i (dec width (now (p .entry))))) l (now (out .exit)) ⌝ }
-{
-    let n = walks::scale(width, a, p, &mut out[1..]);
-    coded::make_pop(width, out, i, n)
-}
-
 // The product of the forms x and y.
 pub fn product(
     width: u32,
@@ -75,7 +50,7 @@ fn mul_pop(
 {
     let w = y[0];
     if w < 2147483648 {
-        return scale_pop(width, w, i, p, out);
+        return factors::scale_pop(width, w, i, p, out);
     }
     let k = ((w - 2147483648) / 64) as usize;
     if k == 0 {
@@ -100,7 +75,7 @@ fn mul_any_pop(
 {
     let w = x[0];
     if w < 2147483648 {
-        return scale_pop(width, w, i, p, out);
+        return factors::scale_pop(width, w, i, p, out);
     }
     let k = ((w - 2147483648) / 64) as usize;
     if k == 0 {
@@ -295,7 +270,7 @@ fn add_cross(
     ensures { λ l. ⌜ Made width (sumOf width (dec width (take a (now (out .entry)))) (crossOf width i (dec width (now (p .entry))) (dec width (now (s .entry))))) l (now (out .exit)) ⌝ }
 {
     let b = mul_cross(width, i, p, s, t, &mut out[a..], u);
-    sum_back(width, out, a, &t[..b], u)
+    factors::sum_back(width, out, a, &t[..b], u)
 }
 
 // pow(i, p pop(1, s), 0)

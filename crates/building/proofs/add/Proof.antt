@@ -7,7 +7,7 @@ use lib.Seq.{length-take-le}
 use Rattle.coded.specs.Coding.{Begins, enc}
 use Rattle.coded.specs.Operations.{sumOf}
 use Rattle.coded.proofs.Lists.{begins-le, begins-as}
-use Rattle.products.proofs.Products.{copied-front}
+use Rattle.factors.proofs.Fronts.{copied-front}
 use Rattle.building.specs.Stack.{left, right}
 use Rattle.building.proofs.Stacks.{both-length, both-coded, both-sum, sum-fits}
 use borrow.Author.Needs.{needs}

@@ -7,7 +7,7 @@ use lib.Seq.{length-take-le}
 use Rattle.coded.specs.Coding.{Begins, enc}
 use Rattle.coded.proofs.Lists.{begins-le, begins-as}
 use Rattle.fits.specs.Fit.{prodOf}
-use Rattle.products.proofs.Products.{copied-front}
+use Rattle.factors.proofs.Fronts.{copied-front}
 use Rattle.building.specs.Stack.{left, right}
 use Rattle.building.proofs.Stacks.{both-length, both-coded, both-product, both-space}
 use borrow.Author.Needs.{needs}

@@ -8,7 +8,7 @@ use Rattle.coded.specs.Coding.{dec}
 use Rattle.coded.specs.laws.Codes.{codes-length}
 use Rattle.coded.specs.laws.Sizes.{negate-length}
 use Rattle.coded.proofs.Lists.{begins-le}
-use Rattle.products.proofs.Products.{copied-front}
+use Rattle.factors.proofs.Fronts.{copied-front}
 use borrow.Author.Needs.{needs}
 use Rattle.building.proofs.negate_front.Statement.{statement}
 use Rattle.building.proofs.negate_front.Tie as tie

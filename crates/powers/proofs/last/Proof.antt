@@ -9,7 +9,7 @@ use Rattle.coded.specs.Coding.{Coded, Begins, dec, enc}
 use Rattle.coded.proofs.Lists.{begins-le, begins-as}
 use Rattle.fits.specs.Fit.{prodOf}
 use Rattle.fits.specs.Tables.{Space}
-use Rattle.products.proofs.Products.{copied-front}
+use Rattle.factors.proofs.Fronts.{copied-front}
 use Rattle.powers.proofs.Stack.{front-of, behind}
 use borrow.Author.Needs.{needs}
 use Rattle.powers.proofs.last.Statement.{statement}

@@ -10,7 +10,7 @@ use Rattle.coded.proofs.Lists.{begins-le, begins-as, length-tail-part}
 use Rattle.fits.specs.Fit.{prodOf}
 use Rattle.fits.specs.Tables.{Space}
 use Rattle.fits.specs.laws.Fit.{fit-prod}
-use Rattle.products.proofs.Products.{copied-front}
+use Rattle.factors.proofs.Fronts.{copied-front}
 use Rattle.powers.proofs.Stack.{front-of, behind, stacked}
 use borrow.Author.Needs.{needs}
 use Rattle.powers.proofs.next.Statement.{statement}

@@ -67,8 +67,8 @@ use Rattle.products.proofs.product.Kinds as product-kinds
 use Rattle.products.proofs.+add_cross+mul_any_pop+mul_by_pop+mul_cross+mul_lead+mul_less+mul_pop+mul_pop_pow+mul_pops+mul_pops_gt+mul_pow+mul_pows+product.Lts-product as product-lts
 use Rattle.coded.proofs.make_pop.Reads as make-pop-reads
 use Rattle.coded.proofs.make_pow.Reads as make-pow-reads
-use Rattle.products.proofs.scale_pop.Reads as scale-pop-reads
-use Rattle.products.proofs.sum_back.Reads as sum-back-reads
+use Rattle.factors.proofs.scale_pop.Reads as scale-pop-reads
+use Rattle.factors.proofs.sum_back.Reads as sum-back-reads
 use Rattle.walks.proofs.scale.Reads as scale-reads
 
 abbrev μ-add-cross : Measures 5 add-cross-kinds.ps ℕ

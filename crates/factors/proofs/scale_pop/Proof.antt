@@ -1,4 +1,4 @@
--- `products::scale_pop` meets its contract: `walks::scale`, and then `coded::make_pop`.
+-- `factors::scale_pop` meets its contract: `walks::scale`, and then `coded::make_pop`.
 -- Assumes nothing.
 use Prim.Native.Nat.{_-_}
 use native.Mathlib.Omega.{arith}
@@ -12,8 +12,8 @@ use Rattle.coded.proofs.Lists.{begins-le, length-tail-part}
 use Rattle.coded.proofs.Making.{made-codes, pop-asks, pop-gives}
 use Rattle.fits.specs.laws.Equations.{scale-pop}
 use borrow.Author.Needs.{needs}
-use Rattle.products.proofs.scale_pop.Statement.{statement}
-use Rattle.products.proofs.scale_pop.Tie as tie
+use Rattle.factors.proofs.scale_pop.Statement.{statement}
+use Rattle.factors.proofs.scale_pop.Tie as tie
 
 made : (c : tie.After-scale) →
     let s = c .before .before .before .before in

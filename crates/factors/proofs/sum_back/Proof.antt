@@ -1,14 +1,14 @@
--- `products::sum_back` meets its contract: `sums::sum` into u, and `coded::copy` back.
+-- `factors::sum_back` meets its contract: `sums::sum` into u, and `coded::copy` back.
 -- Assumes nothing.
 use mathlib.Core.Path.{sym}
 use native.Mathlib.Omega.{arith}
 use lib.ListN.{length, take, drop}
 use lib.Seq.{length-take-le}
 use Rattle.coded.proofs.Lists.{begins-le}
-use Rattle.products.proofs.Products.{copied-front}
+use Rattle.factors.proofs.Fronts.{copied-front}
 use borrow.Author.Needs.{needs}
-use Rattle.products.proofs.sum_back.Statement.{statement}
-use Rattle.products.proofs.sum_back.Tie as tie
+use Rattle.factors.proofs.sum_back.Statement.{statement}
+use Rattle.factors.proofs.sum_back.Tie as tie
 
 pub sum-back-spec : {M : Type 1} → statement M
 sum-back-spec =

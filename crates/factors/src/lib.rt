@@ -1,0 +1,32 @@
+// What the functions that multiply forms rest on: a sum put back where its first summand stood, and a leaf times (POP i p).
+ghost use Prim.Native.Nat.{_+_, _<_, _≤_};
+ghost use lib.ListN.{length, take};
+ghost use Rattle.horner.specs.definitions.Form.{pop};
+ghost use Rattle.coded.specs.Widths.{modulus};
+ghost use Rattle.coded.specs.Coding.{Coded, Good, Made, Room, dec, enc};
+ghost use Rattle.coded.specs.Operations.{sumOf, scaleOf};
+
+// The sum of the form at the front of out, of n words, and of y: it is made in u, and copied back to out.
+pub fn sum_back(width: u32, out: &mut [u32], n: usize, y: &[u32], u: &mut [u32]) -> usize
+    requires { ⌜ n ≤ length (now out) ⌝ }
+    requires { ⌜ Coded width (take n (now out)) × Coded width (now y) ⌝ }
+    requires { ⌜ length (enc width (sumOf width (dec width (take n (now out))) (dec width (now y)))) ≤ length (now out) ⌝ }
+    requires { ⌜ Room (n + length (now y)) (now u) ⌝ }
+    ensures { λ l. ⌜ Made width (sumOf width (dec width (take n (now (out .entry)))) (dec width (now (y .entry)))) l (now (out .exit)) ⌝ }
+{
+    let l = sums::sum(width, &out[..n], y, u);
+    coded::copy(&u[..l], out);
+    l
+}
+
+// The product of a leaf and (POP i p).
+pub fn scale_pop(width: u32, a: u32, i: u32, p: &[u32], out: &mut [u32]) -> usize
+    requires { ⌜ a < modulus width ⌝ }
+    requires { ⌜ Coded width (now p) ⌝ }
+    requires { ⌜ Good width (pop i (dec width (now p))) ⌝ }
+    requires { ⌜ Room (2 + length (now p)) (now out) ⌝ }
+    ensures { λ l. ⌜ Made width (scaleOf width a (pop i (dec width (now (p .entry))))) l (now (out .exit)) ⌝ }
+{
+    let n = walks::scale(width, a, p, &mut out[1..]);
+    coded::make_pop(width, out, i, n)
+}
