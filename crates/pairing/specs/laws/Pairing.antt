@@ -7,7 +7,7 @@ use borrow.Rule.Slice.PartMut.{putMid}
 use lib.ListN.{length, take, drop}
 use Rattle.coded.proofs.Lists.{begins-le}
 use Rattle.coded.proofs.Regions.{region-before, region-put}
-use Rattle.products.proofs.Products.{copied-front}
+use Rattle.factors.proofs.Fronts.{copied-front}
 use Rattle.texts.specs.definitions.Answer.{Reading, read, refused}
 use Rattle.texts.specs.definitions.Limits.{acceptTerm}
 use Rattle.calls.specs.definitions.Reply as C
