@@ -81,18 +81,13 @@ fn trial(call: &str, fields: &[&str], k: usize) -> String {
         }
     }
     let mut line = format!("{call} {k}: {answer}");
-    match call {
-        "form" | "negate" | "add" | "multiply" | "raise" => line += &format!("; result {result}"),
-        "compare" => line += &format!("; point {point}"),
-        _ => {}
-    }
     if tables {
         let dirty = match (touched, k) {
             (false, _) => FIXED + BEYOND,
             (true, 5) => 0,
             (true, _) => BEYOND,
         };
-        line += &format!("; not 0 {dirty} {dirty} {dirty} {dirty}");
+        line += &format!("; result {result}; point {point}; not 0 {dirty} {dirty} {dirty} {dirty}");
     }
     line + "\n"
 }

@@ -1,5 +1,5 @@
 // Every call on tables and buffers of every telling length: one short, exact, longer, full of ones beforehand; on an empty and an over-long row. For each try one line: the
-// call, the try's number, the answer, what the lent buffer then holds, and how many words of each table are not 0.
+// call, the try's number, the answer, what the result and the point buffer then hold, and how many words of each table are not 0.
 mod lent;
 mod saying;
 mod telling_tries;
@@ -13,6 +13,7 @@ use crate::lent::words;
 use crate::saying::begin;
 use crate::saying::end;
 use crate::saying::say_judged;
+use crate::saying::say_written;
 use crate::telling_tries::try_telling;
 use crate::writing_tries::try_writing;
 
@@ -32,13 +33,15 @@ fn try_lent(
     d: &mut [u32],
 ) {
     if call < 5 {
-        return try_writing(call, k, row, result, a, b, c, d);
+        return say_written(try_writing(call, k, row, result, a, b, c, d));
     }
     try_telling(call, k, row, at, point, a, b, c, d);
 }
 
-// Buffers as they are before each call: tables full of ones.
+// The front of the line, and the buffers as they are before each call: tables full of ones.
 fn prepare(
+    call: u32,
+    k: u32,
     result: &mut [u8],
     point: &mut [u32],
     a: &mut [u32],
@@ -46,6 +49,7 @@ fn prepare(
     c: &mut [u32],
     d: &mut [u32],
 ) {
+    begin(call, k);
     blank(result);
     fill(7, point);
     fill(u32::MAX, a);
@@ -99,15 +103,15 @@ fn try_call(
     c: &mut [u32],
     d: &mut [u32],
 ) {
-    prepare(result, point, a, b, c, d);
+    prepare(call, k, result, point, a, b, c, d);
     try_parts(call, k, row, at, result, point, a, b, c, d);
-    end(a, b, c, d);
+    end(result, point, a, b, c, d);
 }
 
 // `judge`, which takes no tables.
 fn try_judge(k: u32, row: &[u8]) {
     let m = letters(k, row.len());
-    begin(b"judge", k);
+    begin(9, k);
     say_judged(judging::judge(&row[..m], given(k, 10, b"(POW 2 1 (POW 2 -1 0))")));
     io::write_all(1, b"\n");
 }

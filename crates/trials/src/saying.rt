@@ -87,9 +87,43 @@ pub fn say_judged(answer: Verdict) {
     }
 }
 
+// The call's name, by its number; 9 is `judge`.
+fn say_call(call: u32) {
+    if call == 0 {
+        io::write_all(1, b"form");
+    }
+    if call == 1 {
+        io::write_all(1, b"negate");
+    }
+    if call == 2 {
+        io::write_all(1, b"add");
+    }
+    if call == 3 {
+        io::write_all(1, b"multiply");
+    }
+    if call == 4 {
+        io::write_all(1, b"raise");
+    }
+    if call == 5 {
+        io::write_all(1, b"remainder");
+    }
+    if call == 6 {
+        io::write_all(1, b"form_remainder");
+    }
+    if call == 7 {
+        io::write_all(1, b"compare");
+    }
+    if call == 8 {
+        io::write_all(1, b"counters");
+    }
+    if call == 9 {
+        io::write_all(1, b"judge");
+    }
+}
+
 // The call and the try's number, at the front of its line.
-pub fn begin(call: &[u8], k: u32) {
-    io::write_all(1, call);
+pub fn begin(call: u32, k: u32) {
+    say_call(call);
     io::write_all(1, b" ");
     io::print_decimal(1, k as u64);
     io::write_all(1, b": ");
@@ -116,8 +150,10 @@ pub fn say_point(point: &[u32]) {
     }
 }
 
-// How many words of the tables are not 0, at the end of the line.
-pub fn end(a: &[u32], b: &[u32], c: &[u32], d: &[u32]) {
+// What the buffers hold, at the end of the line.
+pub fn end(result: &[u8], point: &[u32], a: &[u32], b: &[u32], c: &[u32], d: &[u32]) {
+    say_result(result);
+    say_point(point);
     io::write_all(1, b"; not 0");
     say_dirty(a);
     say_dirty(b);

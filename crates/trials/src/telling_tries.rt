@@ -2,11 +2,12 @@
 use crate::lent::coordinates;
 use crate::lent::given;
 use crate::lent::width;
-use crate::saying::begin;
 use crate::saying::say_compared;
 use crate::saying::say_counted;
-use crate::saying::say_point;
 use crate::saying::say_remainder;
+use comparing::Compared;
+use countering::Counted;
+use remaindering::Remaindered;
 
 fn try_remainder(
     k: u32,
@@ -16,19 +17,9 @@ fn try_remainder(
     b: &mut [u32],
     c: &mut [u32],
     d: &mut [u32],
-) {
+) -> Remaindered {
     let n = coordinates(k, at.len());
-    let answer = remaindering::remainder(
-        row,
-        given(k, 10, b"(+ (EXPT X 3) Y)"),
-        &at[..n],
-        a,
-        b,
-        c,
-        d,
-    );
-    begin(b"remainder", k);
-    say_remainder(answer);
+    remaindering::remainder(row, given(k, 10, b"(+ (EXPT X 3) Y)"), &at[..n], a, b, c, d)
 }
 
 fn try_form_remainder(
@@ -39,9 +30,9 @@ fn try_form_remainder(
     b: &mut [u32],
     c: &mut [u32],
     d: &mut [u32],
-) {
+) -> Remaindered {
     let n = coordinates(k, at.len());
-    let answer = formremaindering::form_remainder(
+    formremaindering::form_remainder(
         row,
         given(k, 10, b"(POW 3 1 (POW 1 1 0))"),
         &at[..n],
@@ -49,9 +40,7 @@ fn try_form_remainder(
         b,
         c,
         d,
-    );
-    begin(b"form_remainder", k);
-    say_remainder(answer);
+    )
 }
 
 fn try_compare(
@@ -62,9 +51,9 @@ fn try_compare(
     b: &mut [u32],
     c: &mut [u32],
     d: &mut [u32],
-) {
+) -> Compared {
     let n = coordinates(k, point.len());
-    let answer = comparing::compare(
+    comparing::compare(
         row,
         given(k, 10, b"(* X Y)"),
         given(k, 11, b"0"),
@@ -73,14 +62,18 @@ fn try_compare(
         b,
         c,
         d,
-    );
-    begin(b"compare", k);
-    say_compared(answer);
-    say_point(point);
+    )
 }
 
-fn try_counters(k: u32, row: &[u8], a: &mut [u32], b: &mut [u32], c: &mut [u32], d: &mut [u32]) {
-    let answer = countering::counters(
+fn try_counters(
+    k: u32,
+    row: &[u8],
+    a: &mut [u32],
+    b: &mut [u32],
+    c: &mut [u32],
+    d: &mut [u32],
+) -> Counted {
+    countering::counters(
         row,
         width(k),
         given(k, 10, b"(* 256 X)"),
@@ -89,9 +82,7 @@ fn try_counters(k: u32, row: &[u8], a: &mut [u32], b: &mut [u32], c: &mut [u32],
         b,
         c,
         d,
-    );
-    begin(b"counters", k);
-    say_counted(answer);
+    )
 }
 
 // A call that tells a number or a verdict: 5 to 8.
@@ -107,13 +98,13 @@ pub fn try_telling(
     d: &mut [u32],
 ) {
     if call == 5 {
-        return try_remainder(k, row, at, a, b, c, d);
+        return say_remainder(try_remainder(k, row, at, a, b, c, d));
     }
     if call == 6 {
-        return try_form_remainder(k, row, at, a, b, c, d);
+        return say_remainder(try_form_remainder(k, row, at, a, b, c, d));
     }
     if call == 7 {
-        return try_compare(k, row, point, a, b, c, d);
+        return say_compared(try_compare(k, row, point, a, b, c, d));
     }
-    try_counters(k, row, a, b, c, d);
+    say_counted(try_counters(k, row, a, b, c, d));
 }

@@ -1,9 +1,7 @@
 // Each call with a result text, on what is lent in try k.
 use crate::lent::given;
 use crate::lent::room;
-use crate::saying::begin;
-use crate::saying::say_result;
-use crate::saying::say_written;
+use answering::Written;
 
 fn try_form(
     k: u32,
@@ -13,9 +11,9 @@ fn try_form(
     b: &mut [u32],
     c: &mut [u32],
     d: &mut [u32],
-) {
+) -> Written {
     let n = room(k, 22, result.len());
-    let answer = forming::form(
+    forming::form(
         row,
         given(k, 10, b"(* (+ X Y) (- X Y))"),
         &mut result[..n],
@@ -23,10 +21,7 @@ fn try_form(
         b,
         c,
         d,
-    );
-    begin(b"form", k);
-    say_written(answer);
-    say_result(result);
+    )
 }
 
 fn try_negate(
@@ -37,9 +32,9 @@ fn try_negate(
     b: &mut [u32],
     c: &mut [u32],
     d: &mut [u32],
-) {
+) -> Written {
     let n = room(k, 22, result.len());
-    let answer = negating::negate(
+    negating::negate(
         row,
         given(k, 10, b"(POW 2 1 (POW 2 -1 0))"),
         &mut result[..n],
@@ -47,10 +42,7 @@ fn try_negate(
         b,
         c,
         d,
-    );
-    begin(b"negate", k);
-    say_written(answer);
-    say_result(result);
+    )
 }
 
 fn try_add(
@@ -61,9 +53,9 @@ fn try_add(
     b: &mut [u32],
     c: &mut [u32],
     d: &mut [u32],
-) {
+) -> Written {
     let n = room(k, 21, result.len());
-    let answer = adding::add(
+    adding::add(
         row,
         given(k, 10, b"(POW 1 1 0)"),
         given(k, 11, b"(POP 1 (POW 1 1 0))"),
@@ -72,10 +64,7 @@ fn try_add(
         b,
         c,
         d,
-    );
-    begin(b"add", k);
-    say_written(answer);
-    say_result(result);
+    )
 }
 
 fn try_multiply(
@@ -86,9 +75,9 @@ fn try_multiply(
     b: &mut [u32],
     c: &mut [u32],
     d: &mut [u32],
-) {
+) -> Written {
     let n = room(k, 22, result.len());
-    let answer = multiplying::multiply(
+    multiplying::multiply(
         row,
         given(k, 10, b"(POW 1 1 (POW 1 1 0))"),
         given(k, 11, b"(POW 1 1 (POW 1 -1 0))"),
@@ -97,10 +86,7 @@ fn try_multiply(
         b,
         c,
         d,
-    );
-    begin(b"multiply", k);
-    say_written(answer);
-    say_result(result);
+    )
 }
 
 fn try_raise(
@@ -111,9 +97,9 @@ fn try_raise(
     b: &mut [u32],
     c: &mut [u32],
     d: &mut [u32],
-) {
+) -> Written {
     let n = room(k, 41, result.len());
-    let answer = raising::raise(
+    raising::raise(
         row,
         given(k, 10, b"(POW 1 1 (POW 1 1 0))"),
         2,
@@ -122,10 +108,7 @@ fn try_raise(
         b,
         c,
         d,
-    );
-    begin(b"raise", k);
-    say_written(answer);
-    say_result(result);
+    )
 }
 
 // A call with a result text: 0 to 4.
@@ -138,7 +121,7 @@ pub fn try_writing(
     b: &mut [u32],
     c: &mut [u32],
     d: &mut [u32],
-) {
+) -> Written {
     if call == 0 {
         return try_form(k, row, result, a, b, c, d);
     }
@@ -151,5 +134,5 @@ pub fn try_writing(
     if call == 3 {
         return try_multiply(k, row, result, a, b, c, d);
     }
-    try_raise(k, row, result, a, b, c, d);
+    try_raise(k, row, result, a, b, c, d)
 }

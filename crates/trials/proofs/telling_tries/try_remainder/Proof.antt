@@ -9,58 +9,44 @@ use Rattle.trials.proofs.telling_tries.try_remainder.Lts as lts
 use Rattle.remaindering.proofs.remainder.Reads as remainder-reads
 use Rattle.trials.proofs.lent.coordinates.Reads as coordinates-reads
 use Rattle.trials.proofs.lent.given.Reads as given-reads
-use Rattle.trials.proofs.saying.begin.Reads as begin-reads
-use Rattle.trials.proofs.saying.say_remainder.Reads as say-remainder-reads
 
--- src/telling_tries.rt:20:9
+-- src/telling_tries.rt:21:9
 coordinates-requires : tie.Need-coordinates-requires
 coordinates-requires c κs = search needs
 
--- src/telling_tries.rt:23:22
+-- src/telling_tries.rt:22:47
 slice-aggregate-given : tie.Need-slice-aggregate-given
 slice-aggregate-given c = search needs
 
--- src/telling_tries.rt:23:9
+-- src/telling_tries.rt:22:34
 given-requires : tie.Need-given-requires
 given-requires c κs = search needs
 
--- src/telling_tries.rt:24:9
+-- src/telling_tries.rt:22:69
 slice-aggregate-remainder : tie.Need-slice-aggregate-remainder
 slice-aggregate-remainder c = sym (length-take-le _ _ (c .before .before .before .coordinates .ensures))
 
--- src/telling_tries.rt:21:9
+-- src/telling_tries.rt:22:5
 remainder-requires : tie.Need-remainder-requires
 remainder-requires c κs = search needs
 
--- src/telling_tries.rt:30:11
-slice-aggregate-begin : tie.Need-slice-aggregate-begin
-slice-aggregate-begin c = search needs
-
--- src/telling_tries.rt:30:5
-begin-requires : tie.Need-begin-requires
-begin-requires c κs = search needs
-
--- src/telling_tries.rt:31:5
-say-remainder-requires : tie.Need-say-remainder-requires
-say-remainder-requires c κs = search needs
-
--- src/telling_tries.rt:11:1
+-- src/telling_tries.rt:12:1
 same-length : tie.Need-same-length
 same-length c = search needs
 
--- src/telling_tries.rt:11:1
+-- src/telling_tries.rt:12:1
 same-length-2 : tie.Need-same-length-2
 same-length-2 c = search needs
 
--- src/telling_tries.rt:11:1
+-- src/telling_tries.rt:12:1
 same-length-3 : tie.Need-same-length-3
 same-length-3 c = search needs
 
--- src/telling_tries.rt:11:1
+-- src/telling_tries.rt:12:1
 same-length-4 : tie.Need-same-length-4
 same-length-4 c = search needs
 
--- src/telling_tries.rt:11:1
+-- src/telling_tries.rt:12:1
 returns : tie.Need-returns
 returns c = search needs
 
@@ -73,9 +59,6 @@ try-remainder-spec =
     given-requires
     slice-aggregate-remainder
     remainder-requires
-    slice-aggregate-begin
-    begin-requires
-    say-remainder-requires
     same-length
     same-length-2
     same-length-3

@@ -9,79 +9,60 @@ use Rattle.trials.proofs.writing_tries.try_add.Lts as lts
 use Rattle.adding.proofs.add.Reads as add-reads
 use Rattle.trials.proofs.lent.given.Reads as given-reads
 use Rattle.trials.proofs.lent.room.Reads as room-reads
-use Rattle.trials.proofs.saying.begin.Reads as begin-reads
-use Rattle.trials.proofs.saying.say_result.Reads as say-result-reads
-use Rattle.trials.proofs.saying.say_written.Reads as say-written-reads
 
--- src/writing_tries.rt:65:9
+-- src/writing_tries.rt:57:9
 room-requires : tie.Need-room-requires
 room-requires c κs = search needs
 
--- src/writing_tries.rt:68:22
+-- src/writing_tries.rt:60:22
 slice-aggregate-given : tie.Need-slice-aggregate-given
 slice-aggregate-given c = search needs
 
--- src/writing_tries.rt:68:9
+-- src/writing_tries.rt:60:9
 given-requires : tie.Need-given-requires
 given-requires c κs = search needs
 
--- src/writing_tries.rt:69:22
+-- src/writing_tries.rt:61:22
 slice-aggregate-given-2 : tie.Need-slice-aggregate-given-2
 slice-aggregate-given-2 c = search needs
 
--- src/writing_tries.rt:69:9
+-- src/writing_tries.rt:61:9
 given-requires-2 : tie.Need-given-requires-2
 given-requires-2 c κs = search needs
 
--- src/writing_tries.rt:70:9
+-- src/writing_tries.rt:62:9
 slice-relend-prefix-add : tie.Need-slice-relend-prefix-add
 slice-relend-prefix-add c = search needs
 
--- src/writing_tries.rt:70:9
+-- src/writing_tries.rt:62:9
 slice-aggregate-add : tie.Need-slice-aggregate-add
 slice-aggregate-add c = sym (length-take-le _ _ (c .before .before .before .before .before .room .ensures))
 
--- src/writing_tries.rt:66:9
+-- src/writing_tries.rt:58:5
 add-requires : tie.Need-add-requires
 add-requires c κs = search needs
 
--- src/writing_tries.rt:76:11
-slice-aggregate-begin : tie.Need-slice-aggregate-begin
-slice-aggregate-begin c = search needs
-
--- src/writing_tries.rt:76:5
-begin-requires : tie.Need-begin-requires
-begin-requires c κs = search needs
-
--- src/writing_tries.rt:77:5
-say-written-requires : tie.Need-say-written-requires
-say-written-requires c κs = search needs
-
--- src/writing_tries.rt:78:5
-say-result-requires : tie.Need-say-result-requires
-say-result-requires c κs = search needs
-
--- src/writing_tries.rt:56:1
+-- src/writing_tries.rt:48:1
 same-length : tie.Need-same-length
 same-length c = search needs
 
--- src/writing_tries.rt:56:1
+-- src/writing_tries.rt:48:1
 same-length-2 : tie.Need-same-length-2
 same-length-2 c = search needs
 
--- src/writing_tries.rt:56:1
+-- src/writing_tries.rt:48:1
 same-length-3 : tie.Need-same-length-3
 same-length-3 c = search needs
 
--- src/writing_tries.rt:56:1
+-- src/writing_tries.rt:48:1
 same-length-4 : tie.Need-same-length-4
 same-length-4 c = search needs
 
--- src/writing_tries.rt:56:1
+-- src/writing_tries.rt:48:1
 same-length-5 : tie.Need-same-length-5
 same-length-5 c = search needs
 
--- src/writing_tries.rt:56:1
+-- src/writing_tries.rt:48:1
 returns : tie.Need-returns
 returns c = search needs
 
@@ -97,10 +78,6 @@ try-add-spec =
     slice-relend-prefix-add
     slice-aggregate-add
     add-requires
-    slice-aggregate-begin
-    begin-requires
-    say-written-requires
-    say-result-requires
     same-length
     same-length-2
     same-length-3

@@ -9,71 +9,52 @@ use Rattle.trials.proofs.writing_tries.try_form.Lts as lts
 use Rattle.forming.proofs.form.Reads as form-reads
 use Rattle.trials.proofs.lent.given.Reads as given-reads
 use Rattle.trials.proofs.lent.room.Reads as room-reads
-use Rattle.trials.proofs.saying.begin.Reads as begin-reads
-use Rattle.trials.proofs.saying.say_result.Reads as say-result-reads
-use Rattle.trials.proofs.saying.say_written.Reads as say-written-reads
 
--- src/writing_tries.rt:17:9
+-- src/writing_tries.rt:15:9
 room-requires : tie.Need-room-requires
 room-requires c κs = search needs
 
--- src/writing_tries.rt:20:22
+-- src/writing_tries.rt:18:22
 slice-aggregate-given : tie.Need-slice-aggregate-given
 slice-aggregate-given c = search needs
 
--- src/writing_tries.rt:20:9
+-- src/writing_tries.rt:18:9
 given-requires : tie.Need-given-requires
 given-requires c κs = search needs
 
--- src/writing_tries.rt:21:9
+-- src/writing_tries.rt:19:9
 slice-relend-prefix-form : tie.Need-slice-relend-prefix-form
 slice-relend-prefix-form c = search needs
 
--- src/writing_tries.rt:21:9
+-- src/writing_tries.rt:19:9
 slice-aggregate-form : tie.Need-slice-aggregate-form
 slice-aggregate-form c = sym (length-take-le _ _ (c .before .before .before .room .ensures))
 
--- src/writing_tries.rt:18:9
+-- src/writing_tries.rt:16:5
 form-requires : tie.Need-form-requires
 form-requires c κs = search needs
 
--- src/writing_tries.rt:27:11
-slice-aggregate-begin : tie.Need-slice-aggregate-begin
-slice-aggregate-begin c = search needs
-
--- src/writing_tries.rt:27:5
-begin-requires : tie.Need-begin-requires
-begin-requires c κs = search needs
-
--- src/writing_tries.rt:28:5
-say-written-requires : tie.Need-say-written-requires
-say-written-requires c κs = search needs
-
--- src/writing_tries.rt:29:5
-say-result-requires : tie.Need-say-result-requires
-say-result-requires c κs = search needs
-
--- src/writing_tries.rt:8:1
+-- src/writing_tries.rt:6:1
 same-length : tie.Need-same-length
 same-length c = search needs
 
--- src/writing_tries.rt:8:1
+-- src/writing_tries.rt:6:1
 same-length-2 : tie.Need-same-length-2
 same-length-2 c = search needs
 
--- src/writing_tries.rt:8:1
+-- src/writing_tries.rt:6:1
 same-length-3 : tie.Need-same-length-3
 same-length-3 c = search needs
 
--- src/writing_tries.rt:8:1
+-- src/writing_tries.rt:6:1
 same-length-4 : tie.Need-same-length-4
 same-length-4 c = search needs
 
--- src/writing_tries.rt:8:1
+-- src/writing_tries.rt:6:1
 same-length-5 : tie.Need-same-length-5
 same-length-5 c = search needs
 
--- src/writing_tries.rt:8:1
+-- src/writing_tries.rt:6:1
 returns : tie.Need-returns
 returns c = search needs
 
@@ -87,10 +68,6 @@ try-form-spec =
     slice-relend-prefix-form
     slice-aggregate-form
     form-requires
-    slice-aggregate-begin
-    begin-requires
-    say-written-requires
-    say-result-requires
     same-length
     same-length-2
     same-length-3

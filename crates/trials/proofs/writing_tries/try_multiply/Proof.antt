@@ -9,79 +9,60 @@ use Rattle.trials.proofs.writing_tries.try_multiply.Lts as lts
 use Rattle.multiplying.proofs.multiply.Reads as multiply-reads
 use Rattle.trials.proofs.lent.given.Reads as given-reads
 use Rattle.trials.proofs.lent.room.Reads as room-reads
-use Rattle.trials.proofs.saying.begin.Reads as begin-reads
-use Rattle.trials.proofs.saying.say_result.Reads as say-result-reads
-use Rattle.trials.proofs.saying.say_written.Reads as say-written-reads
 
--- src/writing_tries.rt:90:9
+-- src/writing_tries.rt:79:9
 room-requires : tie.Need-room-requires
 room-requires c κs = search needs
 
--- src/writing_tries.rt:93:22
+-- src/writing_tries.rt:82:22
 slice-aggregate-given : tie.Need-slice-aggregate-given
 slice-aggregate-given c = search needs
 
--- src/writing_tries.rt:93:9
+-- src/writing_tries.rt:82:9
 given-requires : tie.Need-given-requires
 given-requires c κs = search needs
 
--- src/writing_tries.rt:94:22
+-- src/writing_tries.rt:83:22
 slice-aggregate-given-2 : tie.Need-slice-aggregate-given-2
 slice-aggregate-given-2 c = search needs
 
--- src/writing_tries.rt:94:9
+-- src/writing_tries.rt:83:9
 given-requires-2 : tie.Need-given-requires-2
 given-requires-2 c κs = search needs
 
--- src/writing_tries.rt:95:9
+-- src/writing_tries.rt:84:9
 slice-relend-prefix-multiply : tie.Need-slice-relend-prefix-multiply
 slice-relend-prefix-multiply c = search needs
 
--- src/writing_tries.rt:95:9
+-- src/writing_tries.rt:84:9
 slice-aggregate-multiply : tie.Need-slice-aggregate-multiply
 slice-aggregate-multiply c = sym (length-take-le _ _ (c .before .before .before .before .before .room .ensures))
 
--- src/writing_tries.rt:91:9
+-- src/writing_tries.rt:80:5
 multiply-requires : tie.Need-multiply-requires
 multiply-requires c κs = search needs
 
--- src/writing_tries.rt:101:11
-slice-aggregate-begin : tie.Need-slice-aggregate-begin
-slice-aggregate-begin c = search needs
-
--- src/writing_tries.rt:101:5
-begin-requires : tie.Need-begin-requires
-begin-requires c κs = search needs
-
--- src/writing_tries.rt:102:5
-say-written-requires : tie.Need-say-written-requires
-say-written-requires c κs = search needs
-
--- src/writing_tries.rt:103:5
-say-result-requires : tie.Need-say-result-requires
-say-result-requires c κs = search needs
-
--- src/writing_tries.rt:81:1
+-- src/writing_tries.rt:70:1
 same-length : tie.Need-same-length
 same-length c = search needs
 
--- src/writing_tries.rt:81:1
+-- src/writing_tries.rt:70:1
 same-length-2 : tie.Need-same-length-2
 same-length-2 c = search needs
 
--- src/writing_tries.rt:81:1
+-- src/writing_tries.rt:70:1
 same-length-3 : tie.Need-same-length-3
 same-length-3 c = search needs
 
--- src/writing_tries.rt:81:1
+-- src/writing_tries.rt:70:1
 same-length-4 : tie.Need-same-length-4
 same-length-4 c = search needs
 
--- src/writing_tries.rt:81:1
+-- src/writing_tries.rt:70:1
 same-length-5 : tie.Need-same-length-5
 same-length-5 c = search needs
 
--- src/writing_tries.rt:81:1
+-- src/writing_tries.rt:70:1
 returns : tie.Need-returns
 returns c = search needs
 
@@ -97,10 +78,6 @@ try-multiply-spec =
     slice-relend-prefix-multiply
     slice-aggregate-multiply
     multiply-requires
-    slice-aggregate-begin
-    begin-requires
-    say-written-requires
-    say-result-requires
     same-length
     same-length-2
     same-length-3
