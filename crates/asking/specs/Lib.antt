@@ -1,1 +1,3 @@
--- Nothing is defined here: the functions of asking promise only that an answer stays within its buffer.
+-- What a request line is answered with.
+pub mod Asking
+pub mod Laws

@@ -1,27 +1,22 @@
--- The answer by the tests that the code makes, and that every result text is within what was lent.
+-- The answers by the tests that the code makes.
 use mathlib.Core.Bool.{Bool, true, false, cond}
-use mathlib.Core.List.{List, []}
+use mathlib.Core.List.{List}
 use mathlib.Core.Path.{_≡_, refl, sym, ap, _∙_}
-use Prim.Native.Nat.{ℕ, _+_, _-_, _≤_, _<_, min}
+use Prim.Native.Nat.{ℕ, suc, _+_, _-_, _≤_, _<_, min}
 use native.Mathlib.Omega.{arith}
-use lib.Dec.{eqb, leb, ltb}
+use lib.Dec.{eqb, ltb}
 use lib.IntN.{ℤ}
-use lib.ListN.{length}
-use borrow.Author.Tests.{eq-eqb, ne-eqb, le-leb, lt-leb, le-ltb, lt-ltb}
-use Rattle.texts.specs.definitions.Bytes.{bytes, same, isRow}
-use Rattle.texts.specs.definitions.FormText.{text}
-use Rattle.texts.specs.definitions.Limits.{acceptTerm}
-use Rattle.texts.specs.definitions.Tree.{termOf}
-use Rattle.textlaws.specs.laws.Bytes.{same-eq, same-refl}
-use Rattle.horner.specs.definitions.Term.{normℤ}
-use Rattle.calls.specs.definitions.Reply.{Reply, gives, refuses, left, enough, fitted, asked, readAs}
-use Rattle.calls.specs.definitions.Terms.{formOf, formReply, remainderReply}
-use Rattle.fields.specs.Fields.{fieldOf, restOf, countOf, coordinatesOf}
-use Rattle.replying.specs.Replying.{wrongText, resultText}
-use Rattle.replying.specs.laws.Replies.{Within, within-asked, within-read, within-fitted}
+use lib.ListN.{length, take}
+use lib.Seq.{length-take-le}
+use borrow.Author.Tests.{eq-eqb, ne-eqb, le-ltb, lt-ltb}
+use Rattle.calls.specs.definitions.Reply.{Reply, gives, refuses}
+use Rattle.fields.specs.Fields.{fieldOf, restOf, countOf, naturalOf, coordinatesOf}
+use Rattle.fields.specs.declared.Number.{Number}
+use Rattle.fields.specs.declared.Number.the-variants.{Is, Wrong}
+use Rattle.replying.specs.Replying.{wrongText}
 use Rattle.remaindering.specs.Remaindering.{remainderedOf}
 use Rattle.remaindering.specs.declared.Remaindered.{Remaindered}
-use Rattle.serving.specs.Serving.{counted, asks, formLine, pointFault, pointOf, pointed, remainderedText, remainderedLine, remainderLine, lineAnswer, answerIn}
+use Rattle.serving.specs.Serving.{counted, numberOr, numbered, pointFault, fiveOf, pointOf, pointed, remainderedText, remainderedLine}
 
 -- ---- the number of fields
 module _ (k : ℕ) (line w : List ℕ) where
@@ -32,44 +27,35 @@ module _ (k : ℕ) (line w : List ℕ) where
   counted-not {n} e h =
       ap (λ m. wrongText (min m k)) e ∙ sym (ap (λ b. cond b w (wrongText (min (countOf line) k))) (ne-eqb (countOf line) k (λ q. h (e ∙ q))))
 
--- ---- the word
-module _ (line word w after : List ℕ) {b : Bool} {v : List ℕ} (is : v ≡ fieldOf line 0) (told : (b ≡ true → v ≡ word) × (v ≡ word → b ≡ true)) where
-  pub asks-is : b ≡ true → w ≡ asks line word w after
-  asks-is e = sym (ap (λ c. cond c w after) (ap (λ l. same l word) (sym is ∙ told .0 e) ∙ same-refl word))
+-- answers made of the fields 1 and 2, and 1 to 3, where k fields are wanted
+module _ (k : ℕ) (line : List ℕ) {n : ℕ} (is : n ≡ countOf line) (right : n ≡ k) {row s : List ℕ} (row-is : row ≡ fieldOf line 1) (s-is : s ≡ fieldOf line 2) where
+  pub two-fields : (g : List ℕ → List ℕ → List ℕ) → g row s ≡ counted k line (g (fieldOf line 1) (fieldOf line 2))
+  two-fields g = ap (λ v. g v s) row-is ∙ ap (g (fieldOf line 1)) s-is ∙ counted-is k line (g (fieldOf line 1) (fieldOf line 2)) (sym is ∙ right)
 
-  pub asks-not : b ≡ false → after ≡ asks line word w after
-  asks-not e = sym (ap (λ c. cond c w after) (at (same (fieldOf line 0) word) refl))
-    where
-      at : (c : Bool) → same (fieldOf line 0) word ≡ c → c ≡ false
-      at false q = refl
-      at true q = sym (told .1 (is ∙ same-eq (fieldOf line 0) word q)) ∙ e
+  pub three-fields :
+      {t : List ℕ} → t ≡ fieldOf line 3 → (g : List ℕ → List ℕ → List ℕ → List ℕ) →
+      g row s t ≡ counted k line (g (fieldOf line 1) (fieldOf line 2) (fieldOf line 3))
+  three-fields {t} t-is g =
+      ap (λ v. g v s t) row-is ∙ ap (λ v. g (fieldOf line 1) v t) s-is ∙ ap (g (fieldOf line 1) (fieldOf line 2)) t-is
+      ∙ counted-is k line (g (fieldOf line 1) (fieldOf line 2) (fieldOf line 3)) (sym is ∙ right)
 
--- ---- the room
-pub answer-none : (n : ℕ) (tables line : List ℕ) → n < 65540 → [] ≡ answerIn n tables line
-answer-none n tables line h = sym (ap (λ b. cond b (lineAnswer tables line) []) (lt-leb 65540 n h))
+-- ---- a number in field k
+module _ (k : ℕ) (line : List ℕ) (w : ℕ → List ℕ) {n : ℕ} (is : n ≡ countOf line) where
+  pub numbered-missing : n < suc k → wrongText n ≡ numbered k line w
+  numbered-missing h =
+      ap wrongText is ∙ sym (ap (λ b. cond b (wrongText (countOf line)) (numberOr k w (naturalOf (fieldOf line k)))) (lt-ltb (countOf line) (suc k) (omega arith)))
 
-pub answer-some : (n : ℕ) (tables line : List ℕ) → 65540 ≤ n → lineAnswer tables line ≡ answerIn n tables line
-answer-some n tables line h = sym (ap (λ b. cond b (lineAnswer tables line) []) (le-leb 65540 n h))
+  module _ (there : suc k ≤ n) {field : List ℕ} {x : Number} (read : x ≡ naturalOf field) (at : field ≡ fieldOf line k) where
+    numbered-by : numberOr k w x ≡ numbered k line w
+    numbered-by =
+        ap (numberOr k w) (read ∙ ap naturalOf at)
+        ∙ sym (ap (λ b. cond b (wrongText (countOf line)) (numberOr k w (naturalOf (fieldOf line k)))) (le-ltb (countOf line) (suc k) (omega arith)))
 
--- ---- result texts are within what was lent
-pub within-form : (row tables s : List ℕ) (n : ℕ) → Within n (formReply row tables s n)
-unfolding formReply
-within-form row tables s n =
-    within-asked n (isRow row) 1 _
-    (λ u. within-asked n (enough tables) 2 _ (λ v. within-read n left (acceptTerm row s) _ (λ t. within-fitted n (text (normℤ (termOf row t))))))
+    pub numbered-wrong : x ≡ Wrong → wrongText k ≡ numbered k line w
+    numbered-wrong e = sym (ap (numberOr k w) e) ∙ numbered-by
 
--- ---- form
-module _ (tables line : List ℕ) where
-  pub form-miscounted : {n : ℕ} → n ≡ countOf line → (n ≡ 3 → ⊥) → wrongText (min n 3) ≡ formLine tables line
-  form-miscounted e h = counted-not 3 line (resultText (formReply (fieldOf line 1) tables (fieldOf line 2) 65535)) e h
-
-  pub form-fields :
-      {n : ℕ} {row s : List ℕ} → n ≡ countOf line → n ≡ 3 → row ≡ fieldOf line 1 → s ≡ fieldOf line 2 →
-      resultText (formReply row tables s 65535) ≡ formLine tables line
-  form-fields {n} {row} {s} e h r t =
-      ap (λ v. resultText (formReply v tables s 65535)) r
-      ∙ ap (λ v. resultText (formReply (fieldOf line 1) tables v 65535)) t
-      ∙ counted-is 3 line (resultText (formReply (fieldOf line 1) tables (fieldOf line 2) 65535)) (sym e ∙ h)
+    pub numbered-is : {m : ℕ} → x ≡ Is m → w m ≡ numbered k line w
+    numbered-is e = sym (ap (numberOr k w) e) ∙ numbered-by
 
 -- ---- coordinates
 module _ (line : List ℕ) {n : ℕ} (is : n ≡ countOf line) where
@@ -101,44 +87,27 @@ module _ (line w : List ℕ) {f : ℕ} (is : f ≡ pointFault line) where
   pub pointed-is : f ≡ 0 → w ≡ pointed line w
   pointed-is e = sym (ap (λ b. cond b w (wrongText (pointFault line))) (eq-eqb (pointFault line) 0 (sym is ∙ e)))
 
--- ---- remainder
-pub remaindered-is : (x : Reply ℕ) → remainderedLine (remainderedOf x) ≡ remainderedText x
+remaindered-is : (x : Reply ℕ) → remainderedLine (remainderedOf x) ≡ remainderedText x
 remaindered-is (gives n) = refl
 remaindered-is (refuses e s p) = refl
 
-module _ (tables line : List ℕ) where
-  pub remainder-faulty : {f : ℕ} → f ≡ pointFault line → (f ≡ 0 → ⊥) → wrongText f ≡ remainderLine tables line
-  remainder-faulty e h = pointed-not line (remainderedText (remainderReply (fieldOf line 1) tables (fieldOf line 2) (pointOf line))) e h
+-- the point is the first e of the five numbers
+module _ (line : List ℕ) {five : List ℤ} {e : ℕ} (five-is : five ≡ fiveOf line) (e-is : e ≡ min (countOf line - 3) 5) where
+  pub point-length : e ≡ length (take e five)
+  point-length = sym (length-take-le e five (omega (arith, ap length five-is)))
 
+  point-is : take e five ≡ pointOf line
+  point-is = ap (λ k. take k five) e-is ∙ ap (take (min (countOf line - 3) 5)) five-is
+
+  -- the answer of a call g that replies a remainder there
   pub remainder-fields :
-      {f : ℕ} {row s : List ℕ} {N : List ℤ} {x : Remaindered} →
-      f ≡ pointFault line → f ≡ 0 → row ≡ fieldOf line 1 → s ≡ fieldOf line 2 → N ≡ pointOf line → x ≡ remainderedOf (remainderReply row tables s N) →
-      remainderedLine x ≡ remainderLine tables line
-  remainder-fields {f} {row} {s} {N} {x} e h r t p a =
+      (g : List ℕ → List ℕ → List ℤ → Reply ℕ) {f : ℕ} {row s : List ℕ} {x : Remaindered} →
+      f ≡ pointFault line → f ≡ 0 → row ≡ fieldOf line 1 → s ≡ fieldOf line 2 → x ≡ remainderedOf (g row s (take e five)) →
+      remainderedLine x ≡ pointed line (remainderedText (g (fieldOf line 1) (fieldOf line 2) (pointOf line)))
+  remainder-fields g {f} {row} {s} {x} i h r t a =
       ap remainderedLine a
-      ∙ remaindered-is (remainderReply row tables s N)
-      ∙ ap (λ v. remainderedText (remainderReply v tables s N)) r
-      ∙ ap (λ v. remainderedText (remainderReply (fieldOf line 1) tables v N)) t
-      ∙ ap (λ v. remainderedText (remainderReply (fieldOf line 1) tables (fieldOf line 2) v)) p
-      ∙ pointed-is line (remainderedText (remainderReply (fieldOf line 1) tables (fieldOf line 2) (pointOf line))) e h
-
--- ---- word by word, into a buffer of n bytes; v is the word, and each Boolean whether it is the one that is asked for
-module _ (n : ℕ) (tables line : List ℕ) (long : 65540 ≤ n) {v : List ℕ} (is : v ≡ fieldOf line 0) where
-  abbrev Tells : Bool → List ℕ → Type 0
-  Tells b word = (b ≡ true → v ≡ word) × (v ≡ word → b ≡ true)
-
-  module _ {form : Bool} (form-told : Tells form (bytes "form")) where
-    pub answers-form : form ≡ true → formLine tables line ≡ answerIn n tables line
-    unfolding lineAnswer
-    answers-form e = asks-is line (bytes "form") (formLine tables line) _ is form-told e ∙ answer-some n tables line long
-
-    module _ (no-form : form ≡ false) {remainder : Bool} (remainder-told : Tells remainder (bytes "remainder")) where
-      after-form : {w : List ℕ} → w ≡ asks line (bytes "remainder") (remainderLine tables line) (wrongText 0) → w ≡ answerIn n tables line
-      unfolding lineAnswer
-      after-form e = e ∙ asks-not line (bytes "form") (formLine tables line) _ is form-told no-form ∙ answer-some n tables line long
-
-      pub answers-remainder : remainder ≡ true → remainderLine tables line ≡ answerIn n tables line
-      answers-remainder e = after-form (asks-is line (bytes "remainder") (remainderLine tables line) (wrongText 0) is remainder-told e)
-
-      pub answers-none : remainder ≡ false → wrongText 0 ≡ answerIn n tables line
-      answers-none e = after-form (asks-not line (bytes "remainder") (remainderLine tables line) (wrongText 0) is remainder-told e)
+      ∙ remaindered-is (g row s (take e five))
+      ∙ ap (λ v. remainderedText (g v s (take e five))) r
+      ∙ ap (λ v. remainderedText (g (fieldOf line 1) v (take e five))) t
+      ∙ ap (λ v. remainderedText (g (fieldOf line 1) (fieldOf line 2) v)) point-is
+      ∙ pointed-is line (remainderedText (g (fieldOf line 1) (fieldOf line 2) (pointOf line))) i h

@@ -1,3 +1,4 @@
--- What a request line is answered with.
+-- What the answers to request lines share.
 pub mod Serving
 pub mod Laws
+pub mod Texts

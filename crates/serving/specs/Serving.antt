@@ -1,31 +1,37 @@
--- What a request line is answered with, word by word.
+-- What the answers to request lines share: how many fields are wanted, numbers and coordinates in fields, and the line of a remainder.
 use mathlib.Core.Bool.{Bool, true, false, cond}
-use mathlib.Core.List.{List, [], _∷_, _++_}
-use Prim.Native.Nat.{ℕ, _+_, _-_, min}
-use Prim.Native.String.{String}
-use lib.Dec.{eqb, leb, ltb}
+use mathlib.Core.List.{List, [], _∷_}
+use Prim.Native.Nat.{ℕ, suc, _+_, _-_, min}
+use lib.Dec.{eqb, ltb}
 use lib.IntN.{ℤ}
 use lib.ListN.{take}
-use Rattle.texts.specs.definitions.Bytes.{bytes, same}
+use Rattle.texts.specs.definitions.Bytes.{same}
 use Rattle.calls.specs.definitions.Reply.{Reply, gives, refuses}
-use Rattle.calls.specs.definitions.Terms.{formReply, remainderReply}
-use Rattle.fields.specs.Fields.{fieldOf, restOf, countOf, signedOf, coordinateOf, coordinatesOf}
-use Rattle.replying.specs.Replying.{wrongText, refusedText, resultText, remainderText}
+use Rattle.fields.specs.Fields.{fieldOf, restOf, countOf, naturalOf, signedOf, coordinateOf, coordinatesOf}
+use Rattle.fields.specs.declared.Number.{Number}
+use Rattle.fields.specs.declared.Number.the-variants.{Is, Wrong}
+use Rattle.replying.specs.Replying.{wrongText, refusedText, remainderText}
 use Rattle.opening.specs.Opening.{told}
 use Rattle.remaindering.specs.declared.Remaindered.{Remaindered}
 use Rattle.remaindering.specs.declared.Remaindered.the-variants.{Remainder, Refused}
-
--- a request of k fields: w, or the number of the first field that is missing or too many
-abbrev pub counted : ℕ → List ℕ → List ℕ → List ℕ
-counted k line w = cond (eqb (countOf line) k) w (wrongText (min (countOf line) k))
 
 -- w where the line's word is the one that is named, else what comes after
 abbrev pub asks : List ℕ → List ℕ → List ℕ → List ℕ → List ℕ
 asks line word w after = cond (same (fieldOf line 0) word) w after
 
--- `form ROW TERM`, with work tables of these lengths
-abbrev pub formLine : List ℕ → List ℕ → List ℕ
-formLine tables line = counted 3 line (resultText (formReply (fieldOf line 1) tables (fieldOf line 2) 65535))
+-- a request of k fields: w, or the number of the first field that is missing or too many
+abbrev pub counted : ℕ → List ℕ → List ℕ → List ℕ
+counted k line w = cond (eqb (countOf line) k) w (wrongText (min (countOf line) k))
+
+-- ---- a request whose field k is a number of 32 bits
+-- w of the number, or that field k is wrong
+abbrev pub numberOr : ℕ → (ℕ → List ℕ) → Number → List ℕ
+numberOr k w (Is m) = w m
+numberOr k w Wrong = wrongText k
+
+-- the same where the line has a field k; else the number of the first field that is missing
+abbrev pub numbered : ℕ → List ℕ → (ℕ → List ℕ) → List ℕ
+numbered k line w = cond (ltb (countOf line) (suc k)) (wrongText (countOf line)) (numberOr k w (naturalOf (fieldOf line k)))
 
 -- ---- a request with coordinates, from field 3 on
 -- the first wrong field: one that is missing, or one that is no coordinate; 0 where none is
@@ -46,10 +52,11 @@ fiveOf line =
 abbrev pub pointOf : List ℕ → List ℤ
 pointOf line = take (min (countOf line - 3) 5) (fiveOf line)
 
+-- w, or the number of the first wrong field
 abbrev pub pointed : List ℕ → List ℕ → List ℕ
 pointed line w = cond (eqb (pointFault line) 0) w (wrongText (pointFault line))
 
--- the line of a remainder
+-- ---- the line of a remainder
 abbrev pub remainderedText : Reply ℕ → List ℕ
 remainderedText (gives n) = remainderText n
 remainderedText (refuses e s p) = refusedText e (told s) p
@@ -58,16 +65,3 @@ remainderedText (refuses e s p) = refusedText e (told s) p
 abbrev pub remainderedLine : Remaindered → List ℕ
 remainderedLine (Remainder n) = remainderText n
 remainderedLine (Refused e s p) = refusedText e s p
-
--- `remainder ROW TERM X1 ..`
-abbrev pub remainderLine : List ℕ → List ℕ → List ℕ
-remainderLine tables line = pointed line (remainderedText (remainderReply (fieldOf line 1) tables (fieldOf line 2) (pointOf line)))
-
--- ----
--- the answer to a line
-unfoldable pub lineAnswer : List ℕ → List ℕ → List ℕ
-lineAnswer tables line = asks line (bytes "form") (formLine tables line) (asks line (bytes "remainder") (remainderLine tables line) (wrongText 0))
-
--- the same into a buffer of n bytes: nothing where these are fewer than `FORM ` and a result of 65,535 bytes may take
-abbrev pub answerIn : ℕ → List ℕ → List ℕ → List ℕ
-answerIn n tables line = cond (leb 65540 n) (lineAnswer tables line) []
