@@ -52,21 +52,34 @@ module _ (tables line : List ℕ) {v : List ℕ} (is : v ≡ fieldOf line 0) {r 
     module _ (no-form : form ≡ false) {remainder : Bool} (remainder-told : Tells v remainder (bytes "remainder")) where
       pub remainder-word : remainder ≡ true → Wrote r (remainderLine tables line) old new → Wrote r (termsAnswer tables line) old new
       unfolding termsAnswer
-      remainder-word e h = another line is (bytes "form") form-told _ _ no-form (this-word line is (bytes "remainder") remainder-told _ _ e h)
+      remainder-word e h =
+          another line is (bytes "form") form-told _ _ no-form
+          (this-word line is (bytes "remainder") remainder-told _ _ e h)
 
       module _ (no-remainder : remainder ≡ false) {compare : Bool} (compare-told : Tells v compare (bytes "compare")) where
         pub compare-word : compare ≡ true → Wrote r (compareLine tables line) old new → Wrote r (termsAnswer tables line) old new
         unfolding termsAnswer
-        compare-word e h = another line is (bytes "form") form-told _ _ no-form (another line is (bytes "remainder") remainder-told _ _ no-remainder (this-word line is (bytes "compare") compare-told _ _ e h))
+        compare-word e h =
+            another line is (bytes "form") form-told _ _ no-form
+            (another line is (bytes "remainder") remainder-told _ _ no-remainder
+            (this-word line is (bytes "compare") compare-told _ _ e h))
 
         module _ (no-compare : compare ≡ false) {counters : Bool} (counters-told : Tells v counters (bytes "counters")) where
           pub counters-word : counters ≡ true → Wrote r (countersLine tables line) old new → Wrote r (termsAnswer tables line) old new
           unfolding termsAnswer
-          counters-word e h = another line is (bytes "form") form-told _ _ no-form (another line is (bytes "remainder") remainder-told _ _ no-remainder (another line is (bytes "compare") compare-told _ _ no-compare (this-word line is (bytes "counters") counters-told _ _ e h)))
+          counters-word e h =
+              another line is (bytes "form") form-told _ _ no-form
+              (another line is (bytes "remainder") remainder-told _ _ no-remainder
+              (another line is (bytes "compare") compare-told _ _ no-compare
+              (this-word line is (bytes "counters") counters-told _ _ e h)))
 
           pub no-term-word : counters ≡ false → Wrote r (wrongText 0) old new → Wrote r (termsAnswer tables line) old new
           unfolding termsAnswer
-          no-term-word no-counters h = another line is (bytes "form") form-told _ _ no-form (another line is (bytes "remainder") remainder-told _ _ no-remainder (another line is (bytes "compare") compare-told _ _ no-compare (another line is (bytes "counters") counters-told _ _ no-counters h)))
+          no-term-word no-counters h =
+              another line is (bytes "form") form-told _ _ no-form
+              (another line is (bytes "remainder") remainder-told _ _ no-remainder
+              (another line is (bytes "compare") compare-told _ _ no-compare
+              (another line is (bytes "counters") counters-told _ _ no-counters h)))
 
 -- ---- the operations whose results are measured, one test after the other
 module _ (tables line : List ℕ) {v : List ℕ} (is : v ≡ fieldOf line 0) {r : ℕ} {old new : List ℕ} where
@@ -78,16 +91,24 @@ module _ (tables line : List ℕ) {v : List ℕ} (is : v ≡ fieldOf line 0) {r 
     module _ (no-add : add ≡ false) {multiply : Bool} (multiply-told : Tells v multiply (bytes "multiply")) where
       pub multiply-word : multiply ≡ true → Wrote r (multiplyLine tables line) old new → Wrote r (operationsAnswer tables line) old new
       unfolding operationsAnswer
-      multiply-word e h = another line is (bytes "add") add-told _ _ no-add (this-word line is (bytes "multiply") multiply-told _ _ e h)
+      multiply-word e h =
+          another line is (bytes "add") add-told _ _ no-add
+          (this-word line is (bytes "multiply") multiply-told _ _ e h)
 
       module _ (no-multiply : multiply ≡ false) {raise : Bool} (raise-told : Tells v raise (bytes "raise")) where
         pub raise-word : raise ≡ true → Wrote r (raiseLine tables line) old new → Wrote r (operationsAnswer tables line) old new
         unfolding operationsAnswer
-        raise-word e h = another line is (bytes "add") add-told _ _ no-add (another line is (bytes "multiply") multiply-told _ _ no-multiply (this-word line is (bytes "raise") raise-told _ _ e h))
+        raise-word e h =
+            another line is (bytes "add") add-told _ _ no-add
+            (another line is (bytes "multiply") multiply-told _ _ no-multiply
+            (this-word line is (bytes "raise") raise-told _ _ e h))
 
         pub no-operation : raise ≡ false → Wrote r (termsAnswer tables line) old new → Wrote r (operationsAnswer tables line) old new
         unfolding operationsAnswer
-        no-operation no-raise h = another line is (bytes "add") add-told _ _ no-add (another line is (bytes "multiply") multiply-told _ _ no-multiply (another line is (bytes "raise") raise-told _ _ no-raise h))
+        no-operation no-raise h =
+            another line is (bytes "add") add-told _ _ no-add
+            (another line is (bytes "multiply") multiply-told _ _ no-multiply
+            (another line is (bytes "raise") raise-told _ _ no-raise h))
 
 -- ---- the other words on forms, one test after the other
 module _ (tables line : List ℕ) {v : List ℕ} (is : v ≡ fieldOf line 0) {r : ℕ} {old new : List ℕ} where
@@ -99,13 +120,21 @@ module _ (tables line : List ℕ) {v : List ℕ} (is : v ≡ fieldOf line 0) {r 
     module _ (no-judge : judge ≡ false) {negate : Bool} (negate-told : Tells v negate (bytes "negate")) where
       pub negate-word : negate ≡ true → Wrote r (negateLine tables line) old new → Wrote r (lineAnswer tables line) old new
       unfolding lineAnswer
-      negate-word e h = another line is (bytes "judge") judge-told _ _ no-judge (this-word line is (bytes "negate") negate-told _ _ e h)
+      negate-word e h =
+          another line is (bytes "judge") judge-told _ _ no-judge
+          (this-word line is (bytes "negate") negate-told _ _ e h)
 
       module _ (no-negate : negate ≡ false) {form-remainder : Bool} (form-remainder-told : Tells v form-remainder (bytes "formremainder")) where
         pub form-remainder-word : form-remainder ≡ true → Wrote r (formRemainderLine tables line) old new → Wrote r (lineAnswer tables line) old new
         unfolding lineAnswer
-        form-remainder-word e h = another line is (bytes "judge") judge-told _ _ no-judge (another line is (bytes "negate") negate-told _ _ no-negate (this-word line is (bytes "formremainder") form-remainder-told _ _ e h))
+        form-remainder-word e h =
+            another line is (bytes "judge") judge-told _ _ no-judge
+            (another line is (bytes "negate") negate-told _ _ no-negate
+            (this-word line is (bytes "formremainder") form-remainder-told _ _ e h))
 
         pub no-form-word : form-remainder ≡ false → Wrote r (operationsAnswer tables line) old new → Wrote r (lineAnswer tables line) old new
         unfolding lineAnswer
-        no-form-word no-form-remainder h = another line is (bytes "judge") judge-told _ _ no-judge (another line is (bytes "negate") negate-told _ _ no-negate (another line is (bytes "formremainder") form-remainder-told _ _ no-form-remainder h))
+        no-form-word no-form-remainder h =
+            another line is (bytes "judge") judge-told _ _ no-judge
+            (another line is (bytes "negate") negate-told _ _ no-negate
+            (another line is (bytes "formremainder") form-remainder-told _ _ no-form-remainder h))

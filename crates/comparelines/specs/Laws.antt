@@ -18,9 +18,9 @@ use Rattle.replying.specs.Replying.{wrongText, differentText}
 use Rattle.serving.specs.Laws.{counted-is, counted-not, three-fields, numbered-is}
 use Rattle.comparing.specs.Comparing.{comparedOf}
 use Rattle.comparing.specs.declared.Compared.{Compared}
+use Rattle.comparing.specs.laws.Sized.{Sized, alike, apart, refusal, compare-sized}
 use Rattle.countering.specs.Countering.{countedOf}
 use Rattle.countering.specs.declared.Counted.{Counted}
-use Rattle.booklines.specs.laws.Texts.{Sized, alike, apart, refusal, compare-sized}
 use Rattle.comparelines.specs.Comparelines.{comparedText, comparedLine, compareLine, countedText, countedLine, countersBy, countersLine}
 
 -- ---- compare

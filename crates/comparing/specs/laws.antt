@@ -3,3 +3,4 @@ pub mod Verdict
 pub mod Told
 pub mod Pairs
 pub mod Whole
+pub mod Sized
