@@ -12,18 +12,14 @@ build() { # build NAME: NAME.c to $work/NAME
         cc -O2 -Wall -Wextra -Werror -o "$work/$1" "$1.c" "$library"
     else
         local tools=$kit/on/$(uname -m)/toolchain
-        "$tools/bin/clang" --target=x86_64-linux-gnu -O2 -fPIE -isystem "/usr/include/$(uname -m)-linux-gnu" -c "$1.c" -o "$work/$1.o"
+        # the kit's clang has no headers of its own: those of the machine's compiler and C library serve
+        "$tools/bin/clang" --target=x86_64-linux-gnu -O2 -fPIE -isystem "$(cc -print-file-name=include)" -isystem "/usr/include/$(uname -m)-linux-gnu" -c "$1.c" -o "$work/$1.o"
         "$kit/on/$(uname -m)/bin/rattle-link" --target x86_64-unknown-linux-gnu --toolchain "$tools" -o "$work/$1" "$work/$1.o" "$library"
     fi
 }
 
 run() { # run PROGRAM WORDS
-    if [ "$(uname -m)" = x86_64 ]; then
-        "$@"
-    else
-        local tools=$kit/on/$(uname -m)/toolchain
-        "$tools/bin/qemu-x86_64" "$tools/lib/ld-linux-x86-64.so.2" --library-path "$tools/lib" "$@"
-    fi
+    bash ../tools/on-x86.sh "$@"
 }
 
 expect() { # expect STATUS LINE ROW LEFT RIGHT

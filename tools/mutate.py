@@ -1,5 +1,5 @@
 #!/usr/bin/env python3
-"""mutate.py SEED COUNT: puts COUNT small faults into the sources of all crates, one at a time, in a copy of the repository, and says of each whether the prover refuses it, only
+"""mutate.py SEED COUNT [CRATE ..]: puts COUNT small faults into the sources of all crates, or of those named, one at a time, in a copy of the repository, and says of each whether the prover refuses it, only
 the tests find it, or it lives. Needs a repository in which every crate is proved (rt check). A fault that is no program is passed over and counted apart."""
 import os, random, re, shutil, subprocess, sys, tempfile
 
@@ -47,12 +47,12 @@ def faults_of(path):
     return found
 
 
-def choose(root, seed, count):
+def choose(root, seed, count, only):
     """The crates in turn, each time another fault of the crate, until there are enough."""
     dice = random.Random(seed)
     left = {}
     for crate in sorted(os.listdir(os.path.join(root, "crates"))):
-        if crate == "trials":  # itself a test
+        if crate == "trials" or (only and crate not in only):  # the trials are a test themselves
             continue
         folder = os.path.join(root, "crates", crate, "src")
         files = sorted(os.listdir(folder)) if os.path.isdir(folder) else []
@@ -82,7 +82,7 @@ def prover(tree, chosen):
         os.makedirs(folder, exist_ok=True)
         with open(os.path.join(folder, "fault_%03d.edit" % number), "w", encoding="utf-8") as edit:
             edit.write("file: %s\nold: %s\nnew: %s\n" % (name, old, new))
-    said = subprocess.run(["rt", "must-fail"], cwd=tree, capture_output=True, text=True).stdout
+    said = subprocess.run(["rt", "must-fail"] + sorted({fault[0] for fault in chosen}), cwd=tree, capture_output=True, text=True).stdout
     for crate in {fault[0] for fault in chosen}:
         shutil.rmtree(os.path.join(tree, "crates", crate, "must-fail"))
     verdicts = {}
@@ -108,7 +108,7 @@ def tests_find(tree, fault):
 def main():
     seed, count = int(sys.argv[1]), int(sys.argv[2])
     root = os.path.dirname(os.path.dirname(os.path.abspath(__file__)))
-    chosen = choose(root, seed, count)
+    chosen = choose(root, seed, count, sys.argv[3:])
     work, tree = copy_of(root)
     verdicts = prover(tree, chosen)
     counts = {}

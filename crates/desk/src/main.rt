@@ -10,20 +10,16 @@ fn keep(b: u8, fill: usize, line: &mut [u8]) -> usize {
 }
 
 // Answers the request of the first fill bytes. A line that is too long is a wrong request.
-fn answer(
-    fill: usize,
-    line: &[u8],
-    out: &mut [u8],
-    a: &mut [u32],
-    b: &mut [u32],
-    c: &mut [u32],
-    d: &mut [u32],
-) {
+fn answer(fill: usize, line: &[u8], out: &mut [u8]) {
     if line.len() < fill {
         io::write_all(1, b"? 0\n");
         return;
     }
-    let n = asking::answer_line(&line[..fill], out, a, b, c, d);
+    let mut a = [0u32; 16384];
+    let mut b = [0u32; 16384];
+    let mut c = [0u32; 16384];
+    let mut d = [0u32; 16384];
+    let n = asking::answer_line(&line[..fill], out, &mut a, &mut b, &mut c, &mut d);
     if n < out.len() {
         let e = n + 1;
         out[n] = b'\n';
@@ -32,53 +28,27 @@ fn answer(
 }
 
 // Goes on with one byte of the input: a line feed ends the line, which is answered. Returns how many bytes of an unfinished line are kept.
-fn take_byte(
-    x: u8,
-    fill: usize,
-    line: &mut [u8],
-    out: &mut [u8],
-    a: &mut [u32],
-    b: &mut [u32],
-    c: &mut [u32],
-    d: &mut [u32],
-) -> usize {
+fn take_byte(x: u8, fill: usize, line: &mut [u8], out: &mut [u8]) -> usize {
     if x == b'\n' {
-        answer(fill, line, out, a, b, c, d);
+        answer(fill, line, out);
         return 0;
     }
     keep(x, fill, line)
 }
 
 // Goes on with the bytes of a piece of the input.
-fn take_piece(
-    piece: &[u8],
-    kept: usize,
-    line: &mut [u8],
-    out: &mut [u8],
-    a: &mut [u32],
-    b: &mut [u32],
-    c: &mut [u32],
-    d: &mut [u32],
-) -> usize {
+fn take_piece(piece: &[u8], kept: usize, line: &mut [u8], out: &mut [u8]) -> usize {
     let mut fill = kept;
     let mut i = 0;
     while i < piece.len() {
-        fill = take_byte(piece[i], fill, line, out, a, b, c, d);
+        fill = take_byte(piece[i], fill, line, out);
         i += 1;
     }
     fill
 }
 
 // Reads to the end of the input. A proved loop has to end, and nothing says that an input does, so the loop counts its turns down from a number that no run uses up.
-fn serve(
-    piece: &mut [u8],
-    line: &mut [u8],
-    out: &mut [u8],
-    a: &mut [u32],
-    b: &mut [u32],
-    c: &mut [u32],
-    d: &mut [u32],
-) {
+fn serve(piece: &mut [u8], line: &mut [u8], out: &mut [u8]) {
     let mut turns = u64::MAX;
     let mut fill = 0;
     while turns > 0 {
@@ -87,11 +57,11 @@ fn serve(
         if n == 0 {
             break;
         }
-        fill = take_piece(&piece[..n], fill, line, out, a, b, c, d);
+        fill = take_piece(&piece[..n], fill, line, out);
         turns -= 1;
     }
     if 0 < fill {
-        answer(fill, line, out, a, b, c, d);
+        answer(fill, line, out);
     }
 }
 
@@ -99,17 +69,5 @@ fn main() {
     let mut piece = [0u8; 65536];
     let mut line = [0u8; 140000];
     let mut out = [0u8; 65541];
-    let mut a = [0u32; 16384];
-    let mut b = [0u32; 16384];
-    let mut c = [0u32; 16384];
-    let mut d = [0u32; 16384];
-    serve(
-        &mut piece,
-        &mut line,
-        &mut out,
-        &mut a,
-        &mut b,
-        &mut c,
-        &mut d,
-    );
+    serve(&mut piece, &mut line, &mut out);
 }

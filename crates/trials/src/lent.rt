@@ -96,21 +96,3 @@ pub fn given(k: u32, refused: u32, text: &[u8]) -> &[u8] {
     let n = cut(k, refused, text.len());
     &text[..n]
 }
-
-// A table or a point full of one number.
-pub fn fill(x: u32, t: &mut [u32]) {
-    let mut i = 0;
-    while i < t.len() {
-        t[i] = x;
-        i += 1;
-    }
-}
-
-// A result buffer full of points.
-pub fn blank(result: &mut [u8]) {
-    let mut i = 0;
-    while i < result.len() {
-        result[i] = b'.';
-        i += 1;
-    }
-}

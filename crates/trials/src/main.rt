@@ -5,8 +5,6 @@ mod saying;
 mod telling_tries;
 mod writing_tries;
 
-use crate::lent::blank;
-use crate::lent::fill;
 use crate::lent::given;
 use crate::lent::letters;
 use crate::lent::words;
@@ -36,26 +34,6 @@ fn try_lent(
         return say_written(try_writing(call, k, row, result, a, b, c, d));
     }
     try_telling(call, k, row, at, point, a, b, c, d);
-}
-
-// The front of the line, and the buffers as they are before each call: tables full of ones.
-fn prepare(
-    call: u32,
-    k: u32,
-    result: &mut [u8],
-    point: &mut [u32],
-    a: &mut [u32],
-    b: &mut [u32],
-    c: &mut [u32],
-    d: &mut [u32],
-) {
-    begin(call, k);
-    blank(result);
-    fill(7, point);
-    fill(u32::MAX, a);
-    fill(u32::MAX, b);
-    fill(u32::MAX, c);
-    fill(u32::MAX, d);
 }
 
 // The call in try k, on the parts that it is lent.
@@ -91,21 +69,27 @@ fn try_parts(
 }
 
 // One call in try k, from tables full of ones to what it left.
-fn try_call(
-    call: u32,
-    k: u32,
-    row: &[u8],
-    at: &[i32],
-    result: &mut [u8],
-    point: &mut [u32],
-    a: &mut [u32],
-    b: &mut [u32],
-    c: &mut [u32],
-    d: &mut [u32],
-) {
-    prepare(call, k, result, point, a, b, c, d);
-    try_parts(call, k, row, at, result, point, a, b, c, d);
-    end(result, point, a, b, c, d);
+fn try_call(call: u32, k: u32, row: &[u8], at: &[i32]) {
+    let mut result = [b'.'; 64];
+    let mut point = [7u32; 3];
+    let mut a = [u32::MAX; 16391];
+    let mut b = [u32::MAX; 16391];
+    let mut c = [u32::MAX; 16391];
+    let mut d = [u32::MAX; 16391];
+    begin(call, k);
+    try_parts(
+        call,
+        k,
+        row,
+        at,
+        &mut result,
+        &mut point,
+        &mut a,
+        &mut b,
+        &mut c,
+        &mut d,
+    );
+    end(&result, &point, &a, &b, &c, &d);
 }
 
 // `judge`, which takes no tables.
@@ -126,39 +110,15 @@ fn try_judges(row: &[u8]) {
 }
 
 // Every other call in every try: nine calls to a try.
-fn try_calls(
-    row: &[u8],
-    at: &[i32],
-    result: &mut [u8],
-    point: &mut [u32],
-    a: &mut [u32],
-    b: &mut [u32],
-    c: &mut [u32],
-    d: &mut [u32],
-) {
+fn try_calls(row: &[u8], at: &[i32]) {
     let mut turn = 0;
     while turn < 9 * TRIES {
-        try_call(turn % 9, turn / 9, row, at, result, point, a, b, c, d);
+        try_call(turn % 9, turn / 9, row, at);
         turn += 1;
     }
 }
 
 fn main() {
-    let mut result = [0u8; 64];
-    let mut point = [0u32; 3];
-    let mut a = [0u32; 16391];
-    let mut b = [0u32; 16391];
-    let mut c = [0u32; 16391];
-    let mut d = [0u32; 16391];
-    try_calls(
-        b"XYABC",
-        &[-3, 2, 5],
-        &mut result,
-        &mut point,
-        &mut a,
-        &mut b,
-        &mut c,
-        &mut d,
-    );
+    try_calls(b"XYABC", &[-3, 2, 5]);
     try_judges(b"XYABC");
 }

@@ -19,15 +19,18 @@ pub fn dirty(t: &[u32]) -> u64 {
     n
 }
 
-pub fn say_refused(number: u32, side: Side, place: usize) {
-    io::write_all(1, b"REFUSED ");
-    io::print_decimal(1, number as u64);
+fn say_side(side: Side) -> bool {
     match side {
         Side::Left => io::write_all(1, b" left "),
         Side::Right => io::write_all(1, b" right "),
         Side::Neither => io::write_all(1, b" neither "),
     }
-    ;
+}
+
+pub fn say_refused(number: u32, side: Side, place: usize) {
+    io::write_all(1, b"REFUSED ");
+    io::print_decimal(1, number as u64);
+    say_side(side);
     io::print_decimal(1, place as u64);
 }
 

@@ -11,60 +11,44 @@ use Rattle.desk.proofs.take_piece.Lts as lts
 use Rattle.desk.proofs.take_byte.Reads as take-byte-reads
 
 abbrev Inv-loop : tie.InvT-loop
-Inv-loop piece kept line₀ out₀ a₀ b₀ c₀ d₀ fill₀ i₀ line out a b c d fill i = (i ≤ length piece) × (length line ≡ length line₀) × (length out ≡ length out₀) × (length a ≡ length a₀) × (length b ≡ length b₀) × (length c ≡ length c₀) × (length d ≡ length d₀)
+Inv-loop piece kept line₀ out₀ fill₀ i₀ line out fill i = (i ≤ length piece) × (length line ≡ length line₀) × (length out ≡ length out₀)
 
 abbrev μ-loop : tie.MeasureT-loop
-μ-loop piece kept line₀ out₀ a₀ b₀ c₀ d₀ fill₀ i₀ line out a b c d fill i = length piece - i
+μ-loop piece kept line₀ out₀ fill₀ i₀ line out fill i = length piece - i
 
--- src/main.rt:65:5
+-- src/main.rt:43:5
 loop-holds : tie.Need-loop-holds Inv-loop μ-loop
 loop-holds c = omega arith
 
--- src/main.rt:66:26
+-- src/main.rt:44:26
 shared-slice-read-take-byte : tie.Need-shared-slice-read-take-byte Inv-loop μ-loop
 shared-slice-read-take-byte c = omega arith
 
--- src/main.rt:66:9
+-- src/main.rt:44:9
 take-byte-requires : tie.Need-take-byte-requires Inv-loop μ-loop
 take-byte-requires c κs = search needs
 
--- src/main.rt:67:9
+-- src/main.rt:45:9
 add-i : tie.Need-add-i Inv-loop μ-loop
 add-i c = omega arith
 
--- src/main.rt:65:5
+-- src/main.rt:43:5
 loop-less : tie.Need-loop-less Inv-loop μ-loop
 loop-less c = omega arith
 
--- src/main.rt:65:5
+-- src/main.rt:43:5
 loop-again : tie.Need-loop-again Inv-loop μ-loop
 loop-again c = omega arith
 
--- src/main.rt:53:1
+-- src/main.rt:40:1
 same-length : tie.Need-same-length Inv-loop μ-loop
 same-length c = search needs
 
--- src/main.rt:53:1
+-- src/main.rt:40:1
 same-length-2 : tie.Need-same-length-2 Inv-loop μ-loop
 same-length-2 c = search needs
 
--- src/main.rt:53:1
-same-length-3 : tie.Need-same-length-3 Inv-loop μ-loop
-same-length-3 c = search needs
-
--- src/main.rt:53:1
-same-length-4 : tie.Need-same-length-4 Inv-loop μ-loop
-same-length-4 c = search needs
-
--- src/main.rt:53:1
-same-length-5 : tie.Need-same-length-5 Inv-loop μ-loop
-same-length-5 c = search needs
-
--- src/main.rt:53:1
-same-length-6 : tie.Need-same-length-6 Inv-loop μ-loop
-same-length-6 c = search needs
-
--- src/main.rt:53:1
+-- src/main.rt:40:1
 returns : tie.Need-returns Inv-loop μ-loop
 returns c = search needs
 
@@ -82,8 +66,4 @@ take-piece-spec =
     loop-again
     same-length
     same-length-2
-    same-length-3
-    same-length-4
-    same-length-5
-    same-length-6
     returns)

@@ -1,8 +1,6 @@
--- `trials::try_calls` makes 108 calls. The invariant: no buffer changes its length.
-use mathlib.Core.Path.{_≡_}
+-- `trials::try_calls` makes 108 calls.
 use Prim.Native.Nat.{_≤_, _-_}
 use native.Mathlib.Omega.{arith}
-use lib.ListN.{length}
 use borrow.Author.Needs.{needs}
 use Rattle.trials.proofs.try_calls.Statement.{statement}
 use Rattle.trials.proofs.try_calls.Tie as tie
@@ -11,61 +9,36 @@ use Rattle.trials.proofs.try_calls.Lts as lts
 use Rattle.trials.proofs.try_call.Reads as try-call-reads
 
 abbrev Inv-loop : tie.InvT-loop
-Inv-loop row at result₀ point₀ a₀ b₀ c₀ d₀ turn₀ result point a b c d turn =
-    (turn ≤ 108) × (length result ≡ length result₀) × (length point ≡ length point₀) × (length a ≡ length a₀) × (length b ≡ length b₀) × (length c ≡ length c₀) × (length d ≡ length d₀)
+Inv-loop row at turn₀ turn = turn ≤ 108
 
 abbrev μ-loop : tie.MeasureT-loop
-μ-loop row at result₀ point₀ a₀ b₀ c₀ d₀ turn₀ result point a b c d turn = 108 - turn
+μ-loop row at turn₀ turn = 108 - turn
 
--- src/main.rt:136:5
+-- src/main.rt:115:5
 loop-holds : tie.Need-loop-holds Inv-loop μ-loop
 loop-holds c = omega arith
 
--- src/main.rt:136:18
+-- src/main.rt:115:18
 mul-loop : tie.Need-mul-loop Inv-loop μ-loop
 mul-loop c = search needs
 
--- src/main.rt:137:9
+-- src/main.rt:116:9
 try-call-requires : tie.Need-try-call-requires Inv-loop μ-loop
 try-call-requires c κs = search needs
 
--- src/main.rt:138:9
+-- src/main.rt:117:9
 add-turn : tie.Need-add-turn Inv-loop μ-loop
 add-turn c = omega arith
 
--- src/main.rt:136:5
+-- src/main.rt:115:5
 loop-less : tie.Need-loop-less Inv-loop μ-loop
 loop-less c = omega arith
 
--- src/main.rt:136:5
+-- src/main.rt:115:5
 loop-again : tie.Need-loop-again Inv-loop μ-loop
 loop-again c = omega arith
 
--- src/main.rt:125:1
-same-length : tie.Need-same-length Inv-loop μ-loop
-same-length c = search needs
-
--- src/main.rt:125:1
-same-length-2 : tie.Need-same-length-2 Inv-loop μ-loop
-same-length-2 c = search needs
-
--- src/main.rt:125:1
-same-length-3 : tie.Need-same-length-3 Inv-loop μ-loop
-same-length-3 c = search needs
-
--- src/main.rt:125:1
-same-length-4 : tie.Need-same-length-4 Inv-loop μ-loop
-same-length-4 c = search needs
-
--- src/main.rt:125:1
-same-length-5 : tie.Need-same-length-5 Inv-loop μ-loop
-same-length-5 c = search needs
-
--- src/main.rt:125:1
-same-length-6 : tie.Need-same-length-6 Inv-loop μ-loop
-same-length-6 c = search needs
-
--- src/main.rt:125:1
+-- src/main.rt:113:1
 returns : tie.Need-returns Inv-loop μ-loop
 returns c = search needs
 
@@ -81,10 +54,4 @@ try-calls-spec =
     add-turn
     loop-less
     loop-again
-    same-length
-    same-length-2
-    same-length-3
-    same-length-4
-    same-length-5
-    same-length-6
     returns)
