@@ -1,7 +1,6 @@
 -- How many words the product asks of its tables. o, t and u are the lengths of the table that it is written to, and of two for work.
 use mathlib.Core.List.{List}
-use mathlib.Core.Path.{_≡_}
-use Prim.Native.Nat.{ℕ, _+_, _*_, _-_, _/_, _<_, _≤_}
+use Prim.Native.Nat.{ℕ, _+_, _*_, _-_, _<_, _≤_}
 use lib.ListN.{getD}
 use Rattle.horner.specs.definitions.Form.{Form}
 use Rattle.coded.specs.Operations.{popOf}
@@ -47,7 +46,6 @@ pub record CrossSpace (w i : ℕ) (p s : Form (Leaf w)) (o t u : ℕ) : Type 0 w
   pub held : Held w (crossOf w i p s)
   pub tables : Tables (1 + wordsFor n k) (wordsFor (n - 1) 63) o t u
 
--- a code whose head word is a POW's
-pub record PowWord (l : List ℕ) : Type 0 where
-  pub node : 2147483648 ≤ getD l 0 0
-  pub sized : (getD l 0 0 - 2147483648) / 64 ≡ 0 → ⊥
+-- a code whose head word is a POW's: 2,147,483,648, its exponent, and 64 times the words of its p
+abbrev pub PowWord : List ℕ → Type 0
+PowWord l = 2147483712 ≤ getD l 0 0

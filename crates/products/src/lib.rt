@@ -1,5 +1,6 @@
 // The product of two coded forms (Definition 11). `product` goes by the first form's head word. The functions below it take a POP in its parts, its exponent
 // and its p, so that (POP i-j p) and pop(1, s) are never written out. Each writes its result at the front of out and returns its length; t and u are for work.
+// A head word below 2,147,483,648 is a leaf, one below 2,147,483,712 a POP's, any other a POW's.
 ghost use mathlib.Core.Path.{_≡_};
 ghost use Prim.Native.Nat.{_+_, _-_, _<_, _≤_};
 ghost use lib.ListN.{length, take};
@@ -27,8 +28,7 @@ pub fn product(
     if w < 2147483648 {
         return walks::scale(width, w, y, out);
     }
-    let k = ((w - 2147483648) / 64) as usize;
-    if k == 0 {
+    if w < 2147483712 {
         return mul_pop(width, w % 64, &x[1..], y, out, t, u);
     }
     mul_pow(width, x, y, out, t, u)
@@ -52,8 +52,7 @@ fn mul_pop(
     if w < 2147483648 {
         return factors::scale_pop(width, w, i, p, out);
     }
-    let k = ((w - 2147483648) / 64) as usize;
-    if k == 0 {
+    if w < 2147483712 {
         return mul_pops(width, i, p, w % 64, &y[1..], out, t, u);
     }
     mul_pop_pow(width, i, p, y, out, t, u)
@@ -77,8 +76,7 @@ fn mul_any_pop(
     if w < 2147483648 {
         return factors::scale_pop(width, w, i, p, out);
     }
-    let k = ((w - 2147483648) / 64) as usize;
-    if k == 0 {
+    if w < 2147483712 {
         return mul_pops(width, w % 64, &x[1..], i, p, out, t, u);
     }
     mul_pop_pow(width, i, p, x, out, t, u)
@@ -145,8 +143,7 @@ fn mul_pop_pow(
     ensures { λ l. ⌜ Made width (prodOf width (pop i (dec width (now (p .entry)))) (dec width (now (y .entry)))) l (now (out .exit)) ⌝ }
 {
     let w = y[0];
-    let k = ((w - 2147483648) / 64) as usize;
-    let e = 1 + k;
+    let e = 1 + ((w - 2147483648) / 64) as usize;
     let a = mul_pop(width, i, p, &y[1..e], &mut out[1..], t, u);
     let f = 1 + a;
     let b = mul_less(width, i, p, &y[e..], &mut out[f..], t, u);
@@ -185,14 +182,12 @@ fn mul_pow(width: u32, x: &[u32], y: &[u32], out: &mut [u32], t: &mut [u32], u: 
     if w < 2147483648 {
         return walks::scale(width, w, x, out);
     }
-    let k = ((w - 2147483648) / 64) as usize;
-    if k == 0 {
+    if w < 2147483712 {
         return mul_pop_pow(width, w % 64, &y[1..], x, out, t, u);
     }
-    let f = 1 + k;
+    let f = 1 + ((w - 2147483648) / 64) as usize;
     let v = x[0];
-    let c = ((v - 2147483648) / 64) as usize;
-    let e = 1 + c;
+    let e = 1 + ((v - 2147483648) / 64) as usize;
     mul_pows(
         width,
         v % 64,
@@ -310,8 +305,7 @@ fn mul_by_pop(
     if w < 2147483648 {
         return walks::scale(width, w, p, out);
     }
-    let k = ((w - 2147483648) / 64) as usize;
-    if k == 0 {
+    if w < 2147483712 {
         return mul_any_pop(width, p, 1 + w % 64, &s[1..], out, t, u);
     }
     mul_any_pop(width, p, 1, s, out, t, u)

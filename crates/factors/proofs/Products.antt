@@ -8,15 +8,23 @@ use lib.ListN.{length, getD, take, drop, set}
 use lib.Seq.{take-set-le, set-split, drop-at, length-take-le}
 use borrow.Rule.Slice.PartMut.{putMid, take-put}
 use Rattle.horner.specs.definitions.Form.{Form, pop, lower, mkpop}
-use Rattle.coded.specs.Coding.{enc, dec, Good, Codes, Begins}
+use Rattle.coded.specs.Coding.{enc, dec, Good, Coded, Codes, Begins}
 use Rattle.coded.specs.Operations.{popOf, powOf, scaleOf, zeroOf}
 use Rattle.coded.specs.Widths.{Leaf}
 use Rattle.coded.specs.laws.Codes.{IsInt}
-use Rattle.coded.specs.laws.Parts.{inner, first, rest, PopAt, PowAt}
+use Rattle.coded.specs.laws.Parts.{inner, first, rest, PopAt, PowAt, pop-at, pow-at}
 use Rattle.coded.proofs.Making.{zero-codes}
 use Rattle.coded.proofs.Regions.{region-sub}
 use Rattle.fits.specs.Fit.{prodOf}
 use Rattle.fits.specs.laws.Equations.{int-any, any-int, pop-pow, pow-pop}
+
+-- a POP and a POW, by the head word
+module _ {w : ℕ} {l : List ℕ} (c : Coded w l) where
+  pub pop-of-word : 2147483648 ≤ getD l 0 0 → getD l 0 0 < 2147483712 → PopAt w l
+  pop-of-word a b = pop-at c a (omega (arith, a, b))
+
+  pub pow-of-word : 2147483712 ≤ getD l 0 0 → PowAt w l
+  pow-of-word a = pow-at c (omega (arith, a)) (λ e. omega (arith, a, e))
 
 -- (1) and (2)
 module _ {w : ℕ} {h : Form (Leaf w)} {x : ℕ} (v : IsInt w h x) (y : Form (Leaf w)) where

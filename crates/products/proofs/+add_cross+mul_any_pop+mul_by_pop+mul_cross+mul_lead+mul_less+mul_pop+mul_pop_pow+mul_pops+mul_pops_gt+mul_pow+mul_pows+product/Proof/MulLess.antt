@@ -1,0 +1,48 @@
+-- `mul_less` meets its contract, if the calls that it makes do.
+-- Assumes nothing.
+use mathlib.Core.Path.{sym, ap, subst}
+use Prim.Native.Nat.{ℕ, _-_}
+use native.Mathlib.Omega.{arith}
+use lib.ListN.{length}
+use Rattle.coded.specs.Coding.{dec, enc}
+use Rattle.coded.proofs.Lists.{begins-as}
+use Rattle.fits.specs.Fit.{prodOf}
+use Rattle.fits.specs.Tables.{Space}
+use Rattle.fits.specs.laws.Equations.{lower-1, lower-more}
+use Rattle.fits.specs.laws.Tables.{pop-space}
+use borrow.Author.Needs.{needs}
+use Rattle.products.proofs.mul_less.Reads as mul-less
+use Rattle.products.proofs.+add_cross+mul_any_pop+mul_by_pop+mul_cross+mul_lead+mul_less+mul_pop+mul_pop_pow+mul_pops+mul_pops_gt+mul_pow+mul_pows+product.Lts-mul_less as mul-less-lts
+use Rattle.products.proofs.mul_pop.Reads as mul-pop
+use Rattle.products.proofs.product.Reads as product
+use Rattle.products.proofs.+add_cross+mul_any_pop+mul_by_pop+mul_cross+mul_lead+mul_less+mul_pop+mul_pop_pow+mul_pops+mul_pops_gt+mul_pow+mul_pows+product.Proof.Measures.{mul-less-at, mul-pop-below, product-below}
+
+pub mul-less-meets : {M : Type 1} (t : ℕ) →
+    mul-less-lts.Closed (product-below t, product.Post, mul-pop-below t, mul-pop.Post) (mul-less-at t) mul-less.Post M
+mul-less-meets t =
+    mul-less-lts.spec (product-below t, product.Post, mul-pop-below t, mul-pop.Post) (mul-less-at t) mul-less.Post
+    -- product-requires
+    (λ c κs.
+    let s = c .before .before .before .before .before .before .before .before .before in
+    (omega (arith, s .pre .0), (s .pre .1 .0, subst (λ h. Space (s .args .width) h (dec (s .args .width) (s .args .r .now)) (length (s .args .out .now)) (length (s .args .t .now)) (length (s .args .u .now))) (lower-1 (s .args .width) (s .args .i) (dec (s .args .width) (s .args .p .now)) (c .before .before .before .if1 .taken)) (s .pre .1 .1 .1))))
+    (λ c. search needs)
+    (λ c. search needs)
+    (λ c. search needs)
+    -- returns
+    (λ c.
+    let s = c .before .before .before .before .before .before .before .before .before .before .before .before .before .before .before .before in
+    begins-as (c .before .before .before .before .before .before .product .ensures)
+    (ap (λ h. enc (s .args .width) (prodOf (s .args .width) h (dec (s .args .width) (s .args .r .now)))) (sym (lower-1 (s .args .width) (s .args .i) (dec (s .args .width) (s .args .p .now)) (c .before .before .before .before .before .before .before .before .before .before .if1 .taken)))))
+    (λ c. (c .before .before .before .before .before .before .pre .1 .1 .0))
+    -- mul-pop-requires
+    (λ c κs.
+    let s = c .before .before .before .before .before .before .before .before .before in
+    (omega (arith, s .pre .0), (s .pre .1 .0, pop-space ((s .args .i) - 1) (dec (s .args .width) (s .args .p .now)) (subst (λ h. Space (s .args .width) h (dec (s .args .width) (s .args .r .now)) (length (s .args .out .now)) (length (s .args .t .now)) (length (s .args .u .now))) (lower-more (s .args .width) (s .args .i) (dec (s .args .width) (s .args .p .now)) (s .pre .1 .1 .0) (c .before .before .before .if1 .left)) (s .pre .1 .1 .1)))))
+    (λ c. search needs)
+    (λ c. search needs)
+    (λ c. search needs)
+    -- returns-2
+    (λ c.
+    let s = c .before .before .before .before .before .before .before .before .before .before .before .before .before .before .before .before in
+    begins-as (c .before .before .before .before .before .before .mul-pop .ensures)
+    (ap (λ h. enc (s .args .width) (prodOf (s .args .width) h (dec (s .args .width) (s .args .r .now)))) (sym (lower-more (s .args .width) (s .args .i) (dec (s .args .width) (s .args .p .now)) (s .pre .1 .1 .0) (c .before .before .before .before .before .before .before .before .before .before .if1 .left)))))
