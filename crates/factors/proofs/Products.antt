@@ -2,7 +2,7 @@
 -- Assumes nothing.
 use mathlib.Core.Path.{_≡_, sym, ap, _∙_}
 use mathlib.Core.List.{List, _∷_}
-use Prim.Native.Nat.{ℕ, suc, _+_, _-_, _%_, _≤_, _<_}
+use Prim.Native.Nat.{ℕ, suc, _+_, _-_, _/_, _%_, _≤_, _<_}
 use native.Mathlib.Omega.{arith}
 use lib.ListN.{length, getD, take, drop, set}
 use lib.Seq.{take-set-le, set-split, drop-at, length-take-le}
@@ -25,6 +25,23 @@ module _ {w : ℕ} {l : List ℕ} (c : Coded w l) where
 
   pub pow-of-word : 2147483712 ≤ getD l 0 0 → PowAt w l
   pow-of-word a = pow-at c (omega (arith, a)) (λ e. omega (arith, a, e))
+
+-- what the slices of the parts ask of the lengths, and no more, so that omega has little to read
+pub record PopSizes (l : List ℕ) : Type 0 where
+  pub len : length l ≡ suc (length (inner l))
+  pub some : 0 < length (inner l)
+
+pub pop-sizes : {w : ℕ} {l : List ℕ} → PopAt w l → PopSizes l
+pop-sizes v = record { len = v .len; some = v .some }
+
+pub record PowSizes (l : List ℕ) : Type 0 where
+  pub size : (getD l 0 0 - 2147483648) / 64 ≡ length (first l)
+  pub len : length l ≡ suc (length (first l) + length (rest l))
+  pub some-left : 0 < length (first l)
+  pub some-right : 0 < length (rest l)
+
+pub pow-sizes : {w : ℕ} {l : List ℕ} → PowAt w l → PowSizes l
+pow-sizes v = record { size = v .size; len = v .len; some-left = v .some-left; some-right = v .some-right }
 
 -- (1) and (2)
 module _ {w : ℕ} {h : Form (Leaf w)} {x : ℕ} (v : IsInt w h x) (y : Form (Leaf w)) where

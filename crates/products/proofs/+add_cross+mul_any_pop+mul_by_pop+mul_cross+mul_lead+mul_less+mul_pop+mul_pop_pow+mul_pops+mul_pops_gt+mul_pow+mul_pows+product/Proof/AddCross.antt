@@ -87,9 +87,9 @@ add-cross-meets t =
         ),
       ),
     ))
-    (λ c. search needs)
-    (λ c. search needs)
-    (λ c. search needs)
+    (λ c. c .before .before .before .before .sum-back .kept .1 .0 ∙ c .before .before .before .before .before .before .before .before .before .before .before .out .given .1)
+    (λ c. c .before .before .before .before .before .before .before .before .before .before .before .before .before .before .mul-cross .kept .1 .1 .1 .1 .0)
+    (λ c. c .before .before .before .before .sum-back .kept .1 .1 .1 .1 .0 ∙ c .before .before .before .before .before .before .before .before .before .before .before .before .before .before .mul-cross .kept .1 .1 .1 .1 .1 .1 .0)
     -- returns
     (λ c.
     begins-as (c .before .before .before .before .sum-back .ensures)

@@ -14,7 +14,7 @@ use Rattle.fits.specs.Fit.{prodOf}
 use Rattle.fits.specs.Tables.{PopSpace}
 use Rattle.fits.specs.laws.Fit.{fit-sym, fit-y, fit-pop-words}
 use Rattle.fits.specs.laws.Tables.{pop-space-sym}
-use Rattle.factors.proofs.Products.{pop-of-word, pow-of-word, int-times, times-swap}
+use Rattle.factors.proofs.Products.{pop-sizes, pop-of-word, pow-of-word, int-times, times-swap}
 use borrow.Author.Needs.{needs}
 use Rattle.products.proofs.mul_any_pop.Reads as mul-any-pop
 use Rattle.products.proofs.+add_cross+mul_any_pop+mul_by_pop+mul_cross+mul_lead+mul_less+mul_pop+mul_pop_pow+mul_pops+mul_pops_gt+mul_pow+mul_pows+product.Lts-mul_any_pop as mul-any-pop-lts
@@ -48,25 +48,25 @@ mul-any-pop-meets t =
     (λ c κs.
     let s = c .before .before .before .before .before .before .before .before in
     ((int-view (s .pre .1 .0 .0) (c .before .if1 .taken)) .below, (s .pre .1 .0 .1, (fit-y (s .pre .1 .1 .fit) .good, omega (arith, s .pre .1 .1 .tables, codes-length (s .pre .1 .0 .1), fit-pop-words (s .args .i) (dec (s .args .width) (s .args .p .now)) (fit-sym (s .pre .1 .1 .fit)))))))
-    (λ c. search needs)
+    (λ c. c .before .before .scale-pop .kept .1 .1 .1 .1 .0)
     -- returns
     (λ c.
     let s = c .before .before .before .before .before .before .before .before .before .before .before in
     begins-as (c .before .before .scale-pop .ensures)
     (int-times (int-view (s .pre .1 .0 .0) (c .before .before .before .before .if1 .taken)) (pop (s .args .i) (dec (s .args .width) (s .args .p .now)))))
-    (λ c. omega (arith, is-pop·mul-any-pop t c))
-    (λ c. omega (arith, is-pop·mul-any-pop t c))
+    (λ c. omega (arith, pop-sizes (is-pop·mul-any-pop t c)))
+    (λ c. omega (arith, pop-sizes (is-pop·mul-any-pop t c)))
     (λ c. search needs)
     -- mul-pops-requires
     (λ c κs.
     let s = c .before .before .before .before .before .before .before .before .before .before .before .before in
     let b = c .before .before .before .before in (
-      omega (arith, (is-pop·mul-any-pop t b), s .pre .0),
+      omega (arith, pop-sizes (is-pop·mul-any-pop t b), s .pre .0),
       (((is-pop·mul-any-pop t b) .part, s .pre .1 .0 .1), subst (λ h. PopSpace (s .args .width) h (pop (s .args .i) (dec (s .args .width) (s .args .p .now))) (length (s .args .out .now)) (length (s .args .t .now)) (length (s .args .u .now))) ((is-pop·mul-any-pop t b) .is) (s .pre .1 .1)),
     ))
-    (λ c. search needs)
-    (λ c. search needs)
-    (λ c. search needs)
+    (λ c. c .before .before .before .before .before .before .mul-pops .kept .1 .1 .1 .1 .1 .0)
+    (λ c. c .before .before .before .before .before .before .mul-pops .kept .1 .1 .1 .1 .1 .1 .0)
+    (λ c. c .before .before .before .before .before .before .mul-pops .kept .1 .1 .1 .1 .1 .1 .1 .0)
     -- returns-2
     (λ c.
     let s = c .before .before .before .before .before .before .before .before .before .before .before .before .before .before .before .before .before .before .before in
@@ -76,9 +76,9 @@ mul-any-pop-meets t =
     (λ c κs.
     let s = c .before .before .before .before .before .before .before .before .before .before .before in
     (omega (arith, s .pre .0), ((s .pre .1 .0 .1, s .pre .1 .0 .0), (pop-space-sym (s .pre .1 .1), c .before .before .before .if2 .left))))
-    (λ c. search needs)
-    (λ c. search needs)
-    (λ c. search needs)
+    (λ c. c .before .before .before .before .before .before .mul-pop-pow .kept .1 .1 .1 .1 .0)
+    (λ c. c .before .before .before .before .before .before .mul-pop-pow .kept .1 .1 .1 .1 .1 .0)
+    (λ c. c .before .before .before .before .before .before .mul-pop-pow .kept .1 .1 .1 .1 .1 .1 .0)
     -- returns-3
     (λ c.
     let s = c .before .before .before .before .before .before .before .before .before .before .before .before .before .before .before .before .before .before in

@@ -13,7 +13,7 @@ use Rattle.coded.proofs.Lists.{begins-as}
 use Rattle.fits.specs.Fit.{prodOf}
 use Rattle.fits.specs.Tables.{PopSpace}
 use Rattle.fits.specs.laws.Fit.{fit-x}
-use Rattle.factors.proofs.Products.{pop-of-word, pow-of-word, times-int, up-int, up-pop, up-pow}
+use Rattle.factors.proofs.Products.{pop-sizes, pop-of-word, pow-of-word, times-int, up-int, up-pop, up-pow}
 use borrow.Author.Needs.{needs}
 use Rattle.products.proofs.mul_any_pop.Reads as mul-any-pop
 use Rattle.products.proofs.mul_by_pop.Reads as mul-by-pop
@@ -57,7 +57,7 @@ mul-by-pop-meets t =
     (λ c κs.
     let s = c .before .before .before .before .before .before .before .before in
     ((int-view (s .pre .1 .0 .1) (c .before .if1 .taken)) .below, (s .pre .1 .0 .0, omega (arith, s .pre .1 .1 .tables, codes-length (s .pre .1 .0 .0), fit-x (s .pre .1 .1 .fit) .words))))
-    (λ c. search needs)
+    (λ c. c .before .before .scale .kept .1 .1 .1 .0)
     -- returns
     (λ c.
     let s = c .before .before .before .before .before .before .before .before .before .before .before in
@@ -65,19 +65,19 @@ mul-by-pop-meets t =
     begins-as (c .before .before .scale .ensures)
     (times-int (int-view (s .pre .1 .0 .1) (b .if1 .taken)) (dec (s .args .width) (s .args .p .now)) ∙ ap (λ h. enc (s .args .width) (prodOf (s .args .width) (dec (s .args .width) (s .args .p .now)) h)) (sym (up-int (int-view (s .pre .1 .0 .1) (b .if1 .taken))))))
     (λ c. omega arith)
-    (λ c. omega (arith, is-pop·mul-by-pop t c))
-    (λ c. omega (arith, is-pop·mul-by-pop t c))
+    (λ c. omega (arith, pop-sizes (is-pop·mul-by-pop t c)))
+    (λ c. omega (arith, pop-sizes (is-pop·mul-by-pop t c)))
     (λ c. search needs)
     -- mul-any-pop-requires
     (λ c κs.
     let s = c .before .before .before .before .before .before .before .before .before .before .before .before in
     let b = c .before .before .before .before in (
-      omega (arith, (is-pop·mul-by-pop t b), s .pre .0),
+      omega (arith, pop-sizes (is-pop·mul-by-pop t b), s .pre .0),
       ((s .pre .1 .0 .0, (is-pop·mul-by-pop t b) .part), subst (λ h. PopSpace (s .args .width) (dec (s .args .width) (s .args .p .now)) h (length (s .args .out .now)) (length (s .args .t .now)) (length (s .args .u .now))) (up-1·mul-by-pop t b) (s .pre .1 .1)),
     ))
-    (λ c. search needs)
-    (λ c. search needs)
-    (λ c. search needs)
+    (λ c. c .before .before .before .before .before .before .mul-any-pop .kept .1 .1 .1 .1 .0)
+    (λ c. c .before .before .before .before .before .before .mul-any-pop .kept .1 .1 .1 .1 .1 .0)
+    (λ c. c .before .before .before .before .before .before .mul-any-pop .kept .1 .1 .1 .1 .1 .1 .0)
     -- returns-2
     (λ c.
     let s = c .before .before .before .before .before .before .before .before .before .before .before .before .before .before .before .before .before .before .before in
@@ -87,9 +87,9 @@ mul-by-pop-meets t =
     (λ c κs.
     let s = c .before .before .before .before .before .before .before .before .before .before .before in
     (omega (arith, s .pre .0), ((s .pre .1 .0 .0, s .pre .1 .0 .1), subst (λ h. PopSpace (s .args .width) (dec (s .args .width) (s .args .p .now)) h (length (s .args .out .now)) (length (s .args .t .now)) (length (s .args .u .now))) (up-2·mul-by-pop t (c .before .before .before)) (s .pre .1 .1))))
-    (λ c. search needs)
-    (λ c. search needs)
-    (λ c. search needs)
+    (λ c. c .before .before .before .before .before .before .mul-any-pop2 .kept .1 .1 .1 .1 .0)
+    (λ c. c .before .before .before .before .before .before .mul-any-pop2 .kept .1 .1 .1 .1 .1 .0)
+    (λ c. c .before .before .before .before .before .before .mul-any-pop2 .kept .1 .1 .1 .1 .1 .1 .0)
     -- returns-3
     (λ c.
     let s = c .before .before .before .before .before .before .before .before .before .before .before .before .before .before .before .before .before .before in

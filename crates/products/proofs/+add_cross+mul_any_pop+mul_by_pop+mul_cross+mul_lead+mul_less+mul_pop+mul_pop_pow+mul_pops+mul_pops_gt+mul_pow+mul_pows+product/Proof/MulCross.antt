@@ -86,8 +86,8 @@ mul-cross-meets t =
     (one-put (c .before .before .before .before .before .before .before .before .before .before .before .before .before .before .before .before .before .before .before .args .out .now) (s .mul-by-pop .last .1 .1 .1 .0))
     (1 + (s .mul-by-pop .result)) 0
     ∙ (c .before .before .before .before .before .before .before .before .before .out) .given .1)
-    (λ c. search needs)
-    (λ c. search needs)
+    (λ c. c .before .before .before .before .before .before .before .before .before .before .mul-by-pop .kept .1 .1 .1 .1 .0)
+    (λ c. c .before .before .before .before .before .before .before .before .before .before .mul-by-pop .kept .1 .1 .1 .1 .1 .0)
     -- returns
     (λ c.
     let s = c .before .before .before .before .before in

@@ -10,7 +10,6 @@ use Rattle.fits.specs.Fit.{prodOf}
 use Rattle.fits.specs.Tables.{Space}
 use Rattle.fits.specs.laws.Equations.{lower-1, lower-more}
 use Rattle.fits.specs.laws.Tables.{pop-space}
-use borrow.Author.Needs.{needs}
 use Rattle.products.proofs.mul_less.Reads as mul-less
 use Rattle.products.proofs.+add_cross+mul_any_pop+mul_by_pop+mul_cross+mul_lead+mul_less+mul_pop+mul_pop_pow+mul_pops+mul_pops_gt+mul_pow+mul_pows+product.Lts-mul_less as mul-less-lts
 use Rattle.products.proofs.mul_pop.Reads as mul-pop
@@ -25,9 +24,9 @@ mul-less-meets t =
     (λ c κs.
     let s = c .before .before .before .before .before .before .before .before .before in
     (omega (arith, s .pre .0), (s .pre .1 .0, subst (λ h. Space (s .args .width) h (dec (s .args .width) (s .args .r .now)) (length (s .args .out .now)) (length (s .args .t .now)) (length (s .args .u .now))) (lower-1 (s .args .width) (s .args .i) (dec (s .args .width) (s .args .p .now)) (c .before .before .before .if1 .taken)) (s .pre .1 .1 .1))))
-    (λ c. search needs)
-    (λ c. search needs)
-    (λ c. search needs)
+    (λ c. c .before .before .before .before .before .before .product .kept .1 .1 .1 .0)
+    (λ c. c .before .before .before .before .before .before .product .kept .1 .1 .1 .1 .0)
+    (λ c. c .before .before .before .before .before .before .product .kept .1 .1 .1 .1 .1 .0)
     -- returns
     (λ c.
     let s = c .before .before .before .before .before .before .before .before .before .before .before .before .before .before .before .before in
@@ -38,9 +37,9 @@ mul-less-meets t =
     (λ c κs.
     let s = c .before .before .before .before .before .before .before .before .before in
     (omega (arith, s .pre .0), (s .pre .1 .0, pop-space ((s .args .i) - 1) (dec (s .args .width) (s .args .p .now)) (subst (λ h. Space (s .args .width) h (dec (s .args .width) (s .args .r .now)) (length (s .args .out .now)) (length (s .args .t .now)) (length (s .args .u .now))) (lower-more (s .args .width) (s .args .i) (dec (s .args .width) (s .args .p .now)) (s .pre .1 .1 .0) (c .before .before .before .if1 .left)) (s .pre .1 .1 .1)))))
-    (λ c. search needs)
-    (λ c. search needs)
-    (λ c. search needs)
+    (λ c. c .before .before .before .before .before .before .mul-pop .kept .1 .1 .1 .1 .0)
+    (λ c. c .before .before .before .before .before .before .mul-pop .kept .1 .1 .1 .1 .1 .0)
+    (λ c. c .before .before .before .before .before .before .mul-pop .kept .1 .1 .1 .1 .1 .1 .0)
     -- returns-2
     (λ c.
     let s = c .before .before .before .before .before .before .before .before .before .before .before .before .before .before .before .before in

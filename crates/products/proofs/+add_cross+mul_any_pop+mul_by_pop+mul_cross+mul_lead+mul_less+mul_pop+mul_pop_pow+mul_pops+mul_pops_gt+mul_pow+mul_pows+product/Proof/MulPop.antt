@@ -12,7 +12,7 @@ use Rattle.coded.proofs.Lists.{begins-as}
 use Rattle.fits.specs.Fit.{prodOf}
 use Rattle.fits.specs.Tables.{PopSpace}
 use Rattle.fits.specs.laws.Fit.{fit-x, fit-pop-words}
-use Rattle.factors.proofs.Products.{pop-of-word, pow-of-word, times-int}
+use Rattle.factors.proofs.Products.{pop-sizes, pop-of-word, pow-of-word, times-int}
 use borrow.Author.Needs.{needs}
 use Rattle.products.proofs.mul_pop.Reads as mul-pop
 use Rattle.products.proofs.+add_cross+mul_any_pop+mul_by_pop+mul_cross+mul_lead+mul_less+mul_pop+mul_pop_pow+mul_pops+mul_pops_gt+mul_pow+mul_pows+product.Lts-mul_pop as mul-pop-lts
@@ -46,25 +46,25 @@ mul-pop-meets t =
     (λ c κs.
     let s = c .before .before .before .before .before .before .before .before in
     ((int-view (s .pre .1 .0 .1) (c .before .if1 .taken)) .below, (s .pre .1 .0 .0, (fit-x (s .pre .1 .1 .fit) .good, omega (arith, s .pre .1 .1 .tables, codes-length (s .pre .1 .0 .0), fit-pop-words (s .args .i) (dec (s .args .width) (s .args .p .now)) (s .pre .1 .1 .fit))))))
-    (λ c. search needs)
+    (λ c. c .before .before .scale-pop .kept .1 .1 .1 .1 .0)
     -- returns
     (λ c.
     let s = c .before .before .before .before .before .before .before .before .before .before .before in
     begins-as (c .before .before .scale-pop .ensures)
     (times-int (int-view (s .pre .1 .0 .1) (c .before .before .before .before .if1 .taken)) (pop (s .args .i) (dec (s .args .width) (s .args .p .now)))))
-    (λ c. omega (arith, is-pop·mul-pop t c))
-    (λ c. omega (arith, is-pop·mul-pop t c))
+    (λ c. omega (arith, pop-sizes (is-pop·mul-pop t c)))
+    (λ c. omega (arith, pop-sizes (is-pop·mul-pop t c)))
     (λ c. search needs)
     -- mul-pops-requires
     (λ c κs.
     let s = c .before .before .before .before .before .before .before .before .before .before .before .before in
     let b = c .before .before .before .before in (
-      omega (arith, (is-pop·mul-pop t b), s .pre .0),
+      omega (arith, pop-sizes (is-pop·mul-pop t b), s .pre .0),
       ((s .pre .1 .0 .0, (is-pop·mul-pop t b) .part), subst (λ h. PopSpace (s .args .width) (pop (s .args .i) (dec (s .args .width) (s .args .p .now))) h (length (s .args .out .now)) (length (s .args .t .now)) (length (s .args .u .now))) ((is-pop·mul-pop t b) .is) (s .pre .1 .1)),
     ))
-    (λ c. search needs)
-    (λ c. search needs)
-    (λ c. search needs)
+    (λ c. c .before .before .before .before .before .before .mul-pops .kept .1 .1 .1 .1 .1 .0)
+    (λ c. c .before .before .before .before .before .before .mul-pops .kept .1 .1 .1 .1 .1 .1 .0)
+    (λ c. c .before .before .before .before .before .before .mul-pops .kept .1 .1 .1 .1 .1 .1 .1 .0)
     -- returns-2
     (λ c.
     let s = c .before .before .before .before .before .before .before .before .before .before .before .before .before .before .before .before .before .before .before in
@@ -74,7 +74,7 @@ mul-pop-meets t =
     (λ c κs.
     let s = c .before .before .before .before .before .before .before .before .before .before .before in
     (omega (arith, s .pre .0), ((s .pre .1 .0 .0, s .pre .1 .0 .1), (s .pre .1 .1, c .before .before .before .if2 .left))))
-    (λ c. search needs)
-    (λ c. search needs)
-    (λ c. search needs)
+    (λ c. c .before .before .before .before .before .before .mul-pop-pow .kept .1 .1 .1 .1 .0)
+    (λ c. c .before .before .before .before .before .before .mul-pop-pow .kept .1 .1 .1 .1 .1 .0)
+    (λ c. c .before .before .before .before .before .before .mul-pop-pow .kept .1 .1 .1 .1 .1 .1 .0)
     (λ c. c .before .before .before .before .before .before .mul-pop-pow .ensures)

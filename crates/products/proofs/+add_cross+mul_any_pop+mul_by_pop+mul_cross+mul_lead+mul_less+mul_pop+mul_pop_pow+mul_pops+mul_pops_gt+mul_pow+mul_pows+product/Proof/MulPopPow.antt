@@ -1,6 +1,6 @@
 -- `mul_pop_pow` meets its contract, if the calls that it makes do.
 -- Assumes nothing.
-use mathlib.Core.Path.{_≡_, sym, refl, subst}
+use mathlib.Core.Path.{_∙_, _≡_, sym, refl, subst}
 use Prim.Native.Nat.{ℕ, _+_, _-_, _%_, _≤_}
 use native.Mathlib.Omega.{arith}
 use lib.ListN.{length, getD, take, drop}
@@ -15,7 +15,7 @@ use Rattle.fits.specs.Fit.{prodOf}
 use Rattle.fits.specs.Tables.{PopSpace}
 use Rattle.fits.specs.laws.Fit.{fit-x, fit-prod}
 use Rattle.fits.specs.laws.Tables.{space-at, pop-space-at, pop-space-pow, space-lower}
-use Rattle.factors.proofs.Products.{pow-of-word, pop-times}
+use Rattle.factors.proofs.Products.{pow-sizes, pow-of-word, pop-times}
 use borrow.Author.Needs.{needs}
 use Rattle.products.proofs.mul_less.Reads as mul-less
 use Rattle.products.proofs.mul_pop.Reads as mul-pop
@@ -94,28 +94,28 @@ mul-pop-pow-meets t =
     (λ c. omega (arith, some (c .before .before .before .before .before .before .pre .1 .0 .1)))
     (λ c. omega (arith, c .before .before .before .before .before .before .pre .1 .1 .1))
     (λ c. omega (arith, c .shared-slice-known3 .given 0))
-    (λ c. omega (arith, (is-pow·mul-pop-pow t (c .before .before .before .before .before .before))))
+    (λ c. omega (arith, pow-sizes (is-pow·mul-pop-pow t (c .before .before .before .before .before .before))))
     (λ c. search needs)
     (λ c. search needs)
-    (λ c. omega (arith, (is-pow·mul-pop-pow t (c .before .before .before .before .before .before))))
+    (λ c. omega (arith, pow-sizes (is-pow·mul-pop-pow t (c .before .before .before .before .before .before))))
     (λ c. omega (arith, c .before .before .before .before .before .before .before .pre .1 .1 .0 .tables))
     (λ c. omega (arith, c .before .before .before .before .before .before .before .pre .1 .1 .0 .tables))
     (λ c. search needs)
     -- mul-pop-requires
     (λ c κs.
     let s = c .before .before .before .before .before .before .before .before .before .before in
-    (omega (arith, (is-pow·mul-pop-pow t s), s .pre .0), ((s .pre .1 .0 .0, (is-pow·mul-pop-pow t s) .left), pop-space-at (sym (length-tail-part 1 (s .args .out .now))) refl refl (pop-space-pow (s .args .i) ((getD (s .args .y .now) 0 0) % 64) (dec (s .args .width) (s .args .p .now)) (dec (s .args .width) (first (s .args .y .now))) (dec (s .args .width) (rest (s .args .y .now))) (space-pow·mul-pop-pow t s)))))
+    (omega (arith, pow-sizes (is-pow·mul-pop-pow t s), s .pre .0), ((s .pre .1 .0 .0, (is-pow·mul-pop-pow t s) .left), pop-space-at (sym (length-tail-part 1 (s .args .out .now))) refl refl (pop-space-pow (s .args .i) ((getD (s .args .y .now) 0 0) % 64) (dec (s .args .width) (s .args .p .now)) (dec (s .args .width) (first (s .args .y .now))) (dec (s .args .width) (rest (s .args .y .now))) (space-pow·mul-pop-pow t s)))))
     (λ c. omega (arith, few-a·mul-pop-pow t (c .before)))
     -- mul-mul-less
     (λ c.
     let s = c .before .before .before .before .before .before .before .before .before .before .before .before .before .before .before .before .before in
-    omega (arith, (is-pow·mul-pop-pow t s), s .good .1 .1 .1 .0))
+    omega (arith, pow-sizes (is-pow·mul-pop-pow t s), s .good .1 .1 .1 .0))
     -- sub-mul-less
     (λ c.
-    omega (arith, (is-pow·mul-pop-pow t (c .before .before .before .before .before .before .before .before .before .before .before .before .before .before .before .before .before))))
+    omega (arith, pow-sizes (is-pow·mul-pop-pow t (c .before .before .before .before .before .before .before .before .before .before .before .before .before .before .before .before .before))))
     -- part-mul-less-start
     (λ c.
-    omega (arith, (is-pow·mul-pop-pow t (c .before .before .before .before .before .before .before .before .before .before .before .before .before .before .before .before .before))))
+    omega (arith, pow-sizes (is-pow·mul-pop-pow t (c .before .before .before .before .before .before .before .before .before .before .before .before .before .before .before .before .before))))
     (λ c. search needs)
     (λ c. omega (arith, few-a·mul-pop-pow t (c .before .before)))
     (λ c. a-size·mul-pop-pow t (c .before .before))
@@ -126,7 +126,7 @@ mul-pop-pow-meets t =
     let s = c .before .before .before .before .before .before .before .before .before .before .before .before .before .before .before .before .before .before .before .before .before in
     let b = c .before .before .before .before .before .before .before .before .before .before in
     let d = c .before .before .before .before .before in (
-      omega (arith, (is-pow·mul-pop-pow t s), s .pre .0),
+      omega (arith, pow-sizes (is-pow·mul-pop-pow t s), s .pre .0),
       (
         (s .pre .1 .0 .0, (is-pow·mul-pop-pow t s) .right),
         ((good-pop (fit-x (s .pre .1 .1 .0 .fit) .good) .0), space-at (behind·mul-pop-pow t d) (sym (b .mul-pop .kept .1 .1 .1 .1 .1 .0)) (sym (b .mul-pop .kept .1 .1 .1 .1 .1 .1 .0)) (space-lower (s .args .i) ((getD (s .args .y .now) 0 0) % 64) (dec (s .args .width) (s .args .p .now)) (dec (s .args .width) (first (s .args .y .now))) (dec (s .args .width) (rest (s .args .y .now))) (space-pow·mul-pop-pow t s) (b .mul-pop .result) (few-a·mul-pop-pow t d))),
@@ -147,9 +147,9 @@ mul-pop-pow-meets t =
         (good-pow ((is-pow·mul-pop-pow t s) .node) .0, pow-asks ((getD (s .args .y .now) 0 0) % 64) (made·mul-pop-pow t (c .before .before)) (pop-times (is-pow·mul-pop-pow t s) (s .args .i) (dec (s .args .width) (s .args .p .now)) (good-pop (fit-x (s .pre .1 .1 .0 .fit) .good) .0)) (fit-prod (s .pre .1 .1 .0 .fit) .good)),
       ),
     ))
-    (λ c. search needs)
-    (λ c. search needs)
-    (λ c. search needs)
+    (λ c. c .before .before .make-pow .kept .1 .0 ∙ c .before .before .before .before .before .before .before .before .before .out2 .given .1 ∙ c .before .before .before .before .before .before .before .before .before .before .before .before .before .before .before .before .before .before .before .before .out .given .1)
+    (λ c. c .before .before .before .before .before .before .before .before .before .before .mul-less .kept .1 .1 .1 .1 .1 .0 ∙ c .before .before .before .before .before .before .before .before .before .before .before .before .before .before .before .before .before .before .before .before .before .mul-pop .kept .1 .1 .1 .1 .1 .0)
+    (λ c. c .before .before .before .before .before .before .before .before .before .before .mul-less .kept .1 .1 .1 .1 .1 .1 .0 ∙ c .before .before .before .before .before .before .before .before .before .before .before .before .before .before .before .before .before .before .before .before .before .mul-pop .kept .1 .1 .1 .1 .1 .1 .0)
     -- returns
     (λ c.
     let s = c .before .before .before .before .before .before .before .before .before .before .before .before .before .before .before .before .before .before .before .before .before .before .before .before .before .before .before .before .before .before .before .before in

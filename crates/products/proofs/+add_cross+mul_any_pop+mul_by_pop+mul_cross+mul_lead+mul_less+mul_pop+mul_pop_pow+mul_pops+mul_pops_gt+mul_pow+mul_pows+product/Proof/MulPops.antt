@@ -62,9 +62,9 @@ mul-pops-meets t =
         (good-pop (fit-x (s .pre .1 .1 .fit) .good) .0, pop-asks (s .args .i) (made·mul-pops t d) (pops-eq (s .args .width) (s .args .i) (s .args .j) (dec (s .args .width) (s .args .p .now)) (dec (s .args .width) (s .args .q .now)) (c .before .before .before .before .before .before .before .before .before .before .before .if1 .taken)) (fit-prod (s .pre .1 .1 .fit) .good)),
       ),
     ))
-    (λ c. search needs)
-    (λ c. search needs)
-    (λ c. search needs)
+    (λ c. c .before .before .make-pop .kept .1 .0 ∙ c .before .before .before .before .before .before .before .before .before .out .given .1)
+    (λ c. c .before .before .before .before .before .before .before .before .before .before .product .kept .1 .1 .1 .1 .0)
+    (λ c. c .before .before .before .before .before .before .before .before .before .before .product .kept .1 .1 .1 .1 .1 .0)
     -- returns
     (λ c.
     let s = c .before .before .before .before .before .before .before .before .before .before .before .before .before .before .before .before .before .before .before .before in
@@ -75,17 +75,17 @@ mul-pops-meets t =
     (λ c κs.
     let s = c .before .before .before .before .before .before .before .before .before .before in
     (omega (arith, s .pre .0), ((s .pre .1 .0 .0, s .pre .1 .0 .1), (s .pre .1 .1, c .before .before .before .if2 .taken))))
-    (λ c. search needs)
-    (λ c. search needs)
-    (λ c. search needs)
+    (λ c. c .before .before .before .before .before .before .mul-pops-gt .kept .1 .1 .1 .1 .1 .0)
+    (λ c. c .before .before .before .before .before .before .mul-pops-gt .kept .1 .1 .1 .1 .1 .1 .0)
+    (λ c. c .before .before .before .before .before .before .mul-pops-gt .kept .1 .1 .1 .1 .1 .1 .1 .0)
     (λ c. c .before .before .before .before .before .before .mul-pops-gt .ensures)
     -- mul-pops-gt-requires-2
     (λ c κs.
     let s = c .before .before .before .before .before .before .before .before .before .before in
     (omega (arith, s .pre .0), ((s .pre .1 .0 .1, s .pre .1 .0 .0), (pop-space-sym (s .pre .1 .1), below·mul-pops t (c .before .before .before)))))
-    (λ c. search needs)
-    (λ c. search needs)
-    (λ c. search needs)
+    (λ c. c .before .before .before .before .before .before .mul-pops-gt2 .kept .1 .1 .1 .1 .1 .0)
+    (λ c. c .before .before .before .before .before .before .mul-pops-gt2 .kept .1 .1 .1 .1 .1 .1 .0)
+    (λ c. c .before .before .before .before .before .before .mul-pops-gt2 .kept .1 .1 .1 .1 .1 .1 .1 .0)
     -- returns-3
     (λ c.
     let s = c .before .before .before .before .before .before .before .before .before .before .before .before .before .before .before .before .before in

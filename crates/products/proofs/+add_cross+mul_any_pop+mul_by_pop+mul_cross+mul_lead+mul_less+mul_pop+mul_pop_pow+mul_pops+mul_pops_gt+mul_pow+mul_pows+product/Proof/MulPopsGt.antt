@@ -1,6 +1,6 @@
 -- `mul_pops_gt` meets its contract, if the calls that it makes do.
 -- Assumes nothing.
-use mathlib.Core.Path.{sym, refl}
+use mathlib.Core.Path.{_∙_, sym, refl}
 use Prim.Native.Nat.{ℕ, _-_}
 use native.Mathlib.Omega.{arith}
 use lib.ListN.{take, drop}
@@ -58,9 +58,9 @@ mul-pops-gt-meets t =
         (good-pop (fit-y (s .pre .1 .1 .0 .fit) .good) .0, pop-asks (s .args .j) (made·mul-pops-gt t d) (pops-gt (s .args .width) (s .args .i) (s .args .j) (dec (s .args .width) (s .args .p .now)) (dec (s .args .width) (s .args .q .now)) (s .pre .1 .1 .1)) (fit-prod (s .pre .1 .1 .0 .fit) .good)),
       ),
     ))
-    (λ c. search needs)
-    (λ c. search needs)
-    (λ c. search needs)
+    (λ c. c .before .before .make-pop .kept .1 .0 ∙ c .before .before .before .before .before .before .before .before .before .out .given .1)
+    (λ c. c .before .before .before .before .before .before .before .before .before .before .mul-pop .kept .1 .1 .1 .1 .1 .0)
+    (λ c. c .before .before .before .before .before .before .before .before .before .before .mul-pop .kept .1 .1 .1 .1 .1 .1 .0)
     -- returns
     (λ c.
     let s = c .before .before .before .before .before .before .before .before .before .before .before .before .before .before .before .before .before .before .before in

@@ -14,7 +14,7 @@ use Rattle.fits.specs.Fit.{prodOf}
 use Rattle.fits.specs.Tables.{Space}
 use Rattle.fits.specs.laws.Fit.{fit-x}
 use Rattle.fits.specs.laws.Tables.{space-sym, pop-space}
-use Rattle.factors.proofs.Products.{pop-of-word, pow-of-word, times-int, times-swap}
+use Rattle.factors.proofs.Products.{pop-sizes, pow-sizes, pop-of-word, pow-of-word, times-int, times-swap}
 use borrow.Author.Needs.{needs}
 use Rattle.products.proofs.mul_pop_pow.Reads as mul-pop-pow
 use Rattle.products.proofs.mul_pow.Reads as mul-pow
@@ -54,66 +54,66 @@ mul-pow-meets t =
     (λ c κs.
     let s = c .before .before .before .before .before .before .before .before in
     ((int-view (s .pre .1 .0 .1) (c .before .if1 .taken)) .below, (s .pre .1 .0 .0, omega (arith, s .pre .1 .1 .0 .tables, codes-length (s .pre .1 .0 .0), fit-x (s .pre .1 .1 .0 .fit) .words))))
-    (λ c. search needs)
+    (λ c. c .before .before .scale .kept .1 .1 .1 .0)
     -- returns
     (λ c.
     let s = c .before .before .before .before .before .before .before .before .before .before .before in
     begins-as (c .before .before .scale .ensures)
     (times-int (int-view (s .pre .1 .0 .1) (c .before .before .before .before .if1 .taken)) (dec (s .args .width) (s .args .x .now))))
-    (λ c. omega (arith, is-pop·mul-pow t c))
-    (λ c. omega (arith, is-pop·mul-pow t c))
+    (λ c. omega (arith, pop-sizes (is-pop·mul-pow t c)))
+    (λ c. omega (arith, pop-sizes (is-pop·mul-pow t c)))
     (λ c. search needs)
     -- mul-pop-pow-requires
     (λ c κs.
     let s = c .before .before .before .before .before .before .before .before .before .before .before .before in
     let b = c .before .before .before .before in (
-      omega (arith, (is-pop·mul-pow t b), s .pre .0),
+      omega (arith, pop-sizes (is-pop·mul-pow t b), s .pre .0),
       (
         ((is-pop·mul-pow t b) .part, s .pre .1 .0 .0),
         (pop-space ((getD (s .args .y .now) 0 0) % 64) (dec (s .args .width) (inner (s .args .y .now))) (subst (λ h. Space (s .args .width) h (dec (s .args .width) (s .args .x .now)) (length (s .args .out .now)) (length (s .args .t .now)) (length (s .args .u .now))) ((is-pop·mul-pow t b) .is) (space-sym (s .pre .1 .1 .0))), s .pre .1 .1 .1),
       ),
     ))
-    (λ c. search needs)
-    (λ c. search needs)
-    (λ c. search needs)
+    (λ c. c .before .before .before .before .before .before .mul-pop-pow .kept .1 .1 .1 .1 .0)
+    (λ c. c .before .before .before .before .before .before .mul-pop-pow .kept .1 .1 .1 .1 .1 .0)
+    (λ c. c .before .before .before .before .before .before .mul-pop-pow .kept .1 .1 .1 .1 .1 .1 .0)
     -- returns-2
     (λ c.
     let s = c .before .before .before .before .before .before .before .before .before .before .before .before .before .before .before .before .before .before .before in
     let b = c .before .before .before .before .before .before .before .before .before .before .before in
     begins-as (c .before .before .before .before .before .before .mul-pop-pow .ensures)
     (ap (enc (s .args .width)) (times-swap (v-pow·mul-pow t s) ((getD (s .args .y .now) 0 0) % 64) (dec (s .args .width) (inner (s .args .y .now))) (good-pop ((is-pop·mul-pow t b) .node) .0)) ∙ ap (λ h. enc (s .args .width) (prodOf (s .args .width) (dec (s .args .width) (s .args .x .now)) h)) (sym ((is-pop·mul-pow t b) .is))))
-    (λ c. omega (arith, is-pow·mul-pow t c))
-    (λ c. omega (arith, is-pow·mul-pow t c))
+    (λ c. omega (arith, pow-sizes (is-pow·mul-pow t c)))
+    (λ c. omega (arith, pow-sizes (is-pow·mul-pow t c)))
     (λ c. omega (arith, some (c .before .before .before .before .before .before .before .before .before .pre .1 .0 .0)))
     (λ c. omega (arith, c .before .before .before .before .before .before .before .before .before .pre .1 .1 .1))
     (λ c. omega (arith, c .shared-slice-known4 .given 0))
-    (λ c. omega (arith, v-pow·mul-pow t (c .before .before .before .before .before .before .before .before .before)))
+    (λ c. omega (arith, pow-sizes (v-pow·mul-pow t (c .before .before .before .before .before .before .before .before .before))))
     (λ c. search needs)
     (λ c. search needs)
-    (λ c. omega (arith, v-pow·mul-pow t (c .before .before .before .before .before .before .before .before .before)))
-    (λ c. let s = c .before .before .before .before .before .before .before .before .before .before in omega (arith, v-pow·mul-pow t s, s .good .1 .0))
-    (λ c. omega (arith, v-pow·mul-pow t (c .before .before .before .before .before .before .before .before .before .before)))
-    (λ c. omega (arith, v-pow·mul-pow t (c .before .before .before .before .before .before .before .before .before .before)))
+    (λ c. omega (arith, pow-sizes (v-pow·mul-pow t (c .before .before .before .before .before .before .before .before .before))))
+    (λ c. let s = c .before .before .before .before .before .before .before .before .before .before in omega (arith, pow-sizes (v-pow·mul-pow t s), s .good .1 .0))
+    (λ c. omega (arith, pow-sizes (v-pow·mul-pow t (c .before .before .before .before .before .before .before .before .before .before))))
+    (λ c. omega (arith, pow-sizes (v-pow·mul-pow t (c .before .before .before .before .before .before .before .before .before .before))))
     (λ c. search needs)
     (λ c. search needs)
     (λ c. search needs)
-    (λ c. omega (arith, is-pow·mul-pow t (c .before .before .before)))
+    (λ c. omega (arith, pow-sizes (is-pow·mul-pow t (c .before .before .before))))
     -- mul-mul-pows-2
     (λ c.
-    omega (arith, is-pow·mul-pow t (c .before .before .before .before), c .before .before .before .before .before .before .before .before .before .before .before .before .good .1 .1 .0))
-    (λ c. omega (arith, is-pow·mul-pow t (c .before .before .before .before)))
-    (λ c. omega (arith, is-pow·mul-pow t (c .before .before .before .before)))
+    omega (arith, pow-sizes (is-pow·mul-pow t (c .before .before .before .before)), c .before .before .before .before .before .before .before .before .before .before .before .before .good .1 .1 .0))
+    (λ c. omega (arith, pow-sizes (is-pow·mul-pow t (c .before .before .before .before))))
+    (λ c. omega (arith, pow-sizes (is-pow·mul-pow t (c .before .before .before .before))))
     (λ c. search needs)
     -- mul-pows-requires
     (λ c κs.
     let s = c .before .before .before .before .before .before .before .before .before .before .before .before .before .before .before .before in
     let b = c .before .before .before .before .before .before .before .before in (
-      omega (arith, (v-pow·mul-pow t s), (is-pow·mul-pow t b), s .pre .0),
+      omega (arith, pow-sizes (v-pow·mul-pow t s), pow-sizes (is-pow·mul-pow t b), s .pre .0),
       ((((v-pow·mul-pow t s) .left, (v-pow·mul-pow t s) .right), ((is-pow·mul-pow t b) .left, (is-pow·mul-pow t b) .right)), subst (λ h. Space (s .args .width) h (pow ((getD (s .args .y .now) 0 0) % 64) (dec (s .args .width) (first (s .args .y .now))) (dec (s .args .width) (rest (s .args .y .now)))) (length (s .args .out .now)) (length (s .args .t .now)) (length (s .args .u .now))) ((v-pow·mul-pow t s) .is) (subst (λ h. Space (s .args .width) (dec (s .args .width) (s .args .x .now)) h (length (s .args .out .now)) (length (s .args .t .now)) (length (s .args .u .now))) ((is-pow·mul-pow t b) .is) (s .pre .1 .1 .0))),
     ))
-    (λ c. search needs)
-    (λ c. search needs)
-    (λ c. search needs)
+    (λ c. c .before .before .before .before .before .before .mul-pows .kept .1 .1 .1 .1 .1 .1 .1 .0)
+    (λ c. c .before .before .before .before .before .before .mul-pows .kept .1 .1 .1 .1 .1 .1 .1 .1 .0)
+    (λ c. c .before .before .before .before .before .before .mul-pows .kept .1 .1 .1 .1 .1 .1 .1 .1 .1 .0)
     -- returns-3
     (λ c.
     let s = c .before .before .before .before .before .before .before .before .before .before .before .before .before .before .before .before .before .before .before .before .before .before .before in

@@ -14,7 +14,6 @@ use Rattle.fits.specs.laws.Fit.{fit-prod}
 use Rattle.fits.specs.laws.Summands.{lead-held, two-held}
 use Rattle.fits.specs.laws.Tables.{cross-at, space-sym, space-cross}
 use Rattle.factors.proofs.Products.{made-front}
-use borrow.Author.Needs.{needs}
 use Rattle.products.proofs.add_cross.Reads as add-cross
 use Rattle.products.proofs.mul_lead.Reads as mul-lead
 use Rattle.products.proofs.mul_pows.Reads as mul-pows
@@ -130,9 +129,9 @@ mul-pows-meets t =
         ),
       ),
     ))
-    (λ c. search needs)
-    (λ c. search needs)
-    (λ c. search needs)
+    (λ c. c .before .before .before .before .before .before .add-cross2 .kept .1 .1 .1 .1 .0 ∙ c .before .before .before .before .before .before .before .before .before .before .before .before .before .before .before .before .add-cross .kept .1 .1 .1 .1 .0 ∙ c .before .before .before .before .before .before .before .before .before .before .before .before .before .before .before .before .before .before .before .before .before .before .before .before .before .before .mul-lead .kept .1 .1 .1 .1 .1 .1 .1 .0)
+    (λ c. c .before .before .before .before .before .before .add-cross2 .kept .1 .1 .1 .1 .1 .1 .0 ∙ c .before .before .before .before .before .before .before .before .before .before .before .before .before .before .before .before .add-cross .kept .1 .1 .1 .1 .1 .1 .0 ∙ c .before .before .before .before .before .before .before .before .before .before .before .before .before .before .before .before .before .before .before .before .before .before .before .before .before .before .mul-lead .kept .1 .1 .1 .1 .1 .1 .1 .1 .0)
+    (λ c. c .before .before .before .before .before .before .add-cross2 .kept .1 .1 .1 .1 .1 .1 .1 .0 ∙ c .before .before .before .before .before .before .before .before .before .before .before .before .before .before .before .before .add-cross .kept .1 .1 .1 .1 .1 .1 .1 .0 ∙ c .before .before .before .before .before .before .before .before .before .before .before .before .before .before .before .before .before .before .before .before .before .before .before .before .before .before .mul-lead .kept .1 .1 .1 .1 .1 .1 .1 .1 .1 .0)
     -- returns
     (λ c.
     let s = c .before .before .before .before .before .before .before .before .before .before .before .before .before .before .before .before .before .before .before .before .before .before .before .before .before .before .before .before .before .before .before .before .before .before .before .before .before in

@@ -12,7 +12,7 @@ use Rattle.fits.specs.Fit.{prodOf}
 use Rattle.fits.specs.Tables.{Space}
 use Rattle.fits.specs.laws.Fit.{fit-y}
 use Rattle.fits.specs.laws.Tables.{pop-space}
-use Rattle.factors.proofs.Products.{pop-of-word, pow-of-word, int-times}
+use Rattle.factors.proofs.Products.{pop-sizes, pop-of-word, pow-of-word, int-times}
 use borrow.Author.Needs.{needs}
 use Rattle.products.proofs.mul_pop.Reads as mul-pop
 use Rattle.products.proofs.mul_pow.Reads as mul-pow
@@ -46,25 +46,25 @@ product-meets t =
     (λ c κs.
     let s = c .before .before .before .before .before .before .before .before in
     ((int-view (s .pre .1 .0 .0) (c .before .if1 .taken)) .below, (s .pre .1 .0 .1, omega (arith, s .pre .1 .1 .tables, codes-length (s .pre .1 .0 .1), fit-y (s .pre .1 .1 .fit) .words))))
-    (λ c. search needs)
+    (λ c. c .before .before .scale .kept .1 .1 .1 .0)
     -- returns
     (λ c.
     let s = c .before .before .before .before .before .before .before .before .before .before .before in
     begins-as (c .before .before .scale .ensures)
     (int-times (int-view (s .pre .1 .0 .0) (c .before .before .before .before .if1 .taken)) (dec (s .args .width) (s .args .y .now))))
-    (λ c. omega (arith, is-pop·product t c))
-    (λ c. omega (arith, is-pop·product t c))
+    (λ c. omega (arith, pop-sizes (is-pop·product t c)))
+    (λ c. omega (arith, pop-sizes (is-pop·product t c)))
     (λ c. search needs)
     -- mul-pop-requires
     (λ c κs.
     let s = c .before .before .before .before .before .before .before .before .before .before .before .before in
     let b = c .before .before .before .before in (
-      omega (arith, (is-pop·product t b), s .pre .0),
+      omega (arith, pop-sizes (is-pop·product t b), s .pre .0),
       (((is-pop·product t b) .part, s .pre .1 .0 .1), pop-space ((getD (s .args .x .now) 0 0) % 64) (dec (s .args .width) (inner (s .args .x .now))) (subst (λ h. Space (s .args .width) h (dec (s .args .width) (s .args .y .now)) (length (s .args .out .now)) (length (s .args .t .now)) (length (s .args .u .now))) ((is-pop·product t b) .is) (s .pre .1 .1))),
     ))
-    (λ c. search needs)
-    (λ c. search needs)
-    (λ c. search needs)
+    (λ c. c .before .before .before .before .before .before .mul-pop .kept .1 .1 .1 .1 .0)
+    (λ c. c .before .before .before .before .before .before .mul-pop .kept .1 .1 .1 .1 .1 .0)
+    (λ c. c .before .before .before .before .before .before .mul-pop .kept .1 .1 .1 .1 .1 .1 .0)
     -- returns-2
     (λ c.
     let s = c .before .before .before .before .before .before .before .before .before .before .before .before .before .before .before .before .before .before .before in
@@ -74,7 +74,7 @@ product-meets t =
     (λ c κs.
     let s = c .before .before .before .before .before .before .before .before .before .before .before in
     (omega (arith, s .pre .0), ((s .pre .1 .0 .0, s .pre .1 .0 .1), (s .pre .1 .1, c .before .before .before .if2 .left))))
-    (λ c. search needs)
-    (λ c. search needs)
-    (λ c. search needs)
+    (λ c. c .before .before .before .before .before .before .mul-pow .kept .1 .1 .1 .0)
+    (λ c. c .before .before .before .before .before .before .mul-pow .kept .1 .1 .1 .1 .0)
+    (λ c. c .before .before .before .before .before .before .mul-pow .kept .1 .1 .1 .1 .1 .0)
     (λ c. c .before .before .before .before .before .before .mul-pow .ensures)
