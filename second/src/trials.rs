@@ -80,7 +80,7 @@ fn trial(call: &str, fields: &[&str], k: usize) -> String {
             answer = format!("DIFF {} {}", numbers[2], numbers[3]);
         }
     }
-    let mut line = format!("{call:14} {k}: {answer}");
+    let mut line = format!("{call} {k}: {answer}");
     if tables {
         let dirty = match (touched, k) {
             (false, _) => FIXED + BEYOND,

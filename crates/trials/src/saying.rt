@@ -90,13 +90,38 @@ pub fn say_judged(answer: Verdict) {
     }
 }
 
-// The call's name, by its number: columns of 14 bytes.
+// The call's name, by its number; 9 is `judge`.
 fn say_call(call: u32) {
-    let names =
-        b"form          negate        add           multiply      raise         remainder     form_remaindercompare       counters      judge         ";
-    let i = 14 * (call % 10) as usize;
-    let e = i + 14;
-    io::write_all(1, &names[i..e]);
+    if call == 0 {
+        io::write_all(1, b"form");
+    }
+    if call == 1 {
+        io::write_all(1, b"negate");
+    }
+    if call == 2 {
+        io::write_all(1, b"add");
+    }
+    if call == 3 {
+        io::write_all(1, b"multiply");
+    }
+    if call == 4 {
+        io::write_all(1, b"raise");
+    }
+    if call == 5 {
+        io::write_all(1, b"remainder");
+    }
+    if call == 6 {
+        io::write_all(1, b"form_remainder");
+    }
+    if call == 7 {
+        io::write_all(1, b"compare");
+    }
+    if call == 8 {
+        io::write_all(1, b"counters");
+    }
+    if call == 9 {
+        io::write_all(1, b"judge");
+    }
 }
 
 // The call and the try's number, at the front of its line.

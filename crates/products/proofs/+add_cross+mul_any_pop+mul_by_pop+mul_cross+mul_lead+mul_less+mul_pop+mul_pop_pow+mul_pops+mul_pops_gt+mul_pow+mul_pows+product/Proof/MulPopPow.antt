@@ -16,7 +16,6 @@ use Rattle.fits.specs.Tables.{PopSpace}
 use Rattle.fits.specs.laws.Fit.{fit-x, fit-prod}
 use Rattle.fits.specs.laws.Tables.{space-at, pop-space-at, pop-space-pow, space-lower}
 use Rattle.factors.proofs.Products.{pow-sizes, pow-of-word, pop-times}
-use borrow.Author.Needs.{needs}
 use Rattle.products.proofs.mul_less.Reads as mul-less
 use Rattle.products.proofs.mul_pop.Reads as mul-pop
 use Rattle.products.proofs.mul_pop_pow.Reads as mul-pop-pow
@@ -95,12 +94,12 @@ mul-pop-pow-meets t =
     (λ c. omega (arith, c .before .before .before .before .before .before .pre .1 .1 .1))
     (λ c. omega (arith, c .shared-slice-known3 .given 0))
     (λ c. omega (arith, pow-sizes (is-pow·mul-pop-pow t (c .before .before .before .before .before .before))))
-    (λ c. search needs)
-    (λ c. search needs)
+    (λ c. omega arith)
+    (λ c. omega arith)
     (λ c. omega (arith, pow-sizes (is-pow·mul-pop-pow t (c .before .before .before .before .before .before))))
     (λ c. omega (arith, c .before .before .before .before .before .before .before .pre .1 .1 .0 .tables))
     (λ c. omega (arith, c .before .before .before .before .before .before .before .pre .1 .1 .0 .tables))
-    (λ c. search needs)
+    (λ c. omega arith)
     -- mul-pop-requires
     (λ c κs.
     let s = c .before .before .before .before .before .before .before .before .before .before in
@@ -116,11 +115,11 @@ mul-pop-pow-meets t =
     -- part-mul-less-start
     (λ c.
     omega (arith, pow-sizes (is-pow·mul-pop-pow t (c .before .before .before .before .before .before .before .before .before .before .before .before .before .before .before .before .before))))
-    (λ c. search needs)
+    (λ c. omega arith)
     (λ c. omega (arith, few-a·mul-pop-pow t (c .before .before)))
     (λ c. a-size·mul-pop-pow t (c .before .before))
     (λ c. a-size·mul-pop-pow t (c .before .before))
-    (λ c. search needs)
+    (λ c. omega arith)
     -- mul-less-requires
     (λ c κs.
     let s = c .before .before .before .before .before .before .before .before .before .before .before .before .before .before .before .before .before .before .before .before .before in

@@ -15,7 +15,6 @@ use Rattle.fits.specs.Tables.{Space}
 use Rattle.fits.specs.laws.Fit.{fit-x}
 use Rattle.fits.specs.laws.Tables.{space-sym, pop-space}
 use Rattle.factors.proofs.Products.{pop-sizes, pow-sizes, pop-of-word, pow-of-word, times-int, times-swap}
-use borrow.Author.Needs.{needs}
 use Rattle.products.proofs.mul_pop_pow.Reads as mul-pop-pow
 use Rattle.products.proofs.mul_pow.Reads as mul-pow
 use Rattle.products.proofs.+add_cross+mul_any_pop+mul_by_pop+mul_cross+mul_lead+mul_less+mul_pop+mul_pop_pow+mul_pops+mul_pops_gt+mul_pow+mul_pows+product.Lts-mul_pow as mul-pow-lts
@@ -62,7 +61,7 @@ mul-pow-meets t =
     (times-int (int-view (s .pre .1 .0 .1) (c .before .before .before .before .if1 .taken)) (dec (s .args .width) (s .args .x .now))))
     (λ c. omega (arith, pop-sizes (is-pop·mul-pow t c)))
     (λ c. omega (arith, pop-sizes (is-pop·mul-pow t c)))
-    (λ c. search needs)
+    (λ c. omega arith)
     -- mul-pop-pow-requires
     (λ c κs.
     let s = c .before .before .before .before .before .before .before .before .before .before .before .before in
@@ -88,22 +87,22 @@ mul-pow-meets t =
     (λ c. omega (arith, c .before .before .before .before .before .before .before .before .before .pre .1 .1 .1))
     (λ c. omega (arith, c .shared-slice-known4 .given 0))
     (λ c. omega (arith, pow-sizes (v-pow·mul-pow t (c .before .before .before .before .before .before .before .before .before))))
-    (λ c. search needs)
-    (λ c. search needs)
+    (λ c. omega arith)
+    (λ c. omega arith)
     (λ c. omega (arith, pow-sizes (v-pow·mul-pow t (c .before .before .before .before .before .before .before .before .before))))
     (λ c. let s = c .before .before .before .before .before .before .before .before .before .before in omega (arith, pow-sizes (v-pow·mul-pow t s), s .good .1 .0))
     (λ c. omega (arith, pow-sizes (v-pow·mul-pow t (c .before .before .before .before .before .before .before .before .before .before))))
     (λ c. omega (arith, pow-sizes (v-pow·mul-pow t (c .before .before .before .before .before .before .before .before .before .before))))
-    (λ c. search needs)
-    (λ c. search needs)
-    (λ c. search needs)
+    (λ c. omega arith)
+    (λ c. omega arith)
+    (λ c. omega arith)
     (λ c. omega (arith, pow-sizes (is-pow·mul-pow t (c .before .before .before))))
     -- mul-mul-pows-2
     (λ c.
     omega (arith, pow-sizes (is-pow·mul-pow t (c .before .before .before .before)), c .before .before .before .before .before .before .before .before .before .before .before .before .good .1 .1 .0))
     (λ c. omega (arith, pow-sizes (is-pow·mul-pow t (c .before .before .before .before))))
     (λ c. omega (arith, pow-sizes (is-pow·mul-pow t (c .before .before .before .before))))
-    (λ c. search needs)
+    (λ c. omega arith)
     -- mul-pows-requires
     (λ c κs.
     let s = c .before .before .before .before .before .before .before .before .before .before .before .before .before .before .before .before in
