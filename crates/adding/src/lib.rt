@@ -38,7 +38,7 @@ fn write_sum(
     if e != 0 {
         return Written::Refused(e, Side::Neither, 0);
     }
-    let words = building::add(a, n, k, &mut b[..16384]);
+    let words = pairs::add(a, n, k, &mut b[..16384]);
     answering::write_result(&a[..words], result)
 }
 

@@ -1,4 +1,4 @@
--- Building the form of an accepted term: what stands at a place of its text, and what the stack holds.
-pub mod Standing
+-- Building the form of an accepted term: its leaves, and what the stack holds.
+pub mod Leaves
 pub mod Stack
 pub mod laws

@@ -1,18 +1,13 @@
--- What the stack holds: two forms one behind the other, what an operator makes of them, and how many words a term asks for.
-use mathlib.Core.Bool.{true, false}
+-- What the stack holds: how many words a term asks for, and the form built of it.
+use mathlib.Core.Bool.{true}
 use mathlib.Core.List.{List, _++_}
 use mathlib.Core.Path.{_≡_}
 use Prim.Native.Nat.{ℕ, zero, suc, _+_, _*_, _≤_, _<_, max}
-use lib.Dec.{eqb}
-use lib.ListN.{length, take, drop}
-use Rattle.horner.specs.definitions.Form.{Form}
+use lib.ListN.{length}
 use Rattle.horner.specs.definitions.Measures.{termsOf}
 use Rattle.horner.specs.definitions.Term.{normP, expt}
-use Rattle.coded.specs.Coding.{Coded, Made, dec, enc}
-use Rattle.coded.specs.Operations.{sumOf, negateOf}
-use Rattle.coded.specs.Widths.{Leaf}
-use Rattle.fits.specs.Fit.{prodOf}
-use Rattle.fits.specs.Tables.{Space, Tables}
+use Rattle.coded.specs.Coding.{Made, enc}
+use Rattle.fits.specs.Tables.{Tables}
 use Rattle.texts.specs.definitions.Answer.{read}
 use Rattle.texts.specs.definitions.Bytes.{isRow}
 use Rattle.texts.specs.definitions.Limits.{acceptTerm}
@@ -20,30 +15,7 @@ use Rattle.texts.specs.definitions.Parts.{Part, Fits}
 use Rattle.texts.specs.definitions.Tokens.{Token}
 use Rattle.texts.specs.definitions.Tree.{Tree, num, letter, neg, two, power, placed, termOf, letters}
 use Rattle.tokens.specs.Views.{from}
-use Rattle.building.specs.Standing.{fit}
-
--- the form in the first a words, and the one in the b words behind them
-abbrev pub left : ℕ → List ℕ → Form (Leaf 0)
-left a d = dec 0 (take a d)
-
-abbrev pub right : ℕ → ℕ → List ℕ → Form (Leaf 0)
-right a b d = dec 0 (take b (drop a d))
-
-pub record Pair (a b : ℕ) (d : List ℕ) : Type 0 where
-  pub fits : a + b ≤ length d
-  pub coded-left : Coded 0 (take a d)
-  pub coded-right : Coded 0 (take b (drop a d))
-
--- by the operator's number
-abbrev pub combined : ℕ → Form (Leaf 0) → Form (Leaf 0) → Form (Leaf 0)
-combined g x y = elim (eqb g 3) [ true ↦ prodOf 0 x y | false ↦ elim (eqb g 2) [ true ↦ sumOf 0 x (negateOf 0 y) | false ↦ sumOf 0 x y ] ]
-
--- n words of operands; l, o, t and u are the lengths of the four tables
-pub record Combining (g : ℕ) (x y : Form (Leaf 0)) (n l o t u : ℕ) : Type 0 where
-  pub room : n ≤ o + 1
-  pub small : o ≤ 33554432
-  pub space : g ≡ 3 → Space 0 x y o t u
-  pub words : g ≡ 3 → length (enc 0 (prodOf 0 x y)) ≤ l
+use Rattle.building.specs.Leaves.{fit}
 
 -- ---- how many words of the stack a term asks for
 abbrev pub wordsOf : List ℕ → Tree → ℕ

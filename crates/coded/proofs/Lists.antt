@@ -2,11 +2,11 @@
 -- Assumes nothing.
 use mathlib.Core.Path.{_≡_, refl, sym, ap, subst, _∙_}
 use mathlib.Core.List.{List, [], _∷_, _++_, append-assoc}
-use Prim.Native.Nat.{ℕ, suc, _+_, _-_, _≤_, _<_}
+use Prim.Native.Nat.{ℕ, zero, suc, _+_, _-_, _≤_, _<_}
 use native.Mathlib.Omega.{arith}
 use lib.ListN.{length, take, drop, getD, set, length-append, length-drop, length-take, length-set}
 use native.Mathlib.Numerals.{add-one}
-use lib.Seq.{take-append-add, take-append-le, take-suc, drop-cons, set-at, length-take-le, getD-append-add, getD-drop}
+use lib.Seq.{take-at, take-take, take-nil, take-append-add, take-append-le, take-suc, drop-cons, set-at, length-take-le, getD-append-add, getD-drop}
 use borrow.Rule.Slice.PartMut.{putMid}
 use Rattle.coded.specs.Coding.{Begins}
 use Rattle.coded.specs.laws.Codes.{tail-part}
@@ -65,3 +65,22 @@ shift-more d s gap k h e =
     let l : k < length (drop gap d) = rw length-drop (omega arith) in
     let f = copy-ahead (drop gap d) d k gap (omega arith) in
     rw (e, f, ← getD-drop gap d k 0) (copy-more (drop gap d) d k l (omega arith))
+
+-- the first n + m words, in two
+pub front-of : (n m : ℕ) (l : List ℕ) → take n (take (n + m) l) ≡ take n l
+front-of n m l = take-take n (n + m) l (omega arith)
+
+pub behind : (n m : ℕ) (l : List ℕ) → drop n (take (n + m) l) ≡ take m (drop n l)
+behind zero m l =
+    let e : 0 + m ≡ m = omega arith in
+    ap (λ k. take k l) e
+behind (suc n) m [] =
+    let e : suc n + m ≡ suc (n + m) = omega arith in
+    rw e (sym (take-nil m))
+behind (suc n) m (x ∷ l) =
+    let e : suc n + m ≡ suc (n + m) = omega arith in
+    rw e (behind n m l)
+
+-- a front that is copied
+pub copied-front : {n : ℕ} {l d e : List ℕ} (r : List ℕ) → Begins n l d → e ≡ take n d ++ r → Begins n l e
+copied-front {n} {l} {d} {e} r m q = record { size = m .size; is = rw q (take-at (take n d) r n (length-take-le n d (begins-le m)) ∙ m .is) }

@@ -14,8 +14,8 @@ use Rattle.comparing.specs.declared.Compared.{Compared}
 use Rattle.comparing.specs.laws.Whole as Compare
 use Rattle.countering.specs.declared.Counted.{Counted}
 use Rattle.countering.specs.laws.Whole as Count
-use Rattle.remaindering.specs.declared.Remaindered.{Remaindered}
-use Rattle.remaindering.specs.laws.Whole as Remainder
+use Rattle.pointing.specs.declared.Remaindered.{Remaindered}
+use Rattle.pointing.specs.laws.Whole as Remainder
 use mathlib.Core.Bool.{Bool}
 
 -- the four work tables

@@ -27,7 +27,7 @@ fn form_of(
     ensures { λ r. ⌜ r ≡ writtenOf (formOf (now (row .entry)) (now (s .entry)) (length (now (result .entry)))) ⌝ }
     ensures { λ _. ⌜ now (result .exit) ≡ resultAfter (formOf (now (row .entry)) (now (s .entry)) (length (now (result .entry)))) (now (result .entry)) ⌝ }
 {
-    let reading = opening::read_term(row, s, a, b, c, d);
+    let reading = termreading::read_term(row, s, a, b, c, d);
     let Read::Form(n) = reading else {
         return answering::refused(reading, Side::Left);
     };

@@ -11,7 +11,7 @@ use Rattle.horner.specs.definitions.Integers.{ℤ-ring, isZeroℤ}
 use Rattle.texts.specs.definitions.Answer.{Reading, read, refused}
 use Rattle.texts.specs.definitions.FormText.{text}
 use Rattle.textlaws.specs.laws.Descent.{judgedAt}
-use Rattle.syntax.specs.Machine.{pick}
+use Rattle.textlaws.specs.laws.Picks.{pick}
 use Rattle.formheads.specs.Heads.{Stands}
 use Rattle.formjudging.specs.declared.Seen.{Seen}
 use Rattle.formjudging.specs.declared.Seen.the-variants.{Wrong, Fine}

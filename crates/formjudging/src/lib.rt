@@ -2,7 +2,7 @@
 ghost use mathlib.Core.Path.{_≡_};
 ghost use Prim.Native.Nat.{_-_, _≤_};
 ghost use lib.Dec.{eqb};
-ghost use Rattle.syntax.specs.Machine.{pick};
+ghost use Rattle.textlaws.specs.laws.Picks.{pick};
 ghost use Rattle.formheads.specs.Heads.{Standing};
 ghost use Rattle.formjudging.specs.Judging.{popSeen, powSeen, SeenAt};
 

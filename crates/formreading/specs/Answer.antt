@@ -7,7 +7,7 @@ use lib.IntN.{ℤ}
 use Rattle.horner.specs.definitions.Form.{Form}
 use Rattle.texts.specs.definitions.Answer.{Reading, read, refused}
 use Rattle.texts.specs.definitions.FormReading.{readForm}
-use Rattle.syntax.specs.Machine.{pick}
+use Rattle.textlaws.specs.laws.Picks.{pick}
 use Rattle.measures.specs.declared.Measures.{Measures}
 use Rattle.measures.specs.Measuring.{limitM}
 use Rattle.formreading.specs.declared.Judged.{Judged}

@@ -8,7 +8,7 @@ use lib.ListN.{getD}
 use Rattle.horner.specs.definitions.Form.{Form, int, pop, pow}
 use Rattle.horner.specs.definitions.Integers.{ℤ-ring}
 use Rattle.horner.specs.definitions.Measures.{weight, degrees, count, terms}
-use Rattle.syntax.specs.Machine.{pick}
+use Rattle.textlaws.specs.laws.Picks.{pick}
 use Rattle.measures.specs.declared.Measures.{Measures}
 use Rattle.formheads.specs.Heads.{Stands, Ends}
 

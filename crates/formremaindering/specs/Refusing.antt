@@ -3,8 +3,8 @@ use Prim.Native.Nat.{ℕ}
 use Rattle.opening.specs.declared.Side.the-variants.{Left}
 use Rattle.formopening.specs.declared.Read.{Read}
 use Rattle.formopening.specs.declared.Read.the-variants as F
-use Rattle.remaindering.specs.declared.Remaindered.{Remaindered}
-use Rattle.remaindering.specs.declared.Remaindered.the-variants.{Remainder, Refused}
+use Rattle.pointing.specs.declared.Remaindered.{Remaindered}
+use Rattle.pointing.specs.declared.Remaindered.the-variants.{Remainder, Refused}
 
 abbrev pub refusedOf : Read → Remaindered
 refusedOf (F.Refused e p) = Refused e Left p

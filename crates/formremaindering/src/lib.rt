@@ -1,7 +1,7 @@
 // The call `form_remainder`: a form's text and a point in, the remainder by P of the form's value there out.
 use formopening::Read;
 use opening::Side;
-use remaindering::Remaindered;
+use pointing::Remaindered;
 ghost use mathlib.Core.Bool.{true};
 ghost use mathlib.Core.List.{[], _∷_};
 ghost use mathlib.Core.Path.{_≡_};
@@ -10,7 +10,7 @@ ghost use lib.ListN.{length};
 ghost use Rattle.texts.specs.definitions.Bytes.{isRow};
 ghost use Rattle.calls.specs.definitions.Buffers.{Tables};
 ghost use Rattle.calls.specs.definitions.Forms.{formRemainderOf, formRemainderReply};
-ghost use Rattle.remaindering.specs.Remaindering.{remainderedOf};
+ghost use Rattle.pointing.specs.Pointing.{remainderedOf};
 ghost use Rattle.formremaindering.specs.Refusing.{refusedOf};
 
 // The refusal of a text that was read.
@@ -40,7 +40,7 @@ fn form_remainder_of(
     let Read::Form(_, n) = reading else {
         return refused(reading);
     };
-    remaindering::put_point(point, b);
+    pointing::put_point(point, b);
     let k = point.len();
     let v = walks::value(0, &a[..n], &b[..k]);
     Remaindered::Remainder(v)

@@ -3,12 +3,3 @@ pub mod Cuts
 pub mod Made
 pub mod Limits
 pub mod Nodes
-pub mod Found
-pub mod Integers
-pub mod Judging
-pub mod Steps
-pub mod Owning
-pub mod Operands
-pub mod Inside
-pub mod Walk
-pub mod Accepting

@@ -1,26 +1,21 @@
 -- The numbers of the limits, of measures as code has them and of a subterm as document 01 has it: they are the same.
-use mathlib.Core.Path.{_≡_, refl, sym, ap, _∙_, subst}
+use mathlib.Core.Path.{_≡_, sym, _∙_, subst}
 use mathlib.Core.Logic.{_⊎_, inl, inr}
-use mathlib.Core.Bool.{Bool, true, false}
-use mathlib.Core.List.{List, [], _∷_, map}
-use Prim.Native.Nat.{ℕ, zero, suc, _+_, _*_, _^_, _≤_, _<_, min, max}
+use mathlib.Core.Bool.{true}
+use mathlib.Core.List.{List, [], _∷_}
+use Prim.Native.Nat.{ℕ, zero, suc, _≤_, _<_, min}
 use native.Mathlib.Nat as NatL
-use native.Mathlib.Numerals.{add-one}
 use native.Mathlib.Omega.{arith}
 use lib.ListN.{length, getD}
 use borrow.Author.Tests.{lt-ltb, le-ltb}
-use Rattle.horner.specs.definitions.Measures.{weightOf, degreesOf, termsOf, AllLe, box, sums, multiples, firstOr0}
-use Rattle.horner.specs.definitions.Term.{Term}
-use Rattle.horner.specs.definitions.Value.{tl}
+use Rattle.horner.specs.definitions.Measures.{weightOf, degreesOf, termsOf, AllLe}
 use Rattle.horner.specs.laws.Compare.{lt-or-ge}
-use Rattle.horner.specs.laws.Highest.{tl-getD, first-getD}
 use Rattle.texts.specs.definitions.Limits.{exponentFits, passes}
-use Rattle.texts.specs.definitions.Parts.{Fits}
 use Rattle.texts.specs.definitions.Tree.{Tree, termOf}
 use Rattle.textlaws.specs.laws.Measured.{Measure, within, power-over, weight-over, terms-over, measure}
-use Rattle.syntax.specs.Machine.{pick, pick-yes, pick-no}
+use Rattle.textlaws.specs.laws.Picks.{pick-yes, pick-no}
 use Rattle.measures.specs.declared.Measures.{Measures}
-use Rattle.measures.specs.Measuring.{measuresOf, Small, boxM, limitM}
+use Rattle.measures.specs.Measuring.{measuresOf, Small, limitM}
 use Rattle.measures.specs.Made.{of}
 
 -- ---- which limit is passed

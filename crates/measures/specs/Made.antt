@@ -1,8 +1,8 @@
 -- Measures put together field by field.
-use mathlib.Core.Path.{_≡_, refl, sym, ap, _∙_}
-use Prim.Native.Nat.{ℕ, _+_, _*_, _^_, min, max}
+use mathlib.Core.Path.{_≡_, ap, _∙_}
+use Prim.Native.Nat.{ℕ}
 use Rattle.measures.specs.declared.Measures.{Measures}
-use Rattle.measures.specs.Measuring.{boxM, addM, mulM, powM}
+use Rattle.measures.specs.Measuring.{boxM}
 
 abbrev pub of : ℕ → ℕ → ℕ → ℕ → ℕ → ℕ → Measures
 of w t a b c d = record { weight = w; terms = t; d0 = a; d1 = b; d2 = c; d3 = d }

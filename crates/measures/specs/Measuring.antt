@@ -1,18 +1,12 @@
 -- Document 01's table on measures, as code works it out: a subterm's from its parts'. Numbers that may be large are cut down above their limit, which changes no
 -- comparison with it.
-use mathlib.Core.Path.{_≡_, ap}
-use mathlib.Core.Bool.{Bool, true, false}
-use mathlib.Core.List.{List, [], _∷_}
-use Prim.Native.Nat.{ℕ, suc, _+_, _*_, _^_, _≤_, _<_, min, max}
-use lib.Dec.{leb, ltb, eqb}
+use Prim.Native.Nat.{ℕ, _+_, _*_, _^_, _≤_, min, max}
+use lib.Dec.{ltb}
 use lib.ListN.{getD}
 use Rattle.horner.specs.definitions.Term.{Term}
 use Rattle.horner.specs.definitions.Measures.{weightOf, degreesOf, termsOf}
-use Rattle.tokens.specs.declared.Reader.{Reader}
-use Rattle.syntax.specs.Machine.{pick}
+use Rattle.textlaws.specs.laws.Picks.{pick}
 use Rattle.measures.specs.declared.Measures.{Measures}
-use Rattle.measures.specs.declared.Sub.{Sub}
-use Rattle.measures.specs.declared.Sub.the-variants.{Refused, Done, Broken}
 
 -- the measures of a term over a row of n: what is measured
 abbrev pub measuresOf : ℕ → Term → Measures
@@ -78,6 +72,3 @@ limitM m =
     pick (ltb 63 (m .d0)) 8
     (pick (ltb 63 (m .d1)) 8
     (pick (ltb 63 (m .d2)) 8 (pick (ltb 63 (m .d3)) 8 (pick (ltb 1073741823 (m .weight)) 9 (pick (ltb 256 (m .terms)) 10 0)))))
-
-abbrev pub judged : Measures → ℕ → Reader → Sub
-judged m p nx = pick (eqb (limitM m) 0) (Done m nx) (Refused (limitM m) p)

@@ -1,9 +1,8 @@
 -- What code works out for a subterm stands for its measures.
 use mathlib.Core.Path.{_≡_, refl, sym, ap, ap₂, _∙_, subst}
-use mathlib.Core.Logic.{_⊎_, inl, inr}
 use mathlib.Core.Bool.{Bool, true, false}
-use mathlib.Core.List.{List, [], _∷_, map}
-use Prim.Native.Nat.{ℕ, zero, suc, _+_, _-_, _*_, _^_, _≤_, _<_, min, max}
+use mathlib.Core.List.{List, [], _∷_}
+use Prim.Native.Nat.{ℕ, zero, suc, _+_, _-_, _*_, _^_, _≤_, min, max}
 use native.Mathlib.Nat as NatL
 use native.Mathlib.Numerals.{add-one}
 use native.Mathlib.Omega.{arith}
@@ -11,16 +10,16 @@ use lib.Dec.{eqb}
 use lib.IntN.{ℤ, natAbs}
 use lib.ListN.{length, getD}
 use borrow.Author.Tests.{eq-eqb, ne-eqb, eqb-true, eqb-false}
-use Rattle.horner.specs.definitions.Measures.{weightOf, degreesOf, termsOf, AllLe, box, sums, multiples, maxs, zeros, firstOr0}
+use Rattle.horner.specs.definitions.Measures.{degreesOf, termsOf, AllLe, box, sums, multiples, maxs, zeros}
 use Rattle.horner.specs.definitions.Term.{Term, Over}
 use Rattle.horner.specs.definitions.Value.{tl}
 use Rattle.horner.specs.laws.Highest.{tl-getD, first-getD, zeros-zero, maxs-getD}
 use Rattle.horner.specs.laws.Limits.{length-degreesOf}
 use Rattle.texts.specs.definitions.Bytes.{indexIn}
-use Rattle.texts.specs.definitions.Tree.{Sign, add, sub, mul, Tree, num, letter, neg, two, power, termOf, signed}
-use Rattle.syntax.specs.Machine.{pick, pick-yes, pick-no}
+use Rattle.texts.specs.definitions.Tree.{Sign, add, sub, mul, Tree, num, letter, neg, two, power, termOf}
+use Rattle.textlaws.specs.laws.Picks.{pick, pick-yes, pick-no}
 use Rattle.measures.specs.declared.Measures.{Measures}
-use Rattle.measures.specs.Measuring.{measuresOf, Small, boxM, addM, mulM, powM}
+use Rattle.measures.specs.Measuring.{measuresOf, boxM, addM, mulM, powM}
 use Rattle.measures.specs.Made.{of}
 use Rattle.measures.specs.Limits.{Meets, degree-63}
 

@@ -41,7 +41,7 @@ fn write_product(
     if e != 0 {
         return Written::Refused(e, Side::Neither, 0);
     }
-    let words = building::multiply(a, n, k, &mut b[..16384], &mut c[..16384], &mut d[..6146]);
+    let words = combining::multiply(a, n, k, &mut b[..16384], &mut c[..16384], &mut d[..6146]);
     answering::write_result(&a[..words], result)
 }
 

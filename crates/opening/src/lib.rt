@@ -1,11 +1,9 @@
-// What the calls begin and end with: the row and the tables looked at, a term's text read into its coded form, the tables cleared.
-use syntax::Syntax;
-ghost use mathlib.Core.Bool.{true};
+// What the calls begin and end with: the row and the tables looked at, the tables cleared.
 ghost use mathlib.Core.List.{[], _∷_};
 ghost use mathlib.Core.Path.{_≡_};
 ghost use lib.ListN.{length, replicate};
 ghost use Rattle.texts.specs.definitions.Bytes.{inRow, isRow};
-ghost use Rattle.opening.specs.Opening.{readyOf, Long, TermRead};
+ghost use Rattle.opening.specs.Opening.{readyOf};
 
 // Which text a refusal speaks of.
 pub enum Side {
@@ -91,34 +89,4 @@ pub fn clear_tables(a: &mut [u32], b: &mut [u32], c: &mut [u32], d: &mut [u32])
     residue::clear(b);
     residue::clear(c);
     residue::clear(d);
-}
-
-// Reads the term s and leaves its form at the front of the table a.
-pub fn read_term(
-    row: &[u8],
-    s: &[u8],
-    a: &mut [u32],
-    b: &mut [u32],
-    c: &mut [u32],
-    d: &mut [u32],
-) -> Read
-    requires { ⌜ isRow (now row) ≡ true ⌝ }
-    requires { ⌜ Long (length (now a)) (length (now b)) (length (now c)) (length (now d)) ⌝ }
-    ensures { λ r. ⌜ TermRead (now (row .entry)) (now (s .entry)) r (now (a .exit)) ⌝ }
-{
-    let reading = measures::accept_term(row, s);
-    match reading {
-        Syntax::Refused(e, p) => Read::Refused(e, p),
-        Syntax::Term => {
-            let n = building::build_term(
-                row,
-                s,
-                &mut a[..16384],
-                &mut b[..16384],
-                &mut c[..16384],
-                &mut d[..6146],
-            );
-            Read::Form(n)
-        }
-    }
 }

@@ -6,7 +6,8 @@ ghost use mathlib.Core.Path.{_≡_};
 ghost use Prim.Native.Nat.{_≤_};
 ghost use lib.ListN.{length};
 ghost use Rattle.texts.specs.definitions.Bytes.{isRow};
-ghost use Rattle.opening.specs.Opening.{Long, TermRead};
+ghost use Rattle.opening.specs.Opening.{Long};
+ghost use Rattle.termreading.specs.TermReading.{TermRead};
 ghost use Rattle.pairing.specs.Pairing.{PairRead, pairRefused};
 
 // How many words the left form and the right form take, or the refusal's number, side and place.
@@ -38,7 +39,7 @@ fn read_into(
     requires { ⌜ Long (length (now a)) (length (now b)) (length (now c)) (length (now d)) ⌝ }
     ensures { λ r. ⌜ TermRead (now (row .entry)) (now (s .entry)) r (now (d .exit)) ⌝ }
 {
-    let reading = opening::read_term(row, s, a, b, c, d);
+    let reading = termreading::read_term(row, s, a, b, c, d);
     let Read::Form(n) = reading else {
         return reading;
     };

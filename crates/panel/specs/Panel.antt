@@ -6,8 +6,8 @@ use Rattle.answering.specs.declared.Written.{Written}
 use Rattle.answering.specs.declared.Written.the-variants as W
 use Rattle.comparing.specs.declared.Compared.{Compared}
 use Rattle.comparing.specs.declared.Compared.the-variants as C
-use Rattle.remaindering.specs.declared.Remaindered.{Remaindered}
-use Rattle.remaindering.specs.declared.Remaindered.the-variants as R
+use Rattle.pointing.specs.declared.Remaindered.{Remaindered}
+use Rattle.pointing.specs.declared.Remaindered.the-variants as R
 use Rattle.panel.specs.declared.PanelAnswer.{PanelAnswer}
 
 -- "The refusal says left, right or neither"

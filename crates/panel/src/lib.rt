@@ -3,7 +3,7 @@
 use answering::Written;
 use comparing::Compared;
 use opening::Side;
-use remaindering::Remaindered;
+use pointing::Remaindered;
 ghost use mathlib.Core.List.{[], _∷_};
 ghost use mathlib.Core.Path.{_≡_};
 ghost use lib.ListN.{length};
@@ -12,7 +12,7 @@ ghost use Rattle.calls.specs.definitions.Comparing.{compareReply, pointAfter};
 ghost use Rattle.calls.specs.definitions.Terms.{formReply, remainderReply};
 ghost use Rattle.answering.specs.Answering.{writtenOf};
 ghost use Rattle.comparing.specs.Comparing.{comparedOf};
-ghost use Rattle.remaindering.specs.Remaindering.{remainderedOf};
+ghost use Rattle.pointing.specs.Pointing.{remainderedOf};
 ghost use Rattle.panel.specs.Panel.{sideNumber, refusal, ofWritten, ofCompared, ofRemaindered};
 
 // kind: 0 same, written, or a remainder; 1 different; 2 refused. Then, of a refusal, its number, its side (0 neither, 1 left, 2 right) and its place; of 'different'

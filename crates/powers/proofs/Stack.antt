@@ -2,10 +2,10 @@
 -- Assumes nothing.
 use mathlib.Core.Path.{_≡_, sym, ap, subst, _∙_}
 use mathlib.Core.List.{List, [], _∷_}
-use Prim.Native.Nat.{ℕ, zero, suc, _+_, _-_, _≤_, _<_}
+use Prim.Native.Nat.{ℕ, suc, _+_, _-_, _≤_, _<_}
 use native.Mathlib.Omega.{arith}
 use lib.ListN.{length, take, drop, set, length-drop}
-use lib.Seq.{take-take, take-nil, take-set-le, set-split, drop-at, length-take-le}
+use lib.Seq.{take-set-le, set-split, drop-at, length-take-le}
 use borrow.Rule.Slice.PartMut.{putMid, take-put}
 use Rattle.horner.specs.definitions.Form.{Form}
 use Rattle.coded.specs.Coding.{enc, dec, Good, Codes, Coded, Begins, Made}
@@ -20,21 +20,6 @@ use Rattle.fits.specs.laws.Fit.{fit-y}
 use Rattle.fits.specs.laws.Tables.{space-at}
 use Rattle.powers.specs.Raise.{raiseOf, Raising, Stacked}
 use Rattle.powers.specs.laws.Raise.{raise-more, raise-fit, raise-space}
-
--- the first n + m words, in two
-pub front-of : (n m : ℕ) (l : List ℕ) → take n (take (n + m) l) ≡ take n l
-front-of n m l = take-take n (n + m) l (omega arith)
-
-pub behind : (n m : ℕ) (l : List ℕ) → drop n (take (n + m) l) ≡ take m (drop n l)
-behind zero m l =
-    let e : 0 + m ≡ m = omega arith in
-    ap (λ k. take k l) e
-behind (suc n) m [] =
-    let e : suc n + m ≡ suc (n + m) = omega arith in
-    rw e (sym (take-nil m))
-behind (suc n) m (x ∷ l) =
-    let e : suc n + m ≡ suc (n + m) = omega arith in
-    rw e (behind n m l)
 
 -- the code of 1, which is the power by 0
 one-code : (w : ℕ) (x : Form (Leaf w)) → 1 ∷ [] ≡ enc w (raiseOf w x 0)

@@ -1,26 +1,11 @@
--- The enum that `remainder` answers, for each reply, and the remainders of a point's coordinates.
-use mathlib.Core.List.{List, map}
-use Prim.Native.Nat.{ℕ}
-use lib.IntN.{ℤ}
-use Rattle.calls.specs.definitions.Reply.{Reply, gives, refuses}
-use Rattle.calls.specs.definitions.Terms.{remainder}
-use Rattle.opening.specs.Opening.{told}
+-- What `remainder` answers where its text is refused.
 use Rattle.opening.specs.declared.Read.{Read}
 use Rattle.opening.specs.declared.Read.the-variants as R
 use Rattle.opening.specs.declared.Side.the-variants.{Left}
-use Rattle.remaindering.specs.declared.Remaindered.{Remaindered}
-use Rattle.remaindering.specs.declared.Remaindered.the-variants.{Remainder, Refused}
-
--- "Where an answer is an enum, a definition gives this paper's number and values for each case of the enum": the remainder, or number, side and place
-abbrev pub remainderedOf : Reply ℕ → Remaindered
-remainderedOf (gives n) = Remainder n
-remainderedOf (refuses e s p) = Refused e (told s) p
+use Rattle.pointing.specs.declared.Remaindered.{Remaindered}
+use Rattle.pointing.specs.declared.Remaindered.the-variants.{Remainder, Refused}
 
 -- the refusal of the one text that the call has; a form that was read is none, and the call goes on with it
 abbrev pub refusedOf : Read → Remaindered
 refusedOf (R.Refused e p) = Refused e Left p
 refusedOf (R.Form n) = Remainder 0
-
--- the remainders of the coordinates
-unfoldable pub residuesOf : List ℤ → List ℕ
-residuesOf N = map remainder N

@@ -1,4 +1,1 @@
-pub mod Values
-pub mod Residues
-pub mod Whole
 pub mod Remainder

@@ -1,22 +1,17 @@
 // The call `remainder`: a term and a point in, the remainder by P of the term's value there out.
 use opening::Read;
 use opening::Side;
+use pointing::Remaindered;
 ghost use mathlib.Core.Bool.{true};
-ghost use mathlib.Core.List.{[], _∷_, _++_};
+ghost use mathlib.Core.List.{[], _∷_};
 ghost use mathlib.Core.Path.{_≡_};
-ghost use Prim.Native.Nat.{_≤_};
-ghost use lib.ListN.{length, drop};
+ghost use lib.ListN.{length};
 ghost use Rattle.texts.specs.definitions.Bytes.{isRow};
 ghost use Rattle.calls.specs.definitions.Buffers.{Tables};
 ghost use Rattle.calls.specs.definitions.Terms.{remainderOf, remainderReply};
 ghost use Rattle.opening.specs.Opening.{Long};
-ghost use Rattle.remaindering.specs.Remaindering.{remainderedOf, refusedOf, residuesOf};
-
-// The remainder, or the refusal's number, side and place.
-pub enum Remaindered {
-    Remainder(u32),
-    Refused(u32, Side, usize),
-}
+ghost use Rattle.pointing.specs.Pointing.{remainderedOf};
+ghost use Rattle.remaindering.specs.Remaindering.{refusedOf};
 
 // The refusal of a text that was read.
 pub fn refused(reading: Read) -> Remaindered
@@ -25,18 +20,6 @@ pub fn refused(reading: Read) -> Remaindered
     match reading {
         Read::Refused(e, p) => Remaindered::Refused(e, Side::Left, p),
         Read::Form(_) => Remaindered::Remainder(0),
-    }
-}
-
-// Writes the remainders of the coordinates to the front of out. What lies after them stays.
-pub fn put_point(point: &[i32], out: &mut [u32])
-    requires { ⌜ length (now point) ≤ length (now out) ⌝ }
-    ensures { λ _. ⌜ now (out .exit) ≡ residuesOf (now (point .entry)) ++ drop (length (now (point .entry))) (now (out .entry)) ⌝ }
-{
-    let mut i = 0;
-    while i < point.len() {
-        out[i] = residue::of_coordinate(point[i]);
-        i += 1;
     }
 }
 
@@ -55,11 +38,11 @@ fn remainder_of(
     requires { ⌜ length (now point) ≡ length (now row) ⌝ }
     ensures { λ r. ⌜ r ≡ remainderedOf (remainderOf (now (row .entry)) (now (s .entry)) (now (point .entry))) ⌝ }
 {
-    let reading = opening::read_term(row, s, a, b, c, d);
+    let reading = termreading::read_term(row, s, a, b, c, d);
     let Read::Form(n) = reading else {
         return refused(reading);
     };
-    put_point(point, b);
+    pointing::put_point(point, b);
     let k = point.len();
     let v = walks::value(0, &a[..n], &b[..k]);
     Remaindered::Remainder(v)

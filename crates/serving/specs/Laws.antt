@@ -14,8 +14,8 @@ use Rattle.fields.specs.Fields.{fieldOf, restOf, countOf, naturalOf, coordinate
 use Rattle.fields.specs.declared.Number.{Number}
 use Rattle.fields.specs.declared.Number.the-variants.{Is, Wrong}
 use Rattle.replying.specs.Replying.{wrongText}
-use Rattle.remaindering.specs.Remaindering.{remainderedOf}
-use Rattle.remaindering.specs.declared.Remaindered.{Remaindered}
+use Rattle.pointing.specs.Pointing.{remainderedOf}
+use Rattle.pointing.specs.declared.Remaindered.{Remaindered}
 use Rattle.serving.specs.Serving.{counted, numberOr, numbered, pointFault, fiveOf, pointOf, pointed, remainderedText, remainderedLine}
 
 -- ---- the number of fields

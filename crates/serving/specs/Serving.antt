@@ -12,8 +12,8 @@ use Rattle.fields.specs.declared.Number.{Number}
 use Rattle.fields.specs.declared.Number.the-variants.{Is, Wrong}
 use Rattle.replying.specs.Replying.{wrongText, refusedText, remainderText}
 use Rattle.opening.specs.Opening.{told}
-use Rattle.remaindering.specs.declared.Remaindered.{Remaindered}
-use Rattle.remaindering.specs.declared.Remaindered.the-variants.{Remainder, Refused}
+use Rattle.pointing.specs.declared.Remaindered.{Remaindered}
+use Rattle.pointing.specs.declared.Remaindered.the-variants.{Remainder, Refused}
 
 -- w where the line's word is the one that is named, else what comes after
 abbrev pub asks : List ℕ → List ℕ → List ℕ → List ℕ → List ℕ

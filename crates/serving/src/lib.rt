@@ -1,5 +1,5 @@
 // What the lines of the desk share: the number of their fields, the coordinates of a point, the line of a remainder.
-use remaindering::Remaindered;
+use pointing::Remaindered;
 ghost use mathlib.Core.Path.{_≡_};
 ghost use Prim.Native.Nat.{_-_, _≤_, min};
 ghost use lib.ListN.{length};

@@ -10,11 +10,10 @@ use lib.Dec.{eqb, ltb}
 use lib.ListN.{length, getD}
 use borrow.Author.Tests.{eq-eqb, ne-eqb, lt-ltb, le-ltb}
 use Rattle.texts.specs.definitions.Bytes.{bytes, same, capital, inRow, indexIn}
-use Rattle.texts.specs.definitions.Numerals.{canonical, readInt, readNat, valueFrom, dec, writeInt}
+use Rattle.texts.specs.definitions.Numerals.{canonical, readInt, readNat, valueFrom, dec, writeInt, isSome}
 use Rattle.texts.specs.definitions.Tokens.{Token, opening, closing, word}
 use Rattle.texts.specs.definitions.Tree.{Sign, add, sub, mul, Tree, num, letter, neg, two, power}
 use Rattle.texts.specs.definitions.Reading.{Frame, first, second, base, Spot, operand, operator, exponent, ending, raised, Next, on, whole, off, deliver, lone, intOr, leaf, deliverSome, operatorWord, raise, closeShort, step, caseNext, letterCheck, check}
-use Rattle.texts.specs.definitions.Numerals.{isSome}
 use Rattle.textlaws.specs.laws.Bytes.{same-eq}
 use Rattle.textlaws.specs.laws.Numerals.{int-read, dec-read}
 use Rattle.textlaws.specs.laws.Words.{check-num}
@@ -23,7 +22,8 @@ use Rattle.words.specs.Laws.{integer-some, in-row, operator-0}
 use Rattle.syntax.specs.declared.State.{State}
 use Rattle.syntax.specs.declared.Moved.{Moved}
 use Rattle.syntax.specs.declared.Moved.the-variants.{On, Whole, Off}
-use Rattle.syntax.specs.Machine.{pick, pick-yes, pick-no, goes, deliverC, closeShortC, closeC, letterC, leafC, pushC, operatorC, exponentC, wordC, openC}
+use Rattle.textlaws.specs.laws.Picks.{pick, pick-yes, pick-no}
+use Rattle.syntax.specs.Machine.{goes, deliverC, closeShortC, closeC, letterC, leafC, pushC, operatorC, exponentC, wordC, openC}
 
 -- ---- the numbers
 abbrev pub signCode : Sign → ℕ

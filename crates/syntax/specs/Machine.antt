@@ -1,33 +1,20 @@
 -- The reading of a term with numbers for its states (texts/specs/definitions/Reading has it with what was read): what code runs.
-use mathlib.Core.Path.{_≡_, ap}
-use mathlib.Core.Bool.{Bool, true, false, not, cond}
+use mathlib.Core.Path.{_≡_}
 use mathlib.Core.List.{List, [], _∷_}
-use Prim.Native.Nat.{ℕ, suc, _+_, _-_, _*_, _/_, _%_, _≤_, _<_}
-use lib.Dec.{eqb, ltb, leb}
+use Prim.Native.Nat.{ℕ, _+_, _-_, _*_, _/_, _%_, _<_}
+use lib.Dec.{eqb, ltb}
 use lib.ListN.{length, getD}
 use Rattle.texts.specs.definitions.Bytes.{capital, indexIn}
 use Rattle.texts.specs.definitions.Numerals.{canonical}
 use Rattle.texts.specs.definitions.Tokens.{Token, opening, closing, word}
 use Rattle.tokens.specs.declared.Reader.{Reader}
+use Rattle.textlaws.specs.laws.Picks.{pick}
 use Rattle.words.specs.Words.{isInteger, operatorOf}
 use Rattle.syntax.specs.declared.State.{State}
 use Rattle.syntax.specs.declared.Moved.{Moved}
 use Rattle.syntax.specs.declared.Moved.the-variants.{On, Whole, Off}
 use Rattle.syntax.specs.declared.Turning.{Turning}
 use Rattle.syntax.specs.declared.Turning.the-variants as T
-
--- one of two, by a test. It stays shut, so that a proof goes by the two laws
-unfoldable pub pick : {A : Type 0} → Bool → A → A → A
-pick true a b = a
-pick false a b = b
-
-pub pick-yes : {A : Type 0} {t : Bool} (a b : A) → t ≡ true → pick t a b ≡ a
-unfolding pick
-pick-yes a b e = ap (λ t. pick t a b) e
-
-pub pick-no : {A : Type 0} {t : Bool} (a b : A) → t ≡ false → pick t a b ≡ b
-unfolding pick
-pick-no a b e = ap (λ t. pick t a b) e
 
 abbrev pub goes : ℕ → ℕ → ℕ → Moved
 goes spot stack depth = On (record { spot = spot; stack = stack; depth = depth })

@@ -11,11 +11,10 @@ use lib.IntN.{ℤ, pos}
 use lib.ListN.{length, getD}
 use borrow.Author.Tests.{ne-eqb}
 use Rattle.texts.specs.definitions.Bytes.{bytes, same, capital, inRow, indexIn}
-use Rattle.texts.specs.definitions.Numerals.{canonical, readInt, readNat, valueFrom, dec, writeInt}
+use Rattle.texts.specs.definitions.Numerals.{canonical, readInt, readNat, valueFrom, dec, writeInt, isSome}
 use Rattle.texts.specs.definitions.Tokens.{Token, word}
 use Rattle.texts.specs.definitions.Tree.{Sign, add, sub, mul, Tree, num, letter}
 use Rattle.texts.specs.definitions.Reading.{Frame, first, second, base, Spot, operand, operator, exponent, ending, raised, Next, on, off, deliver, lone, intOr, leaf, deliverSome, operatorWord, raise, step, letterCheck, check}
-use Rattle.texts.specs.definitions.Numerals.{isSome}
 use Rattle.textlaws.specs.laws.Bytes.{same-eq, same-refl, not-both}
 use Rattle.textlaws.specs.laws.Numerals.{int-read, dec-read}
 use Rattle.textlaws.specs.laws.Words.{check-num}
@@ -23,7 +22,8 @@ use Rattle.words.specs.Words.{isInteger, operatorOf}
 use Rattle.words.specs.Laws.{integer-some, in-row, operator-0}
 use Rattle.syntax.specs.declared.Moved.{Moved}
 use Rattle.syntax.specs.declared.Moved.the-variants.{On, Whole, Off}
-use Rattle.syntax.specs.Machine.{pick, pick-yes, pick-no, goes, deliverC, letterC, leafC, pushC, operatorC, exponentC, wordC}
+use Rattle.textlaws.specs.laws.Picks.{pick, pick-yes, pick-no}
+use Rattle.syntax.specs.Machine.{goes, deliverC, letterC, leafC, pushC, operatorC, exponentC, wordC}
 use Rattle.syntax.specs.Codes.{signCode, stackCode, stateOf, Turned, go, done, stop, nextA, checked, movedA, turnA, code-deliver}
 
 -- ---- an operand

@@ -37,6 +37,7 @@ pub mod FormNodes
 pub mod Length
 pub mod Result
 -- for programs
+pub mod Picks
 pub mod Kinds
 pub mod FormKinds
 pub mod FormWalk

@@ -4,7 +4,7 @@ use comparing::Compared;
 use countering::Counted;
 use judging::Verdict;
 use opening::Side;
-use remaindering::Remaindered;
+use pointing::Remaindered;
 
 // How many words are not 0.
 pub fn dirty(t: &[u32]) -> u64 {

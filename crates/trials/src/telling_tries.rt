@@ -7,7 +7,7 @@ use crate::saying::say_counted;
 use crate::saying::say_remainder;
 use comparing::Compared;
 use countering::Counted;
-use remaindering::Remaindered;
+use pointing::Remaindered;
 
 fn try_remainder(
     k: u32,

@@ -23,7 +23,7 @@ use Rattle.adding.proofs.write_sum.Tie as tie
 use Rattle.adding.proofs.write_sum.Reads as reads
 use Rattle.adding.proofs.write_sum.Lts as lts
 use Rattle.answering.proofs.write_result.Reads as write-result-reads
-use Rattle.building.proofs.add.Reads as add-reads
+use Rattle.pairs.proofs.add.Reads as add-reads
 use Rattle.measures.proofs.add.Reads as add-reads′
 use Rattle.measures.proofs.limit_of.Reads as limit-of-reads
 

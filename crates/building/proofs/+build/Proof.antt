@@ -3,7 +3,7 @@
 -- Assumes nothing.
 use mathlib.Core.List.{_++_}
 use mathlib.Core.Path.{_≡_, refl, sym, subst, _∙_}
-use Prim.Native.Nat.{_+_, _-_}
+use Prim.Native.Nat.{_+_, _-_, ℕ, _<_}
 use native.Mathlib.Omega.{arith}
 use lib.ListN.{length}
 use denote.Ref.{now}
@@ -12,23 +12,22 @@ use borrow.Rule.Slice.PartMut.{putMid}
 use Rattle.coded.specs.laws.Codes.{coded}
 use Rattle.coded.proofs.Lists.{begins-le, length-tail-part}
 use Rattle.powers.proofs.Stack.{made-one}
-use Rattle.building.specs.Standing.{kindOf, firstOf, secondOf, tailOf, HeadIs, Passed}
+use Rattle.termheads.specs.Standing.{kindOf, firstOf, secondOf, tailOf, HeadIs, Passed}
 use Rattle.building.specs.Stack.{Stands, Done}
 use Rattle.building.specs.laws.Building.{finished, ready-as, tables-as, few-words, head, head-inside, leaf-some, leaf-asks, leaf-gives, zero-is, first-of, first-ready, zero-room, zero-gives, first-codes, exponent-stands, exponent-inside, raise-asks, raise-gives, negate-gives, second-ready, closeOf, second-of, combining, combine-gives}
 use Rattle.building.proofs.Stacks.{Both, both, both-combining, both-made}
-use Prim.Native.Nat.{ℕ, _<_}
 use borrow.Fn.Kinds.{In}
 use borrow.Fn.PlainCycle.{Measures, is, falls, and}
 use Rattle.building.proofs.build.Reads as build
 use Rattle.building.proofs.build.Kinds as build-kinds
 use Rattle.building.proofs.+build.Lts-build as build-lts
-use Rattle.building.proofs.combine.Reads as combine-reads
-use Rattle.building.proofs.exponent_at.Reads as exponent-at-reads
-use Rattle.building.proofs.head_of.Reads as head-of-reads
+use Rattle.combining.proofs.combine.Reads as combine-reads
+use Rattle.termheads.proofs.exponent_at.Reads as exponent-at-reads
+use Rattle.termheads.proofs.head_of.Reads as head-of-reads
 use Rattle.building.proofs.leaf_form.Reads as leaf-form-reads
-use Rattle.building.proofs.negate_front.Reads as negate-front-reads
-use Rattle.building.proofs.past.Reads as past-reads
-use Rattle.building.proofs.zero_power.Reads as zero-power-reads
+use Rattle.pairs.proofs.negate_front.Reads as negate-front-reads
+use Rattle.termheads.proofs.past.Reads as past-reads
+use Rattle.termheads.proofs.zero_power.Reads as zero-power-reads
 use Rattle.powers.proofs.raise.Reads as raise-reads
 use Rattle.building.proofs.+build.{statement}
 use Rattle.building.proofs.+build.Tie.{close}

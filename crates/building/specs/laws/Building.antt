@@ -13,7 +13,7 @@ use Rattle.horner.specs.laws.Degree.{bounded-mono}
 use Rattle.horner.specs.laws.Limits.{length-degreesOf}
 use Rattle.coded.specs.Coding.{enc, dec, Good, Codes, Coded, Begins, Made}
 use Rattle.coded.specs.Operations.{sumOf, negateOf}
-use Rattle.coded.specs.Widths.{Leaf}
+use Rattle.coded.specs.Widths.{Leaf, ringOf}
 use Rattle.coded.specs.laws.Codes.{dec-enc, coded}
 use Rattle.coded.specs.laws.Good.{good-at}
 use Rattle.fits.specs.Fit.{prodOf}
@@ -23,7 +23,6 @@ use Rattle.fits.specs.laws.Tables.{tables-for}
 use Rattle.fits.specs.laws.Terms.{term-within, terms-fit}
 use Rattle.horner.specs.laws.Room.{words-3073}
 use Rattle.horner.specs.definitions.Measures.{degreesOf}
-use Rattle.coded.specs.Widths.{ringOf}
 use Rattle.coded.specs.laws.Sizes.{size-enc}
 use Rattle.powers.specs.Raise.{raiseOf, Raising}
 use Rattle.powers.specs.laws.Terms.{term-raising}
@@ -35,8 +34,10 @@ use Rattle.texts.specs.definitions.Tree.{Sign, add, sub, mul, Tree, num, letter
 use Rattle.textlaws.specs.laws.Bytes.{and-l, and-r}
 use Rattle.textlaws.specs.laws.Rows.{row-length, letters-over}
 use Rattle.tokens.specs.Views.{from}
-use Rattle.building.specs.Standing.{signKind, kindOf, firstOf, secondOf, inner, tailOf, zeroPower, HeadIs, Headed, Passed, ZeroIs, Zeroed, Raised, ExponentRead, fit, OneLeaf, LeafMade}
-use Rattle.building.specs.Stack.{combined, Combining, wordsOf, lowerWords, need, Stands, ReadyAt, Done, Finished}
+use Rattle.termheads.specs.Standing.{signKind, kindOf, firstOf, secondOf, inner, tailOf, zeroPower, HeadIs, Headed, Passed, ZeroIs, Zeroed, Raised, ExponentRead}
+use Rattle.building.specs.Leaves.{fit, OneLeaf, LeafMade}
+use Rattle.combining.specs.Combining.{combined, Combining}
+use Rattle.building.specs.Stack.{wordsOf, lowerWords, need, Stands, ReadyAt, Done, Finished}
 use Rattle.building.specs.laws.Same.{same-term}
 use Rattle.building.specs.laws.Words.{lower-words}
 

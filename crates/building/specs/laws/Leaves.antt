@@ -1,11 +1,10 @@
--- What the words of a term stand for: integers by their remainders, letters by their places in the row, exponents.
+-- What the words of a term stand for: integers by their remainders, letters by their places in the row.
 use mathlib.Core.Bool.{true, false, true≢false}
-use mathlib.Core.List.{List, [], _∷_}
-use mathlib.Core.Path.{_≡_, refl, sym, ap, _∙_, subst}
-use Prim.Native.Nat.{ℕ, zero, suc, _-_, _≤_, _<_, min, _%_}
+use mathlib.Core.List.{List}
+use mathlib.Core.Path.{_≡_, sym, ap, _∙_, subst}
+use Prim.Native.Nat.{ℕ, suc, _-_, _≤_, _<_, min, _%_}
 use native.Mathlib.Nat as NatL
 use native.Mathlib.Omega.{arith}
-use borrow.Author.Tests.{eqb-false}
 use lib.IntN.{ℤ, pos, negsuc, natAbs}
 use lib.ListN.{length, drop, getD}
 use Rattle.horner.specs.definitions.Form.{int}
@@ -16,37 +15,13 @@ use Rattle.walks.specs.Shapes.{letterOf}
 use Rattle.texts.specs.definitions.Bytes.{digit, all, capital, inRow, indexIn}
 use Rattle.texts.specs.definitions.Numerals.{dec, writeInt, readInt, valueFrom}
 use Rattle.texts.specs.definitions.Tree.{Tree, num, letter, neg, two, power, Sign, add, sub, mul, termOf, letters}
-use Rattle.textlaws.specs.laws.Bytes.{and-l, and-r, and-i, digit-range}
-use Rattle.textlaws.specs.laws.Numerals.{Leading, leading-dec, dec-short, value-dec, read-int}
+use Rattle.textlaws.specs.laws.Bytes.{and-l, and-r}
+use Rattle.textlaws.specs.laws.Numerals.{value-dec, read-int}
 use Rattle.textlaws.specs.laws.Rows.{index-below, row-length}
 use Rattle.textlaws.specs.laws.Words.{capital-range}
-use Rattle.building.specs.Standing.{kindOf, leafWord, signKind, fit, IsInteger, OneLeaf, LeafMade, orZero, integerOf}
-
--- ---- decimal texts
-pub record Digits (w : List ℕ) : Type 0 where
-  pub some : 0 < length w
-  pub first : 48 ≤ getD w 0 0
-  pub last : getD w 0 0 ≤ 57
-  pub digits : all digit w ≡ true
-
-of-leading : (w : List ℕ) → Leading w → Digits w × (getD w 0 0 ≡ 48 → ⊥)
-of-leading [] l = absurd l
-of-leading (x ∷ w) l =
-    (record { some = omega arith; first = digit-range x (l .1) .0; last = digit-range x (l .1) .1; digits = and-i (l .1) (l .2) }, eqb-false x 48 (l .0))
-
-of-zero : (w : List ℕ) → w ≡ 48 ∷ [] → Digits w
-of-zero w e = subst Digits (sym e) (record { some = omega arith; first = omega arith; last = omega arith; digits = refl })
-
-pub dec-zero : dec 0 ≡ 48 ∷ []
-dec-zero = dec-short 0 (omega arith)
-
-pub dec-digits : (n : ℕ) → Digits (dec n)
-dec-digits zero = of-zero (dec 0) dec-zero
-dec-digits (suc n) = of-leading (dec (suc n)) (leading-dec n) .0
-
--- only 0 begins with 0
-pub dec-more : (n : ℕ) → getD (dec (suc n)) 0 0 ≡ 48 → ⊥
-dec-more n = of-leading (dec (suc n)) (leading-dec n) .1
+use Rattle.termheads.specs.Standing.{kindOf, leafWord, signKind}
+use Rattle.termheads.specs.laws.Digits.{dec-digits}
+use Rattle.building.specs.Leaves.{fit, IsInteger, OneLeaf, LeafMade, orZero, integerOf}
 
 -- ---- integers
 int-some : (z : ℤ) → 0 < length (writeInt z)

@@ -16,7 +16,7 @@ use Rattle.texts.specs.definitions.Parts.{Part, itself, in-neg, in-left, in-rig
 use Rattle.texts.specs.definitions.Tree.{Sign, add, sub, mul, Tree, num, letter, neg, two, power, termOf, letters, nesting}
 use Rattle.textlaws.specs.laws.Bytes.{and-l, and-r}
 use Rattle.textlaws.specs.laws.Rows.{letters-over}
-use Rattle.building.specs.Standing.{fit}
+use Rattle.building.specs.Leaves.{fit}
 use Rattle.building.specs.Stack.{wordsOf, need}
 use Rattle.building.specs.laws.Words.{words-by-terms, words-by-box, terms-by-box}
 

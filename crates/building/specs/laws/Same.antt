@@ -14,7 +14,7 @@ use Rattle.texts.specs.definitions.Tree.{Sign, add, sub, mul, signText, Tree, n
 use Rattle.textlaws.specs.laws.Bytes.{and-l, and-r}
 use Rattle.textlaws.specs.laws.Numerals.{no-none, read-int, value-dec}
 use Rattle.textlaws.specs.laws.Words.{capital-no-int}
-use Rattle.building.specs.Standing.{fit}
+use Rattle.building.specs.Leaves.{fit}
 
 -- ---- tokens that differ
 off-word : {p q : ℕ} {w : List ℕ} {ks ls : List Token} {P : Type 0} → word p w ∷ ks ≡ opening q ∷ ls → P

@@ -3,7 +3,7 @@ use Prim.Native.Nat.{ℕ, _+_, _*_, _≤_}
 use native.Mathlib.Nat as NatL
 use native.Mathlib.Omega.{arith}
 use lib.ListN.{length}
-use Rattle.horner.specs.definitions.Measures.{multiples, box, boxOf, degreesOf, termsOf}
+use Rattle.horner.specs.definitions.Measures.{multiples, boxOf, degreesOf, termsOf}
 use Rattle.horner.specs.definitions.Residues.{redℤ, prime, prime-pos}
 use Rattle.horner.specs.definitions.Term.{Term, num, var, minus, plus, diff, times, expt, Over, normP}
 use Rattle.horner.specs.laws.Count.{box-pos}

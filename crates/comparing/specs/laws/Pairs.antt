@@ -24,8 +24,8 @@ use Rattle.textlaws.specs.laws.Rows.{row-length, accepted-within}
 use Rattle.calls.specs.definitions.Buffers.{over}
 use Rattle.calls.specs.definitions.Comparing.{Verdict, equal, different, verdictOf, compareOf, pointAfter}
 use Rattle.calls.specs.definitions.Reply.{Reply, gives, left, right, readAs}
-use Rattle.opening.specs.Opening.{IsTerm}
-use Rattle.opening.specs.laws.Terms.{term-codes, term-words}
+use Rattle.termreading.specs.TermReading.{IsTerm}
+use Rattle.termreading.specs.laws.Terms.{term-codes, term-words}
 use Rattle.pairing.specs.Pairing.{IsPair}
 use Rattle.comparing.specs.Comparing.{comparedOf, Sides, gapOf, Apart, Told}
 use Rattle.comparing.specs.declared.Compared.{Compared}

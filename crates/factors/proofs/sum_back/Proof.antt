@@ -4,8 +4,7 @@ use mathlib.Core.Path.{sym}
 use native.Mathlib.Omega.{arith}
 use lib.ListN.{length, take, drop}
 use lib.Seq.{length-take-le}
-use Rattle.coded.proofs.Lists.{begins-le}
-use Rattle.factors.proofs.Fronts.{copied-front}
+use Rattle.coded.proofs.Lists.{begins-le, copied-front}
 use borrow.Author.Needs.{needs}
 use Rattle.factors.proofs.sum_back.Statement.{statement}
 use Rattle.factors.proofs.sum_back.Tie as tie

@@ -6,8 +6,8 @@ use lib.ListN.{length, take}
 use lib.Seq.{length-take-le}
 use Rattle.coded.specs.laws.Codes.{coded}
 use Rattle.coded.proofs.Lists.{begins-le}
-use Rattle.opening.specs.laws.Opening.{read-form}
-use Rattle.opening.specs.laws.Terms.{term-codes, term-words}
+use Rattle.termreading.specs.laws.Reading.{read-form}
+use Rattle.termreading.specs.laws.Terms.{term-codes, term-words}
 use Rattle.answering.specs.Answering.{writtenOf}
 use Rattle.calls.specs.definitions.Buffers.{resultAfter}
 use Rattle.forming.specs.laws.Form.{form-refused, form-is}
@@ -18,7 +18,7 @@ use Rattle.forming.proofs.form_of.Reads as reads
 use Rattle.forming.proofs.form_of.Lts as lts
 use Rattle.answering.proofs.refused.Reads as refused-reads
 use Rattle.answering.proofs.write_result.Reads as write-result-reads
-use Rattle.opening.proofs.read_term.Reads as read-term-reads
+use Rattle.termreading.proofs.read_term.Reads as read-term-reads
 
 -- src/lib.rt:30:9
 read-term-requires : tie.Need-read-term-requires

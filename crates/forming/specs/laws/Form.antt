@@ -18,14 +18,16 @@ use Rattle.writing.specs.laws.Integers.{text-normP}
 use Rattle.calls.specs.definitions.Buffers.{resultAfter, untouched}
 use Rattle.calls.specs.definitions.Reply.{Reply, left, neither, refuses, readAs, fitted}
 use Rattle.calls.specs.definitions.Terms.{formOf, formReply}
-use Rattle.opening.specs.Opening.{readyOf, IsTerm, TermRead}
+use Rattle.opening.specs.Opening.{readyOf}
+use Rattle.termreading.specs.TermReading.{IsTerm, TermRead}
 use Rattle.opening.specs.declared.Read.{Read}
 use Rattle.opening.specs.declared.Read.the-variants.{Form, Refused}
 use Rattle.opening.specs.declared.Side.the-variants.{Left}
-use Rattle.opening.specs.laws.Opening.{Open, open-goes, not-open, read-refusal}
+use Rattle.opening.specs.laws.Opening.{Open, open-goes, not-open}
+use Rattle.termreading.specs.laws.Reading.{read-refusal}
 use Rattle.opening.specs.laws.Ending.{read-clears, fitted-clears}
 use Rattle.opening.specs.laws.Numbers.{term-number}
-use Rattle.opening.specs.laws.Terms.{term-codes}
+use Rattle.termreading.specs.laws.Terms.{term-codes}
 use Rattle.answering.specs.Answering.{writtenOf, refusedOf}
 use Rattle.answering.specs.declared.Written.{Written}
 

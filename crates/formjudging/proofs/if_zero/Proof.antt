@@ -2,7 +2,7 @@
 -- Assumes nothing.
 use mathlib.Core.Path.{sym}
 use borrow.Author.Tests.{eq-eqb, ne-eqb}
-use Rattle.syntax.specs.Machine.{pick-yes, pick-no}
+use Rattle.textlaws.specs.laws.Picks.{pick-yes, pick-no}
 use Rattle.formjudging.proofs.if_zero.Statement.{statement}
 use Rattle.formjudging.proofs.if_zero.Tie as tie
 

@@ -2,7 +2,7 @@
 -- Assumes nothing.
 use mathlib.Core.Path.{sym, _∙_}
 use borrow.Author.Tests.{eq-eqb, ne-eqb, lt-ltb, le-ltb}
-use Rattle.syntax.specs.Machine.{pick-yes, pick-no}
+use Rattle.textlaws.specs.laws.Picks.{pick-yes, pick-no}
 use Rattle.formjudging.proofs.judge_pop.Statement.{statement}
 use Rattle.formjudging.proofs.judge_pop.Tie as tie
 

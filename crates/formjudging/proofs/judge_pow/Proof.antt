@@ -3,7 +3,7 @@
 use mathlib.Core.Path.{sym, ap, _∙_}
 use borrow.Author.Needs.{needs}
 use borrow.Author.Tests.{eq-eqb, ne-eqb}
-use Rattle.syntax.specs.Machine.{pick-yes, pick-no}
+use Rattle.textlaws.specs.laws.Picks.{pick-yes, pick-no}
 use Rattle.formjudging.specs.declared.Seen.the-variants.{Fine}
 use Rattle.formjudging.proofs.judge_pow.Statement.{statement}
 use Rattle.formjudging.proofs.judge_pow.Tie as tie

@@ -15,7 +15,7 @@ use Rattle.texts.specs.definitions.Answer.{Reading, read, refused}
 use Rattle.texts.specs.definitions.FormJudging.{stands}
 use Rattle.texts.specs.definitions.FormText.{text, powHead}
 use Rattle.textlaws.specs.laws.Descent.{andThen, judgedAt, judged-pop, judged-pow}
-use Rattle.syntax.specs.Machine.{pick}
+use Rattle.textlaws.specs.laws.Picks.{pick}
 use Rattle.formheads.specs.Heads.{Stands, Headed, Ends}
 use Rattle.formheads.specs.laws.Parts.{pop-part, pow-left, pow-right, ends-pop, ends-pow}
 use Rattle.formjudging.specs.declared.Seen.{Seen}

@@ -2,7 +2,7 @@
 -- Assumes nothing.
 use mathlib.Core.Path.{sym, ap, _∙_}
 use borrow.Author.Tests.{eq-eqb, ne-eqb}
-use Rattle.syntax.specs.Machine.{pick-yes, pick-no}
+use Rattle.textlaws.specs.laws.Picks.{pick-yes, pick-no}
 use Rattle.formreading.specs.declared.Judged.the-variants.{Refused}
 use borrow.Author.Needs.{needs}
 use Rattle.formreading.proofs.limited.Statement.{statement}

@@ -23,7 +23,7 @@ use Rattle.textlaws.specs.laws.Descent.{judgedAt}
 use Rattle.textlaws.specs.laws.FormAccepted.{Fits, Measure, within, degree, heavy, many, measure, Judged as Verdict, upright, fallen, judged}
 use Rattle.textlaws.specs.laws.FormNormal.{stand-normal}
 use Rattle.textlaws.specs.laws.FormReading.{reads}
-use Rattle.syntax.specs.Machine.{pick, pick-yes, pick-no}
+use Rattle.textlaws.specs.laws.Picks.{pick, pick-yes, pick-no}
 use Rattle.measures.specs.declared.Measures.{Measures}
 use Rattle.measures.specs.Measuring.{limitM}
 use Rattle.formheads.specs.Heads.{Standing}

@@ -16,7 +16,7 @@ use Rattle.horner.specs.definitions.Normal.{Normal}
 use Rattle.horner.specs.definitions.Value.{tl}
 use Rattle.horner.specs.laws.Compare.{lt-or-ge}
 use Rattle.horner.specs.laws.Degree.{length-degrees, length-tl}
-use Rattle.syntax.specs.Machine.{pick}
+use Rattle.textlaws.specs.laws.Picks.{pick}
 use Rattle.measures.specs.declared.Measures.{Measures}
 use Rattle.formheads.specs.Heads.{Stands, Headed}
 use Rattle.formheads.specs.laws.Parts.{pop-part, pow-left, pow-right, ends-int, ends-pop, ends-pow}

@@ -5,7 +5,7 @@ use native.Mathlib.Omega.{arith}
 use lib.ListN.{length}
 use Rattle.opening.specs.laws.Opening.{ready-open, open-long}
 use Rattle.opening.specs.laws.Ending.{zeros-of}
-use Rattle.remaindering.specs.laws.Whole.{refused-whole, other-length, answered-whole}
+use Rattle.pointing.specs.laws.Whole.{refused-whole, other-length, answered-whole}
 use Rattle.formremaindering.specs.laws.Remainder.{remainder-pointed, remainder-clears}
 use borrow.Author.Needs.{needs}
 use Rattle.formremaindering.proofs.form_remainder.Statement.{statement}

@@ -6,7 +6,7 @@ use lib.Seq.{length-take-le}
 use Rattle.coded.proofs.Lists.{begins-le}
 use Rattle.textlaws.specs.laws.Rows.{row-length}
 use Rattle.formopening.specs.laws.Reading.{read-form, form-coded}
-use Rattle.remaindering.specs.laws.Residues.{front-leaves}
+use Rattle.pointing.specs.laws.Residues.{front-leaves}
 use Rattle.formremaindering.specs.laws.Remainder.{remainder-refused, remainder-is}
 use borrow.Author.Needs.{needs}
 use Rattle.formremaindering.proofs.form_remainder_of.Statement.{statement}
@@ -15,7 +15,7 @@ use Rattle.formremaindering.proofs.form_remainder_of.Reads as reads
 use Rattle.formremaindering.proofs.form_remainder_of.Lts as lts
 use Rattle.formopening.proofs.read_form.Reads as read-form-reads
 use Rattle.formremaindering.proofs.refused.Reads as refused-reads
-use Rattle.remaindering.proofs.put_point.Reads as put-point-reads
+use Rattle.pointing.proofs.put_point.Reads as put-point-reads
 use Rattle.walks.proofs.value.Reads as value-reads
 
 -- src/lib.rt:39:9

@@ -26,11 +26,11 @@ use Rattle.formopening.specs.declared.Read.the-variants.{Refused}
 use Rattle.formopening.specs.laws.Reading.{read-refusal}
 use Rattle.opening.specs.laws.Ending.{read-clears}
 use Rattle.opening.specs.laws.Numbers.{form-number}
-use Rattle.remaindering.specs.Remaindering.{remainderedOf, residuesOf}
-use Rattle.remaindering.specs.declared.Remaindered.the-variants as A
-use Rattle.remaindering.specs.laws.Residues.{residues-front}
-use Rattle.remaindering.specs.laws.Values.{value-form}
-use Rattle.remaindering.specs.laws.Whole.{pointed}
+use Rattle.pointing.specs.Pointing.{remainderedOf, residuesOf}
+use Rattle.pointing.specs.declared.Remaindered.the-variants as A
+use Rattle.pointing.specs.laws.Residues.{residues-front}
+use Rattle.pointing.specs.laws.Values.{value-form}
+use Rattle.pointing.specs.laws.Whole.{pointed}
 use Rattle.formremaindering.specs.Refusing.{refusedOf}
 
 abbrev answer : List ℤ → Reading (Form ℤ) → Reply ℕ

@@ -1,7 +1,7 @@
 -- `measures::limit_of` meets its contract, limit by limit.
 use mathlib.Core.Path.{_≡_, sym, ap, _∙_}
 use borrow.Author.Tests.{eq-eqb, ne-eqb, lt-ltb, le-ltb}
-use Rattle.syntax.specs.Machine.{pick-yes, pick-no}
+use Rattle.textlaws.specs.laws.Picks.{pick-yes, pick-no}
 use Rattle.measures.proofs.limit_of.Statement.{statement}
 use Rattle.measures.proofs.limit_of.Tie as tie
 

@@ -23,7 +23,7 @@ use Rattle.multiplying.proofs.write_product.Tie as tie
 use Rattle.multiplying.proofs.write_product.Reads as reads
 use Rattle.multiplying.proofs.write_product.Lts as lts
 use Rattle.answering.proofs.write_result.Reads as write-result-reads
-use Rattle.building.proofs.multiply.Reads as multiply-reads
+use Rattle.combining.proofs.multiply.Reads as multiply-reads
 use Rattle.measures.proofs.limit_of.Reads as limit-of-reads
 use Rattle.measures.proofs.multiply.Reads as multiply-reads′
 

@@ -23,7 +23,7 @@ use Rattle.calls.specs.definitions.Forms.{ofProduct, twoOf, multiplyReply}
 use Rattle.calls.specs.definitions.Reply.{neither, refuses}
 use Rattle.measures.specs.declared.Measures.{Measures}
 use Rattle.measures.specs.Measuring.{mulM, limitM}
-use Rattle.building.specs.Stack.{left, right}
+use Rattle.pairs.specs.Pairs.{left, right}
 use Rattle.opening.specs.Opening.{readyOf}
 use Rattle.opening.specs.laws.Opening.{Open, open-goes, not-open}
 use Rattle.formreading.specs.Building.{overP}

@@ -1,12 +1,12 @@
 -- The refusals of texts have numbers above 2, so that the tables are cleared after them.
 use mathlib.Core.Bool.{Bool, true, false}
 use mathlib.Core.List.{List}
-use mathlib.Core.Path.{_≡_, refl, sym, ap, _∙_}
+use mathlib.Core.Path.{_≡_, refl, sym, _∙_}
 use Prim.Native.Nat.{ℕ, suc, _<_}
 use native.Mathlib.Omega.{arith}
 use Rattle.horner.specs.definitions.Form.{Form}
 use lib.IntN.{ℤ}
-use Rattle.texts.specs.definitions.Answer.{Reading, read, refused}
+use Rattle.texts.specs.definitions.Answer.{Reading, refused}
 use Rattle.texts.specs.definitions.FormJudging.{acceptForm}
 use Rattle.texts.specs.definitions.FormMeaning as F
 use Rattle.texts.specs.definitions.Limits.{acceptTerm, passes, powersFit, weightFits, termsFit}

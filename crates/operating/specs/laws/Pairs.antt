@@ -11,7 +11,7 @@ use Rattle.measures.specs.declared.Measures.{Measures}
 use Rattle.formopening.specs.Reading.{FormRead}
 use Rattle.formopening.specs.declared.Read.{Read}
 use Rattle.formopening.specs.declared.Read.the-variants as R
-use Rattle.building.specs.Stack as Stack
+use Rattle.pairs.specs.Pairs as Pairs
 use Rattle.formopening.specs.laws.Reading.{read-form, read-refusal, form-coded}
 use Rattle.opening.specs.declared.Side.{Side}
 use Rattle.opening.specs.declared.Side.the-variants.{Left, Right}
@@ -75,7 +75,7 @@ read-pair {x = x} {y} {n} {k} h (forms x′ n′ y′ k′ P i) =
     rw (a, b, c, d) at P
 
 -- as the operations on two forms ask for them
-pub side-by-side : {m : ℕ} {s t l : List ℕ} {x y : Measures} {n k : ℕ} → m ≤ 4 → IsPair m s t x n y k l → Stack.Pair n k l
+pub side-by-side : {m : ℕ} {s t l : List ℕ} {x y : Measures} {n k : ℕ} → m ≤ 4 → IsPair m s t x n y k l → Pairs.Pair n k l
 side-by-side {l = l} {n = n} few P =
     record {
       fits = omega (arith, begins-le (P .of-left .made), begins-le (P .of-right .made), length-drop n l);

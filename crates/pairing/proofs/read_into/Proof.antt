@@ -5,8 +5,8 @@ use denote.Ref.{now}
 use lib.ListN.{length, take, drop}
 use lib.Seq.{length-take-le}
 use Rattle.coded.proofs.Lists.{begins-le}
-use Rattle.opening.specs.laws.Opening.{read-form}
-use Rattle.opening.specs.laws.Terms.{term-words}
+use Rattle.termreading.specs.laws.Reading.{read-form}
+use Rattle.termreading.specs.laws.Terms.{term-words}
 use Rattle.pairing.specs.laws.Pairing.{refused-any, copied}
 use borrow.Author.Needs.{needs}
 use Rattle.pairing.proofs.read_into.Statement.{statement}
@@ -14,7 +14,7 @@ use Rattle.pairing.proofs.read_into.Tie as tie
 use Rattle.pairing.proofs.read_into.Reads as reads
 use Rattle.pairing.proofs.read_into.Lts as lts
 use Rattle.coded.proofs.copy.Reads as copy-reads
-use Rattle.opening.proofs.read_term.Reads as read-term-reads
+use Rattle.termreading.proofs.read_term.Reads as read-term-reads
 
 -- src/lib.rt:41:9
 read-term-requires : tie.Need-read-term-requires

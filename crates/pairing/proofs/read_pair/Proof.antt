@@ -4,8 +4,8 @@ use native.Mathlib.Omega.{arith}
 use denote.Ref.{now}
 use lib.ListN.{length, take, drop}
 use Rattle.coded.proofs.Lists.{length-tail-part}
-use Rattle.opening.specs.laws.Opening.{read-form}
-use Rattle.opening.specs.laws.Terms.{term-words}
+use Rattle.termreading.specs.laws.Reading.{read-form}
+use Rattle.termreading.specs.laws.Terms.{term-words}
 use Rattle.pairing.specs.laws.Pairing.{left-refused, right-refused, both}
 use borrow.Author.Needs.{needs}
 use Rattle.pairing.proofs.read_pair.Statement.{statement}

@@ -5,20 +5,20 @@ use Prim.Native.Nat.{ℕ, _+_, _-_}
 use native.Mathlib.Omega.{arith}
 use borrow.Rule.Slice.PartMut.{putMid}
 use lib.ListN.{length, take, drop}
-use Rattle.coded.proofs.Lists.{begins-le}
+use Rattle.coded.proofs.Lists.{begins-le, copied-front}
 use Rattle.coded.proofs.Regions.{region-before, region-put}
-use Rattle.factors.proofs.Fronts.{copied-front}
 use Rattle.texts.specs.definitions.Answer.{Reading, read, refused}
 use Rattle.texts.specs.definitions.Limits.{acceptTerm}
 use Rattle.calls.specs.definitions.Reply as C
 use Rattle.calls.specs.definitions.Reply.{Reply, readAs}
 use Rattle.texts.specs.definitions.Tree.{Tree}
-use Rattle.opening.specs.Opening.{told, IsTerm, TermRead, refusal, form}
+use Rattle.opening.specs.Opening.{told}
+use Rattle.termreading.specs.TermReading.{IsTerm, TermRead, refusal, form}
 use Rattle.opening.specs.declared.Read.{Read}
 use Rattle.opening.specs.declared.Read.the-variants as R
 use Rattle.opening.specs.declared.Side.{Side}
 use Rattle.opening.specs.declared.Side.the-variants.{Left, Right}
-use Rattle.opening.specs.laws.Opening.{read-form, read-refusal}
+use Rattle.termreading.specs.laws.Reading.{read-form, read-refusal}
 use Rattle.pairing.specs.Pairing.{pairRefused, IsPair, PairRead, left-refusal, right-refusal, forms}
 use Rattle.pairing.specs.declared.Pair.{Pair}
 use Rattle.pairing.specs.declared.Pair.the-variants.{Forms, Refused}

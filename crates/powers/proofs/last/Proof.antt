@@ -6,11 +6,9 @@ use native.Mathlib.Omega.{arith}
 use lib.ListN.{length, take, drop}
 use lib.Seq.{length-take-le}
 use Rattle.coded.specs.Coding.{Coded, Begins, dec, enc}
-use Rattle.coded.proofs.Lists.{begins-le, begins-as}
+use Rattle.coded.proofs.Lists.{begins-le, begins-as, copied-front, front-of, behind}
 use Rattle.fits.specs.Fit.{prodOf}
 use Rattle.fits.specs.Tables.{Space}
-use Rattle.factors.proofs.Fronts.{copied-front}
-use Rattle.powers.proofs.Stack.{front-of, behind}
 use borrow.Author.Needs.{needs}
 use Rattle.powers.proofs.last.Statement.{statement}
 use Rattle.powers.proofs.last.Tie as tie

@@ -6,12 +6,11 @@ use native.Mathlib.Omega.{arith}
 use lib.ListN.{length, take, drop}
 use lib.Seq.{length-take-le}
 use Rattle.coded.specs.Coding.{Coded, Begins, dec, enc}
-use Rattle.coded.proofs.Lists.{begins-le, begins-as, length-tail-part}
+use Rattle.coded.proofs.Lists.{begins-le, begins-as, length-tail-part, copied-front, front-of, behind}
 use Rattle.fits.specs.Fit.{prodOf}
 use Rattle.fits.specs.Tables.{Space}
 use Rattle.fits.specs.laws.Fit.{fit-prod}
-use Rattle.factors.proofs.Fronts.{copied-front}
-use Rattle.powers.proofs.Stack.{front-of, behind, stacked}
+use Rattle.powers.proofs.Stack.{stacked}
 use borrow.Author.Needs.{needs}
 use Rattle.powers.proofs.next.Statement.{statement}
 use Rattle.powers.proofs.next.Tie as tie

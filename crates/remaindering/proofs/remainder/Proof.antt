@@ -5,7 +5,7 @@ use lib.ListN.{length}
 use Rattle.opening.specs.laws.Opening.{ready-open, open-long}
 use Rattle.opening.specs.laws.Ending.{zeros-of}
 use Rattle.remaindering.specs.laws.Remainder.{remainder-pointed, remainder-clears}
-use Rattle.remaindering.specs.laws.Whole.{refused-whole, other-length, answered-whole}
+use Rattle.pointing.specs.laws.Whole.{refused-whole, other-length, answered-whole}
 use borrow.Author.Needs.{needs}
 use Rattle.remaindering.proofs.remainder.Statement.{statement}
 use Rattle.remaindering.proofs.remainder.Tie as tie

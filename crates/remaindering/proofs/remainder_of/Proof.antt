@@ -5,18 +5,18 @@ use lib.ListN.{length, drop}
 use lib.Seq.{length-take-le}
 use Rattle.coded.specs.laws.Codes.{coded}
 use Rattle.coded.proofs.Lists.{begins-le}
-use Rattle.opening.specs.laws.Opening.{read-form}
-use Rattle.opening.specs.laws.Terms.{term-codes}
+use Rattle.termreading.specs.laws.Reading.{read-form}
+use Rattle.termreading.specs.laws.Terms.{term-codes}
 use Rattle.remaindering.specs.laws.Remainder.{remainder-refused, remainder-is}
-use Rattle.remaindering.specs.laws.Residues.{front-leaves}
-use Rattle.remaindering.specs.laws.Whole.{room-for}
+use Rattle.pointing.specs.laws.Residues.{front-leaves}
+use Rattle.pointing.specs.laws.Whole.{room-for}
 use borrow.Author.Needs.{needs}
 use Rattle.remaindering.proofs.remainder_of.Statement.{statement}
 use Rattle.remaindering.proofs.remainder_of.Tie as tie
 use Rattle.remaindering.proofs.remainder_of.Reads as reads
 use Rattle.remaindering.proofs.remainder_of.Lts as lts
-use Rattle.opening.proofs.read_term.Reads as read-term-reads
-use Rattle.remaindering.proofs.put_point.Reads as put-point-reads
+use Rattle.termreading.proofs.read_term.Reads as read-term-reads
+use Rattle.pointing.proofs.put_point.Reads as put-point-reads
 use Rattle.remaindering.proofs.refused.Reads as refused-reads
 use Rattle.walks.proofs.value.Reads as value-reads
 

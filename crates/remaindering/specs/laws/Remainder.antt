@@ -17,18 +17,19 @@ use Rattle.textlaws.specs.laws.Rows.{accepted-within}
 use Rattle.calls.specs.definitions.Buffers.{untouched}
 use Rattle.calls.specs.definitions.Reply.{Reply, gives, left, readAs}
 use Rattle.calls.specs.definitions.Terms.{remainder, remainderOf, remainderReply}
-use Rattle.opening.specs.Opening.{IsTerm, TermRead}
+use Rattle.termreading.specs.TermReading.{IsTerm, TermRead}
 use Rattle.opening.specs.declared.Read.{Read}
 use Rattle.opening.specs.declared.Read.the-variants.{Refused}
-use Rattle.opening.specs.laws.Opening.{read-refusal}
+use Rattle.termreading.specs.laws.Reading.{read-refusal}
 use Rattle.opening.specs.laws.Ending.{read-clears}
 use Rattle.opening.specs.laws.Numbers.{term-number}
-use Rattle.opening.specs.laws.Terms.{term-codes}
-use Rattle.remaindering.specs.Remaindering.{remainderedOf, refusedOf, residuesOf}
-use Rattle.remaindering.specs.declared.Remaindered.the-variants as A
-use Rattle.remaindering.specs.laws.Residues.{residues-front}
-use Rattle.remaindering.specs.laws.Values.{value-term}
-use Rattle.remaindering.specs.laws.Whole.{pointed}
+use Rattle.termreading.specs.laws.Terms.{term-codes}
+use Rattle.pointing.specs.Pointing.{remainderedOf, residuesOf}
+use Rattle.remaindering.specs.Remaindering.{refusedOf}
+use Rattle.pointing.specs.declared.Remaindered.the-variants as A
+use Rattle.pointing.specs.laws.Residues.{residues-front}
+use Rattle.pointing.specs.laws.Values.{value-term}
+use Rattle.pointing.specs.laws.Whole.{pointed}
 
 abbrev answer : List ℕ → List ℤ → Reading Tree → Reply ℕ
 answer row N x = readAs left x (λ t. gives (remainder (evalℤ (termOf row t) N)))

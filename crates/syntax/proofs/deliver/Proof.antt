@@ -1,7 +1,7 @@
 -- `syntax::deliver` meets its contract, test by test.
 use borrow.Author.Needs.{needs}
 use borrow.Author.Tests.{eq-eqb, ne-eqb, lt-ltb, le-ltb}
-use Rattle.syntax.specs.Machine.{pick-yes, pick-no}
+use Rattle.textlaws.specs.laws.Picks.{pick-yes, pick-no}
 use mathlib.Core.Path.{sym, _∙_}
 use Rattle.syntax.proofs.deliver.Statement.{statement}
 use Rattle.syntax.proofs.deliver.Tie as tie

@@ -1,7 +1,7 @@
 -- `syntax::leaf` meets its contract, test by test.
 use borrow.Author.Needs.{needs}
 use borrow.Author.Tests.{eq-eqb, ne-eqb, lt-ltb, le-ltb, not-true, not-false}
-use Rattle.syntax.specs.Machine.{pick-yes, pick-no}
+use Rattle.textlaws.specs.laws.Picks.{pick-yes, pick-no}
 use mathlib.Core.Path.{_≡_, sym, ap, _∙_}
 use lib.Dec.{ltb}
 use lib.ListN.{length}

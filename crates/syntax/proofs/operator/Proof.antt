@@ -1,7 +1,8 @@
 -- `syntax::operator` meets its contract, test by test.
 use borrow.Author.Needs.{needs}
 use borrow.Author.Tests.{eq-eqb, ne-eqb, lt-ltb, le-ltb}
-use Rattle.syntax.specs.Machine.{pick-yes, pick-no, pushC}
+use Rattle.textlaws.specs.laws.Picks.{pick-yes, pick-no}
+use Rattle.syntax.specs.Machine.{pushC}
 use mathlib.Core.Path.{sym, ap, _∙_}
 use Rattle.syntax.proofs.operator.Statement.{statement}
 use Rattle.syntax.proofs.operator.Tie as tie

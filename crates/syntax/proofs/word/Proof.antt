@@ -1,7 +1,7 @@
 -- `syntax::word` meets its contract, test by test.
 use borrow.Author.Needs.{needs}
 use borrow.Author.Tests.{eq-eqb, ne-eqb, lt-ltb, le-ltb, not-true, not-false}
-use Rattle.syntax.specs.Machine.{pick-yes, pick-no}
+use Rattle.textlaws.specs.laws.Picks.{pick-yes, pick-no}
 use mathlib.Core.Path.{_≡_, sym, ap, _∙_}
 use Rattle.syntax.proofs.word.Statement.{statement}
 use Rattle.syntax.proofs.word.Tie as tie

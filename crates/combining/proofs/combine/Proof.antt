@@ -1,0 +1,71 @@
+-- `combining::combine` meets its contract, operator by operator.
+-- Assumes nothing.
+use mathlib.Core.Path.{sym, ap}
+use native.Mathlib.Omega.{arith}
+use Rattle.coded.specs.Coding.{enc}
+use Rattle.coded.proofs.Lists.{begins-as}
+use Rattle.combining.specs.laws.Combining.{combined-product, combined-difference, combined-sum}
+use borrow.Author.Needs.{needs}
+use Rattle.combining.proofs.combine.Statement.{statement}
+use Rattle.combining.proofs.combine.Tie as tie
+
+multiply-requires : tie.Need-multiply-requires
+multiply-requires c κs = (c .before .before .before .before .before .before .before .before .before .pre .0, (c .before .before .before .before .before .before .before .before .before .pre .1 .space (c .before .before .before .before .if1 .taken), c .before .before .before .before .before .before .before .before .before .pre .1 .words (c .before .before .before .before .if1 .taken)))
+
+same-length : tie.Need-same-length
+same-length c = search needs
+
+same-length-2 : tie.Need-same-length-2
+same-length-2 c = search needs
+
+same-length-3 : tie.Need-same-length-3
+same-length-3 c = search needs
+
+same-length-4 : tie.Need-same-length-4
+same-length-4 c = search needs
+
+returns : tie.Need-returns
+returns c = begins-as (c .before .before .before .before .before .before .before .before .multiply .ensures) (ap (enc 0) (sym (combined-product _ _ _ (c .before .before .before .before .before .before .before .before .before .before .before .before .before .if1 .taken))))
+
+subtract-requires : tie.Need-subtract-requires
+subtract-requires c κs = (c .before .before .before .before .before .before .before .before .pre .0, record { fits = omega (arith, c .before .before .before .before .before .before .before .before .pre .1 .room); small = omega (arith, c .before .before .before .before .before .before .before .before .pre .1 .small) })
+
+same-length-5 : tie.Need-same-length-5
+same-length-5 c = search needs
+
+same-length-6 : tie.Need-same-length-6
+same-length-6 c = search needs
+
+returns-2 : tie.Need-returns-2
+returns-2 c = begins-as (c .before .before .before .before .subtract .ensures) (ap (enc 0) (sym (combined-difference _ _ _ (c .before .before .before .before .before .before .before .if2 .taken))))
+
+add-requires : tie.Need-add-requires
+add-requires c κs = (c .before .before .before .before .before .before .before .before .pre .0, record { fits = omega (arith, c .before .before .before .before .before .before .before .before .pre .1 .room); small = omega (arith, c .before .before .before .before .before .before .before .before .pre .1 .small) })
+
+same-length-7 : tie.Need-same-length-7
+same-length-7 c = search needs
+
+same-length-8 : tie.Need-same-length-8
+same-length-8 c = search needs
+
+returns-3 : tie.Need-returns-3
+returns-3 c = begins-as (c .before .before .before .before .add .ensures) (ap (enc 0) (sym (combined-sum _ _ _ (c .before .before .before .before .before .before .before .before .if1 .left) (c .before .before .before .before .before .before .before .if2 .left))))
+
+pub combine-spec : {M : Type 1} → statement M
+combine-spec =
+    tie.close
+    (tie.spec
+    multiply-requires
+    same-length
+    same-length-2
+    same-length-3
+    same-length-4
+    returns
+    subtract-requires
+    same-length-5
+    same-length-6
+    returns-2
+    add-requires
+    same-length-7
+    same-length-8
+    returns-3)

@@ -1,0 +1,71 @@
+-- `combining::multiply` meets its contract: the product is made in out, and copied to the front.
+-- Assumes nothing.
+use mathlib.Core.Path.{sym}
+use native.Mathlib.Omega.{arith}
+use lib.ListN.{length, take, drop}
+use lib.Seq.{length-take-le}
+use Rattle.coded.specs.Coding.{Begins, enc}
+use Rattle.coded.proofs.Lists.{begins-le, begins-as, copied-front}
+use Rattle.fits.specs.Fit.{prodOf}
+use Rattle.pairs.specs.Pairs.{left, right}
+use Rattle.pairs.proofs.Pairs.{both-length, both-coded}
+use Rattle.combining.proofs.Products.{both-product, both-space}
+use borrow.Author.Needs.{needs}
+use Rattle.combining.proofs.multiply.Statement.{statement}
+use Rattle.combining.proofs.multiply.Tie as tie
+
+made : (c : tie.After-product-parts) → Begins (c .product-parts .result) (enc 0 (prodOf 0 (left (c .before .before .before .before .before .before .before .before .before .args .a) (c .before .before .before .before .before .before .before .before .before .args .stack .now)) (right (c .before .before .before .before .before .before .before .before .before .args .a) (c .before .before .before .before .before .before .before .before .before .args .b) (c .before .before .before .before .before .before .before .before .before .args .stack .now)))) (c .product-parts .last .1 .1 .0)
+made c = begins-as (c .product-parts .ensures) (both-product (c .before .before .before .before .before .before .before .before .before .args .a) (c .before .before .before .before .before .before .before .before .before .args .b) (c .before .before .before .before .before .before .before .before .before .args .stack .now))
+
+add-e : tie.Need-add-e
+add-e c = search needs
+
+slice-reshare-prefix-product-parts : tie.Need-slice-reshare-prefix-product-parts
+slice-reshare-prefix-product-parts c = search needs
+
+slice-aggregate-product-parts : tie.Need-slice-aggregate-product-parts
+slice-aggregate-product-parts c = sym (both-length (c .before .before .before .before .before .pre .0))
+
+product-parts-requires : tie.Need-product-parts-requires
+product-parts-requires c κs = (omega (arith, both-length (c .before .before .before .before .before .before .before .before .pre .0)), (both-coded (c .before .before .before .before .before .before .before .before .pre .0), both-space (c .before .before .before .before .before .before .before .before .args .a) (c .before .before .before .before .before .before .before .before .args .b) (c .before .before .before .before .before .before .before .before .args .stack .now) (c .before .before .before .before .before .before .before .before .pre .1 .0)))
+
+slice-reshare-prefix-copy : tie.Need-slice-reshare-prefix-copy
+slice-reshare-prefix-copy c = begins-le (made (c .before .before .before .before .before .before))
+
+slice-aggregate-copy : tie.Need-slice-aggregate-copy
+slice-aggregate-copy c = sym (length-take-le (c .before .before .before .before .before .before .before .product-parts .result) (c .before .before .before .before .before .before .before .product-parts .last .1 .1 .0) (begins-le (made (c .before .before .before .before .before .before .before))))
+
+copy-requires : tie.Need-copy-requires
+copy-requires c κs = omega (arith, length-take-le (c .before .before .before .before .before .before .before .before .product-parts .result) (c .before .before .before .before .before .before .before .before .product-parts .last .1 .1 .0) (begins-le (made (c .before .before .before .before .before .before .before .before))), made (c .before .before .before .before .before .before .before .before) .size, c .before .before .before .before .before .before .before .before .before .before .before .before .before .before .before .before .before .pre .1 .1)
+
+same-length : tie.Need-same-length
+same-length c = search needs
+
+same-length-2 : tie.Need-same-length-2
+same-length-2 c = search needs
+
+same-length-3 : tie.Need-same-length-3
+same-length-3 c = search needs
+
+same-length-4 : tie.Need-same-length-4
+same-length-4 c = search needs
+
+returns : tie.Need-returns
+returns c = copied-front (drop (length (take (c .before .before .before .before .before .before .before .before .before .before .before .product-parts .result) (c .before .before .before .before .before .before .before .before .before .before .before .product-parts .last .1 .1 .0))) (c .before .before .before .before .before .before .before .before .before .before .before .before .before .before .before .before .before .before .before .before .args .stack .now)) (made (c .before .before .before .before .before .before .before .before .before .before .before)) (c .before .before .copy .ensures)
+
+pub multiply-spec : {M : Type 1} → statement M
+multiply-spec =
+    tie.close
+    (tie.spec
+    add-e
+    slice-reshare-prefix-product-parts
+    slice-aggregate-product-parts
+    product-parts-requires
+    slice-reshare-prefix-copy
+    slice-aggregate-copy
+    copy-requires
+    same-length
+    same-length-2
+    same-length-3
+    same-length-4
+    returns)

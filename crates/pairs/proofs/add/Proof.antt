@@ -1,0 +1,62 @@
+-- `pairs::add` meets its contract: the sum is made in out, and copied to the front.
+-- Assumes nothing.
+use mathlib.Core.Path.{sym}
+use native.Mathlib.Omega.{arith}
+use lib.ListN.{length, take, drop}
+use lib.Seq.{length-take-le}
+use Rattle.coded.specs.Coding.{Begins, enc}
+use Rattle.coded.specs.Operations.{sumOf}
+use Rattle.coded.proofs.Lists.{begins-le, begins-as, copied-front}
+use Rattle.pairs.specs.Pairs.{left, right}
+use Rattle.pairs.proofs.Pairs.{both-length, both-coded, both-sum, sum-fits}
+use borrow.Author.Needs.{needs}
+use Rattle.pairs.proofs.add.Statement.{statement}
+use Rattle.pairs.proofs.add.Tie as tie
+
+made : (c : tie.After-sum-parts) → Begins (c .sum-parts .result) (enc 0 (sumOf 0 (left (c .before .before .before .before .before .args .a) (c .before .before .before .before .before .args .stack .now)) (right (c .before .before .before .before .before .args .a) (c .before .before .before .before .before .args .b) (c .before .before .before .before .before .args .stack .now)))) (c .sum-parts .last .1 .1 .0)
+made c = begins-as (c .sum-parts .ensures) (both-sum (c .before .before .before .before .before .args .a) (c .before .before .before .before .before .args .b) (c .before .before .before .before .before .args .stack .now))
+
+add-e : tie.Need-add-e
+add-e c = search needs
+
+slice-reshare-prefix-sum-parts : tie.Need-slice-reshare-prefix-sum-parts
+slice-reshare-prefix-sum-parts c = search needs
+
+slice-aggregate-sum-parts : tie.Need-slice-aggregate-sum-parts
+slice-aggregate-sum-parts c = sym (both-length (c .before .before .before .pre .0))
+
+sum-parts-requires : tie.Need-sum-parts-requires
+sum-parts-requires c κs = (omega (arith, both-length (c .before .before .before .before .pre .0)), (both-coded (c .before .before .before .before .pre .0), omega (arith, both-length (c .before .before .before .before .pre .0), c .before .before .before .before .pre .1)))
+
+slice-reshare-prefix-copy : tie.Need-slice-reshare-prefix-copy
+slice-reshare-prefix-copy c = begins-le (made (c .before .before))
+
+slice-aggregate-copy : tie.Need-slice-aggregate-copy
+slice-aggregate-copy c = sym (length-take-le (c .before .before .before .sum-parts .result) (c .before .before .before .sum-parts .last .1 .1 .0) (begins-le (made (c .before .before .before))))
+
+copy-requires : tie.Need-copy-requires
+copy-requires c κs = omega (arith, length-take-le (c .before .before .before .before .sum-parts .result) (c .before .before .before .before .sum-parts .last .1 .1 .0) (begins-le (made (c .before .before .before .before))), made (c .before .before .before .before) .size, sum-fits (c .before .before .before .before .before .before .before .before .before .pre .0))
+
+same-length : tie.Need-same-length
+same-length c = search needs
+
+same-length-2 : tie.Need-same-length-2
+same-length-2 c = search needs
+
+returns : tie.Need-returns
+returns c = copied-front (drop (length (take (c .before .before .before .before .before .before .before .sum-parts .result) (c .before .before .before .before .before .before .before .sum-parts .last .1 .1 .0))) (c .before .before .before .before .before .before .before .before .before .before .before .before .args .stack .now)) (made (c .before .before .before .before .before .before .before)) (c .before .before .copy .ensures)
+
+pub add-spec : {M : Type 1} → statement M
+add-spec =
+    tie.close
+    (tie.spec
+    add-e
+    slice-reshare-prefix-sum-parts
+    slice-aggregate-sum-parts
+    sum-parts-requires
+    slice-reshare-prefix-copy
+    slice-aggregate-copy
+    copy-requires
+    same-length
+    same-length-2
+    returns)

@@ -1,0 +1,53 @@
+-- `pairs::subtract` meets its contract: the second form is negated in its place, and added.
+-- Assumes nothing.
+use mathlib.Core.Path.{sym, subst}
+use native.Mathlib.Omega.{arith}
+use lib.ListN.{take}
+use Rattle.coded.specs.Coding.{Coded}
+use Rattle.coded.specs.laws.Codes.{tail-part}
+use Rattle.coded.proofs.Lists.{begins-as, length-tail-part}
+use Rattle.pairs.proofs.Pairs.{left-some, negated-size, negated-pair, negated-sum}
+use borrow.Author.Needs.{needs}
+use Rattle.pairs.proofs.subtract.Statement.{statement}
+use Rattle.pairs.proofs.subtract.Tie as tie
+
+mul-negate-front : tie.Need-mul-negate-front
+mul-negate-front c = search needs
+
+sub-negate-front : tie.Need-sub-negate-front
+sub-negate-front c = search needs
+
+part-negate-front-start : tie.Need-part-negate-front-start
+part-negate-front-start c = search needs
+
+part-negate-front-end : tie.Need-part-negate-front-end
+part-negate-front-end c = search needs
+
+negate-front-requires : tie.Need-negate-front-requires
+negate-front-requires c κs = ((omega (arith, length-tail-part (c .before .before .before .before .args .a) (c .before .before .before .before .args .stack .now), c .before .before .before .before .pre .0 .fits), omega (arith, left-some (c .before .before .before .before .pre .0), c .before .before .before .before .pre .1)), subst (λ l. Coded 0 (take (c .before .before .before .before .args .b) l)) (sym (tail-part (c .before .before .before .before .args .a) (c .before .before .before .before .args .stack .now))) (c .before .before .before .before .pre .0 .coded-right))
+
+add-requires : tie.Need-add-requires
+add-requires c κs = (negated-pair (c .before .before .before .before .before .before .before .before .before .before .before .pre .0) (c .before .before .before .before .before .before .negate-front .ensures) (c .before .before .before .before .before .stack .given .1), omega (arith, negated-size (c .before .before .before .before .before .before .before .before .before .before .before .pre .0) (c .before .before .before .before .before .before .negate-front .ensures), c .before .before .before .before .before .before .before .before .before .before .before .pre .1))
+
+same-length : tie.Need-same-length
+same-length c = search needs
+
+same-length-2 : tie.Need-same-length-2
+same-length-2 c = search needs
+
+returns : tie.Need-returns
+returns c = begins-as (c .before .before .before .before .add .ensures) (negated-sum (c .before .before .before .before .before .before .before .before .before .before .before .before .before .before .before .before .pre .0) (c .before .before .before .before .before .before .before .before .before .before .before .negate-front .ensures))
+
+pub subtract-spec : {M : Type 1} → statement M
+subtract-spec =
+    tie.close
+    (tie.spec
+    mul-negate-front
+    sub-negate-front
+    part-negate-front-start
+    part-negate-front-end
+    negate-front-requires
+    add-requires
+    same-length
+    same-length-2
+    returns)

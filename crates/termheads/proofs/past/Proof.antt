@@ -1,0 +1,24 @@
+-- `termheads::past` meets its contract.
+-- Assumes nothing.
+use mathlib.Core.Path.{refl, sym, _∙_}
+use denote.Ref.{now}
+use Rattle.termheads.specs.laws.Reading.{past-close}
+use Rattle.termheads.proofs.Answers.{not-close}
+use borrow.Author.Needs.{needs}
+use Rattle.termheads.proofs.past.Statement.{statement}
+use Rattle.termheads.proofs.past.Tie as tie
+
+next-requires : tie.Need-next-requires
+next-requires c κs = search needs
+
+enum-known-step : tie.Need-enum-known-step
+enum-known-step c = search needs
+
+returns : tie.Need-returns
+returns c = record { yes = λ q ks h. not-close (c .match .keys2) (c .before .next .ensures) h; no = λ x rest h. refl }
+
+returns-2 : tie.Need-returns-2
+returns-2 c = past-close (now (c .before .before .before .before .before .args .s)) _ (c .before .before .before .before .before .pre) _ _ (sym (c .before .before .before .next .ensures) ∙ c .before .step .given .1)
+
+pub past-spec : {M : Type 1} → statement M
+past-spec = tie.close (tie.spec next-requires enum-known-step returns returns-2)

@@ -1,0 +1,51 @@
+-- `termheads::zero_power` meets its contract: the word behind the base begins with `0` exactly where the exponent is 0.
+-- Assumes nothing.
+use mathlib.Core.Path.{sym, subst, _∙_}
+use denote.Ref.{now}
+use Rattle.termheads.specs.Standing.{Zeroed}
+use Rattle.termheads.specs.laws.Exponents.{zero-other, zero-no-word, word-inside, next-inside, zero-more, zero-yes}
+use Rattle.termheads.proofs.Answers.{not-word}
+use borrow.Author.Needs.{needs}
+use Rattle.termheads.proofs.zero_power.Statement.{statement}
+use Rattle.termheads.proofs.zero_power.Tie as tie
+
+returns : tie.Need-returns
+returns c = zero-other (now (c .before .before .args .s)) _ _ (c .if1 .taken)
+
+skip-requires : tie.Need-skip-requires
+skip-requires c κs = search needs
+
+next-requires : tie.Need-next-requires
+next-requires c κs = search needs
+
+enum-known-step : tie.Need-enum-known-step
+enum-known-step c = search needs
+
+returns-2 : tie.Need-returns-2
+returns-2 c = subst (λ g. Zeroed (now (c .before .before .before .before .before .args .s)) g (c .before .before .before .before .before .args .at) 0) (sym (c .before .before .before .if1 .left)) (zero-no-word (now (c .before .before .before .before .before .args .s)) _ _ (c .before .before .skip .ensures) (λ p w ks h. not-word (c .match .keys2) (c .before .next .ensures) h))
+
+shared-slice-read-if2 : tie.Need-shared-slice-read-if2
+shared-slice-read-if2 c = word-inside (now (c .before .before .before .before .before .before .before .before .args .s)) _ _ (c .before .before .before .before .before .skip .ensures) _ _ (sym (c .before .before .before .before .next .ensures) ∙ c .before .before .step .given .1)
+
+returns-3 : tie.Need-returns-3
+returns-3 c = subst (λ g. Zeroed (now (c .before .before .before .before .before .before .before .before .before .args .s)) g (c .before .before .before .before .before .before .before .before .before .args .at) 0) (sym (c .before .before .before .before .before .before .before .if1 .left)) (zero-more (now (c .before .before .before .before .before .before .before .before .before .args .s)) _ _ (c .before .before .before .before .before .before .skip .ensures) _ _ (sym (c .before .before .before .before .before .next .ensures) ∙ c .before .before .before .step .given .1) (c .if2 .taken))
+
+past-requires : tie.Need-past-requires
+past-requires c κs = next-inside (now (c .before .before .before .before .before .before .before .before .before .args .s)) _ _ (c .before .before .before .before .before .before .skip .ensures) _ _ (sym (c .before .before .before .before .before .next .ensures) ∙ c .before .before .before .step .given .1)
+
+returns-4 : tie.Need-returns-4
+returns-4 c = subst (λ g. Zeroed (now (c .before .before .before .before .before .before .before .before .before .before .args .s)) g (c .before .before .before .before .before .before .before .before .before .before .args .at) (c .past .result)) (sym (c .before .before .before .before .before .before .before .before .if1 .left)) (zero-yes (now (c .before .before .before .before .before .before .before .before .before .before .args .s)) _ _ (c .before .before .before .before .before .before .before .skip .ensures) _ _ (sym (c .before .before .before .before .before .before .next .ensures) ∙ c .before .before .before .before .step .given .1) _ (c .before .if2 .left) (c .past .ensures))
+
+pub zero-power-spec : {M : Type 1} → statement M
+zero-power-spec =
+    tie.close
+    (tie.spec
+    returns
+    skip-requires
+    next-requires
+    enum-known-step
+    returns-2
+    shared-slice-read-if2
+    returns-3
+    past-requires
+    returns-4)

@@ -1,0 +1,3 @@
+-- The first tokens of a term.
+pub mod Standing
+pub mod laws

@@ -1,0 +1,164 @@
+-- `termjudging::measure` meets its contract, return by return; it falls with what is left to read.
+use mathlib.Core.Path.{_≡_, refl, sym, ap, _∙_, subst}
+use mathlib.Core.List.{List, [], _∷_}
+use native.Mathlib.Omega.{arith}
+use types.Run.{OneOf, miss}
+use denote.Enum.Declared.{tagOf}
+use denote.Ref.{now}
+use lib.ListN.{length}
+use borrow.Author.Needs.{needs}
+use Rattle.tokens.specs.declared.Step.the-variants.{Open, Word}
+use Rattle.syntax.specs.Turns.{told}
+use Rattle.termjudging.specs.declared.Sub.{Sub}
+use Rattle.termjudging.specs.declared.Sub.the-variants.{Refused, Done, Broken}
+use Rattle.termjudging.specs.Operands.{measured-word, measured-close, measured-end}
+use Rattle.termjudging.specs.Walk.{Stops, by-refusal, by-break, done-safe, no-operator, first-stops, raised, negated, second-stops, both}
+use Rattle.termjudging.proofs.Sub.{the-type}
+use Prim.Native.Nat.{ℕ, _<_, _-_}
+use borrow.Fn.Kinds.{In}
+use borrow.Fn.PlainCycle.{Measures, is, falls, and}
+use Rattle.termjudging.proofs.measure.Reads as measure
+use Rattle.termjudging.proofs.measure.Kinds as measure-kinds
+use Rattle.termjudging.proofs.+measure.Lts-measure as measure-lts
+use Rattle.termjudging.proofs.closed.Reads as closed-reads
+use Rattle.termjudging.proofs.closing_at.Reads as closing-at-reads
+use Rattle.termjudging.proofs.exponent.Reads as exponent-reads
+use Rattle.termjudging.proofs.joined.Reads as joined-reads
+use Rattle.termjudging.proofs.minus.Reads as minus-reads
+use Rattle.termjudging.proofs.operator_at.Reads as operator-at-reads
+use Rattle.termjudging.proofs.word_of.Reads as word-of-reads
+use Rattle.tokens.proofs.Reader.next.Reads as next-reads
+use Rattle.termjudging.proofs.+measure.{statement}
+use Rattle.termjudging.proofs.+measure.Tie.{close}
+
+-- what is not done
+stops : (x : Sub) → OneOf (0 ∷ 2 ∷ []) (tagOf the-type x) → Stops x
+stops (Refused e p) k = by-refusal e p
+stops (Done m nx) k = absurd (miss (0 ∷ 2 ∷ []) 1 tt k)
+stops Broken k = by-break
+
+abbrev μ-measure : Measures 2 measure-kinds.ps ℕ
+μ-measure κs a = length (now (a .1 .0)) - a .1 .1 .0 .at
+
+abbrev measure-at : ℕ → In 2 measure-kinds.ps
+measure-at t = and 2 measure-kinds.ps (is 2 measure-kinds.ps μ-measure t) measure.Pre
+
+abbrev measure-below : ℕ → In 2 measure-kinds.ps
+measure-below t = and 2 measure-kinds.ps (falls 2 measure-kinds.ps _<_ μ-measure t) measure.Pre
+
+measure-next-requires : (t : ℕ) → measure-lts.Need-next-requires (next-reads.Asked, next-reads.Learnt, word-of-reads.Asked, word-of-reads.Learnt, operator-at-reads.Asked, operator-at-reads.Learnt, measure-below t, measure.Post, exponent-reads.Asked, exponent-reads.Learnt, closing-at-reads.Asked, closing-at-reads.Learnt, minus-reads.Asked, minus-reads.Learnt, joined-reads.Asked, joined-reads.Learnt, closed-reads.Asked, closed-reads.Learnt) (measure-at t) measure.Post
+measure-next-requires t c κs = c .before .before .pre .1 .0
+
+measure-enum-told : (t : ℕ) → measure-lts.Need-enum-told (next-reads.Asked, next-reads.Learnt, word-of-reads.Asked, word-of-reads.Learnt, operator-at-reads.Asked, operator-at-reads.Learnt, measure-below t, measure.Post, exponent-reads.Asked, exponent-reads.Learnt, closing-at-reads.Asked, closing-at-reads.Learnt, minus-reads.Asked, minus-reads.Learnt, joined-reads.Asked, joined-reads.Learnt, closed-reads.Asked, closed-reads.Learnt) (measure-at t) measure.Post
+measure-enum-told t c = search needs
+
+measure-enum-told-2 : (t : ℕ) → measure-lts.Need-enum-told-2 (next-reads.Asked, next-reads.Learnt, word-of-reads.Asked, word-of-reads.Learnt, operator-at-reads.Asked, operator-at-reads.Learnt, measure-below t, measure.Post, exponent-reads.Asked, exponent-reads.Learnt, closing-at-reads.Asked, closing-at-reads.Learnt, minus-reads.Asked, minus-reads.Learnt, joined-reads.Asked, joined-reads.Learnt, closed-reads.Asked, closed-reads.Learnt) (measure-at t) measure.Post
+measure-enum-told-2 t c = search needs
+
+measure-enum-known-step : (t : ℕ) → measure-lts.Need-enum-known-step (next-reads.Asked, next-reads.Learnt, word-of-reads.Asked, word-of-reads.Learnt, operator-at-reads.Asked, operator-at-reads.Learnt, measure-below t, measure.Post, exponent-reads.Asked, exponent-reads.Learnt, closing-at-reads.Asked, closing-at-reads.Learnt, minus-reads.Asked, minus-reads.Learnt, joined-reads.Asked, joined-reads.Learnt, closed-reads.Asked, closed-reads.Learnt) (measure-at t) measure.Post
+measure-enum-known-step t c = search needs
+
+measure-sub-word-of : (t : ℕ) → measure-lts.Need-sub-word-of (next-reads.Asked, next-reads.Learnt, word-of-reads.Asked, word-of-reads.Learnt, operator-at-reads.Asked, operator-at-reads.Learnt, measure-below t, measure.Post, exponent-reads.Asked, exponent-reads.Learnt, closing-at-reads.Asked, closing-at-reads.Learnt, minus-reads.Asked, minus-reads.Learnt, joined-reads.Asked, joined-reads.Learnt, closed-reads.Asked, closed-reads.Learnt) (measure-at t) measure.Post
+measure-sub-word-of t c = omega (arith, (told (now (c .before .before .before .before .before .before .args .s)) _ (c .before .before .before .before .before .before .pre .1 .0) (Word _ _) (sym (c .before .before .before .next .ensures) ∙ c .before .step .given .1)) .past .more, (told (now (c .before .before .before .before .before .before .args .s)) _ (c .before .before .before .before .before .before .pre .1 .0) (Word _ _) (sym (c .before .before .before .next .ensures) ∙ c .before .step .given .1)) .past .inside)
+
+measure-part-word-of-start : (t : ℕ) → measure-lts.Need-part-word-of-start (next-reads.Asked, next-reads.Learnt, word-of-reads.Asked, word-of-reads.Learnt, operator-at-reads.Asked, operator-at-reads.Learnt, measure-below t, measure.Post, exponent-reads.Asked, exponent-reads.Learnt, closing-at-reads.Asked, closing-at-reads.Learnt, minus-reads.Asked, minus-reads.Learnt, joined-reads.Asked, joined-reads.Learnt, closed-reads.Asked, closed-reads.Learnt) (measure-at t) measure.Post
+measure-part-word-of-start t c = omega (arith, (told (now (c .before .before .before .before .before .before .args .s)) _ (c .before .before .before .before .before .before .pre .1 .0) (Word _ _) (sym (c .before .before .before .next .ensures) ∙ c .before .step .given .1)) .past .more, (told (now (c .before .before .before .before .before .before .args .s)) _ (c .before .before .before .before .before .before .pre .1 .0) (Word _ _) (sym (c .before .before .before .next .ensures) ∙ c .before .step .given .1)) .past .inside)
+
+measure-part-word-of-end : (t : ℕ) → measure-lts.Need-part-word-of-end (next-reads.Asked, next-reads.Learnt, word-of-reads.Asked, word-of-reads.Learnt, operator-at-reads.Asked, operator-at-reads.Learnt, measure-below t, measure.Post, exponent-reads.Asked, exponent-reads.Learnt, closing-at-reads.Asked, closing-at-reads.Learnt, minus-reads.Asked, minus-reads.Learnt, joined-reads.Asked, joined-reads.Learnt, closed-reads.Asked, closed-reads.Learnt) (measure-at t) measure.Post
+measure-part-word-of-end t c = omega (arith, (told (now (c .before .before .before .before .before .before .args .s)) _ (c .before .before .before .before .before .before .pre .1 .0) (Word _ _) (sym (c .before .before .before .next .ensures) ∙ c .before .step .given .1)) .past .more, (told (now (c .before .before .before .before .before .before .args .s)) _ (c .before .before .before .before .before .before .pre .1 .0) (Word _ _) (sym (c .before .before .before .next .ensures) ∙ c .before .step .given .1)) .past .inside)
+
+measure-word-of-requires : (t : ℕ) → measure-lts.Need-word-of-requires (next-reads.Asked, next-reads.Learnt, word-of-reads.Asked, word-of-reads.Learnt, operator-at-reads.Asked, operator-at-reads.Learnt, measure-below t, measure.Post, exponent-reads.Asked, exponent-reads.Learnt, closing-at-reads.Asked, closing-at-reads.Learnt, minus-reads.Asked, minus-reads.Learnt, joined-reads.Asked, joined-reads.Learnt, closed-reads.Asked, closed-reads.Learnt) (measure-at t) measure.Post
+measure-word-of-requires t c κs = tt
+
+measure-enum-known-step-2 : (t : ℕ) → measure-lts.Need-enum-known-step-2 (next-reads.Asked, next-reads.Learnt, word-of-reads.Asked, word-of-reads.Learnt, operator-at-reads.Asked, operator-at-reads.Learnt, measure-below t, measure.Post, exponent-reads.Asked, exponent-reads.Learnt, closing-at-reads.Asked, closing-at-reads.Learnt, minus-reads.Asked, minus-reads.Learnt, joined-reads.Asked, joined-reads.Learnt, closed-reads.Asked, closed-reads.Learnt) (measure-at t) measure.Post
+measure-enum-known-step-2 t c = search needs
+
+measure-operator-at-requires : (t : ℕ) → measure-lts.Need-operator-at-requires (next-reads.Asked, next-reads.Learnt, word-of-reads.Asked, word-of-reads.Learnt, operator-at-reads.Asked, operator-at-reads.Learnt, measure-below t, measure.Post, exponent-reads.Asked, exponent-reads.Learnt, closing-at-reads.Asked, closing-at-reads.Learnt, minus-reads.Asked, minus-reads.Learnt, joined-reads.Asked, joined-reads.Learnt, closed-reads.Asked, closed-reads.Learnt) (measure-at t) measure.Post
+measure-operator-at-requires t c κs = (told (now (c .before .before .before .before .before .before .args .s)) _ (c .before .before .before .before .before .before .pre .1 .0) (Open _ _) (sym (c .before .before .before .next .ensures) ∙ c .before .step2 .given .1)) .past .inside
+
+measure-returns : (t : ℕ) → measure-lts.Need-returns (next-reads.Asked, next-reads.Learnt, word-of-reads.Asked, word-of-reads.Learnt, operator-at-reads.Asked, operator-at-reads.Learnt, measure-below t, measure.Post, exponent-reads.Asked, exponent-reads.Learnt, closing-at-reads.Asked, closing-at-reads.Learnt, minus-reads.Asked, minus-reads.Learnt, joined-reads.Asked, joined-reads.Learnt, closed-reads.Asked, closed-reads.Learnt) (measure-at t) measure.Post
+measure-returns t c = no-operator (now (c .before .before .before .before .before .before .before .before .args .row)) (now (c .before .before .before .before .before .before .before .before .args .s)) (c .before .before .before .before .before .before .before .before .pre .1 .1) _ (c .before .before .before .step2 .given .0 .0) (c .before .before .before .step2 .given .0 .1 .0) ((told (now (c .before .before .before .before .before .before .before .before .args .s)) _ (c .before .before .before .before .before .before .before .before .pre .1 .0) (Open _ _) (sym (c .before .before .before .before .before .next .ensures) ∙ c .before .before .before .step2 .given .1)) .first) (c .before .operator-at .result) (c .before .operator-at .ensures) (c .if1 .taken)
+
+measure-measure-requires : (t : ℕ) → measure-lts.Need-measure-requires (next-reads.Asked, next-reads.Learnt, word-of-reads.Asked, word-of-reads.Learnt, operator-at-reads.Asked, operator-at-reads.Learnt, measure-below t, measure.Post, exponent-reads.Asked, exponent-reads.Learnt, closing-at-reads.Asked, closing-at-reads.Learnt, minus-reads.Asked, minus-reads.Learnt, joined-reads.Asked, joined-reads.Learnt, closed-reads.Asked, closed-reads.Learnt) (measure-at t) measure.Post
+measure-measure-requires t c κs = (omega (arith, c .before .before .before .before .before .before .before .before .before .pre .0, (told (now (c .before .before .before .before .before .before .before .before .before .args .s)) _ (c .before .before .before .before .before .before .before .before .before .pre .1 .0) (Open _ _) (sym (c .before .before .before .before .before .before .next .ensures) ∙ c .before .before .before .before .step2 .given .1)) .past .later, (told (now (c .before .before .before .before .before .before .before .before .before .args .s)) _ (c .before .before .before .before .before .before .before .before .before .pre .1 .0) (Open _ _) (sym (c .before .before .before .before .before .before .next .ensures) ∙ c .before .before .before .before .step2 .given .1)) .past .more, (c .before .before .operator-at .ensures .safe (c .before .if1 .left)) .0, (c .before .before .operator-at .ensures .safe (c .before .if1 .left)) .1), ((c .before .before .operator-at .ensures .safe (c .before .if1 .left)) .1, (c .before .before .before .before .before .before .before .before .before .pre .1 .1)))
+
+measure-enum-known-x : (t : ℕ) → measure-lts.Need-enum-known-x (next-reads.Asked, next-reads.Learnt, word-of-reads.Asked, word-of-reads.Learnt, operator-at-reads.Asked, operator-at-reads.Learnt, measure-below t, measure.Post, exponent-reads.Asked, exponent-reads.Learnt, closing-at-reads.Asked, closing-at-reads.Learnt, minus-reads.Asked, minus-reads.Learnt, joined-reads.Asked, joined-reads.Learnt, closed-reads.Asked, closed-reads.Learnt) (measure-at t) measure.Post
+measure-enum-known-x t c = search needs
+
+measure-returns-2 : (t : ℕ) → measure-lts.Need-returns-2 (next-reads.Asked, next-reads.Learnt, word-of-reads.Asked, word-of-reads.Learnt, operator-at-reads.Asked, operator-at-reads.Learnt, measure-below t, measure.Post, exponent-reads.Asked, exponent-reads.Learnt, closing-at-reads.Asked, closing-at-reads.Learnt, minus-reads.Asked, minus-reads.Learnt, joined-reads.Asked, joined-reads.Learnt, closed-reads.Asked, closed-reads.Learnt) (measure-at t) measure.Post
+measure-returns-2 t c = first-stops (now (c .before .before .before .before .before .before .before .before .before .before .before .args .row)) (now (c .before .before .before .before .before .before .before .before .before .before .before .args .s)) (c .before .before .before .before .before .before .before .before .before .before .before .pre .1 .1) _ (c .before .before .before .before .before .before .step2 .given .0 .0) (c .before .before .before .before .before .before .step2 .given .0 .1 .0) ((told (now (c .before .before .before .before .before .before .before .before .before .before .before .args .s)) _ (c .before .before .before .before .before .before .before .before .before .before .before .pre .1 .0) (Open _ _) (sym (c .before .before .before .before .before .before .before .before .next .ensures) ∙ c .before .before .before .before .before .before .step2 .given .1)) .first) (c .before .before .before .before .operator-at .result) (c .before .before .before .before .operator-at .ensures) (omega (arith, (told (now (c .before .before .before .before .before .before .before .before .before .before .before .args .s)) _ (c .before .before .before .before .before .before .before .before .before .before .before .pre .1 .0) (Open _ _) (sym (c .before .before .before .before .before .before .before .before .next .ensures) ∙ c .before .before .before .before .before .before .step2 .given .1)) .past .later, (told (now (c .before .before .before .before .before .before .before .before .before .before .before .args .s)) _ (c .before .before .before .before .before .before .before .before .before .before .before .pre .1 .0) (Open _ _) (sym (c .before .before .before .before .before .before .before .before .next .ensures) ∙ c .before .before .before .before .before .before .step2 .given .1)) .past .more, (c .before .before .before .before .operator-at .ensures .safe (c .before .before .before .if1 .left)) .0)) (c .before .measure .result) (c .before .measure .ensures) (stops (c .before .measure .result) (c .match2 .keys2))
+
+measure-exponent-requires : (t : ℕ) → measure-lts.Need-exponent-requires (next-reads.Asked, next-reads.Learnt, word-of-reads.Asked, word-of-reads.Learnt, operator-at-reads.Asked, operator-at-reads.Learnt, measure-below t, measure.Post, exponent-reads.Asked, exponent-reads.Learnt, closing-at-reads.Asked, closing-at-reads.Learnt, minus-reads.Asked, minus-reads.Learnt, joined-reads.Asked, joined-reads.Learnt, closed-reads.Asked, closed-reads.Learnt) (measure-at t) measure.Post
+measure-exponent-requires t c κs = ((done-safe (now (c .before .before .before .before .before .before .before .before .before .before .before .before .before .before .args .s)) _ (c .before .before .before .before .measure .result) ((c .before .before .before .before .measure .ensures) .safe) (c .before .before .x .given .0 .0) (c .before .before .x .given .0 .1 .0) (c .before .before .x .given .1)) .0, (done-safe (now (c .before .before .before .before .before .before .before .before .before .before .before .before .before .before .args .s)) _ (c .before .before .before .before .measure .result) ((c .before .before .before .before .measure .ensures) .safe) (c .before .before .x .given .0 .0) (c .before .before .x .given .0 .1 .0) (c .before .before .x .given .1)) .1 .1)
+
+measure-returns-3 : (t : ℕ) → measure-lts.Need-returns-3 (next-reads.Asked, next-reads.Learnt, word-of-reads.Asked, word-of-reads.Learnt, operator-at-reads.Asked, operator-at-reads.Learnt, measure-below t, measure.Post, exponent-reads.Asked, exponent-reads.Learnt, closing-at-reads.Asked, closing-at-reads.Learnt, minus-reads.Asked, minus-reads.Learnt, joined-reads.Asked, joined-reads.Learnt, closed-reads.Asked, closed-reads.Learnt) (measure-at t) measure.Post
+measure-returns-3 t c = raised (now (c .before .before .before .before .before .before .before .before .before .before .before .before .before .before .before .args .row)) (now (c .before .before .before .before .before .before .before .before .before .before .before .before .before .before .before .args .s)) (c .before .before .before .before .before .before .before .before .before .before .before .before .before .before .before .pre .1 .1) _ (c .before .before .before .before .before .before .before .before .before .before .step2 .given .0 .0) (c .before .before .before .before .before .before .before .before .before .before .step2 .given .0 .1 .0) ((told (now (c .before .before .before .before .before .before .before .before .before .before .before .before .before .before .before .args .s)) _ (c .before .before .before .before .before .before .before .before .before .before .before .before .before .before .before .pre .1 .0) (Open _ _) (sym (c .before .before .before .before .before .before .before .before .before .before .before .before .next .ensures) ∙ c .before .before .before .before .before .before .before .before .before .before .step2 .given .1)) .first) (c .before .before .before .before .before .before .before .before .operator-at .result) (c .before .before .before .before .before .before .before .before .operator-at .ensures) (omega (arith, (told (now (c .before .before .before .before .before .before .before .before .before .before .before .before .before .before .before .args .s)) _ (c .before .before .before .before .before .before .before .before .before .before .before .before .before .before .before .pre .1 .0) (Open _ _) (sym (c .before .before .before .before .before .before .before .before .before .before .before .before .next .ensures) ∙ c .before .before .before .before .before .before .before .before .before .before .step2 .given .1)) .past .later, (told (now (c .before .before .before .before .before .before .before .before .before .before .before .before .before .before .before .args .s)) _ (c .before .before .before .before .before .before .before .before .before .before .before .before .before .before .before .pre .1 .0) (Open _ _) (sym (c .before .before .before .before .before .before .before .before .before .before .before .before .next .ensures) ∙ c .before .before .before .before .before .before .before .before .before .before .step2 .given .1)) .past .more, (c .before .before .before .before .before .before .before .before .operator-at .ensures .safe (c .before .before .before .before .before .before .before .if1 .left)) .0)) (c .before .before .before .before .before .measure .result) (c .before .before .before .before .before .measure .ensures) (c .before .before .before .x .given .0 .0) (c .before .before .before .x .given .0 .1 .0) (c .before .before .before .x .given .1) (c .before .if2 .taken) _ (c .exponent .ensures)
+
+measure-closing-at-requires : (t : ℕ) → measure-lts.Need-closing-at-requires (next-reads.Asked, next-reads.Learnt, word-of-reads.Asked, word-of-reads.Learnt, operator-at-reads.Asked, operator-at-reads.Learnt, measure-below t, measure.Post, exponent-reads.Asked, exponent-reads.Learnt, closing-at-reads.Asked, closing-at-reads.Learnt, minus-reads.Asked, minus-reads.Learnt, joined-reads.Asked, joined-reads.Learnt, closed-reads.Asked, closed-reads.Learnt) (measure-at t) measure.Post
+measure-closing-at-requires t c κs = (done-safe (now (c .before .before .before .before .before .before .before .before .before .before .before .before .before .before .args .s)) _ (c .before .before .before .before .measure .result) ((c .before .before .before .before .measure .ensures) .safe) (c .before .before .x .given .0 .0) (c .before .before .x .given .0 .1 .0) (c .before .before .x .given .1)) .1 .1
+
+measure-minus-requires : (t : ℕ) → measure-lts.Need-minus-requires (next-reads.Asked, next-reads.Learnt, word-of-reads.Asked, word-of-reads.Learnt, operator-at-reads.Asked, operator-at-reads.Learnt, measure-below t, measure.Post, exponent-reads.Asked, exponent-reads.Learnt, closing-at-reads.Asked, closing-at-reads.Learnt, minus-reads.Asked, minus-reads.Learnt, joined-reads.Asked, joined-reads.Learnt, closed-reads.Asked, closed-reads.Learnt) (measure-at t) measure.Post
+measure-minus-requires t c κs = tt
+
+measure-returns-4 : (t : ℕ) → measure-lts.Need-returns-4 (next-reads.Asked, next-reads.Learnt, word-of-reads.Asked, word-of-reads.Learnt, operator-at-reads.Asked, operator-at-reads.Learnt, measure-below t, measure.Post, exponent-reads.Asked, exponent-reads.Learnt, closing-at-reads.Asked, closing-at-reads.Learnt, minus-reads.Asked, minus-reads.Learnt, joined-reads.Asked, joined-reads.Learnt, closed-reads.Asked, closed-reads.Learnt) (measure-at t) measure.Post
+measure-returns-4 t c = negated (now (c .before .before .before .before .before .before .before .before .before .before .before .before .before .before .before .before .before .before .args .row)) (now (c .before .before .before .before .before .before .before .before .before .before .before .before .before .before .before .before .before .before .args .s)) (c .before .before .before .before .before .before .before .before .before .before .before .before .before .before .before .before .before .before .pre .1 .1) _ (c .before .before .before .before .before .before .before .before .before .before .before .before .before .step2 .given .0 .0) (c .before .before .before .before .before .before .before .before .before .before .before .before .before .step2 .given .0 .1 .0) ((told (now (c .before .before .before .before .before .before .before .before .before .before .before .before .before .before .before .before .before .before .args .s)) _ (c .before .before .before .before .before .before .before .before .before .before .before .before .before .before .before .before .before .before .pre .1 .0) (Open _ _) (sym (c .before .before .before .before .before .before .before .before .before .before .before .before .before .before .before .next .ensures) ∙ c .before .before .before .before .before .before .before .before .before .before .before .before .before .step2 .given .1)) .first) (c .before .before .before .before .before .before .before .before .before .before .before .operator-at .result) (c .before .before .before .before .before .before .before .before .before .before .before .operator-at .ensures) (omega (arith, (told (now (c .before .before .before .before .before .before .before .before .before .before .before .before .before .before .before .before .before .before .args .s)) _ (c .before .before .before .before .before .before .before .before .before .before .before .before .before .before .before .before .before .before .pre .1 .0) (Open _ _) (sym (c .before .before .before .before .before .before .before .before .before .before .before .before .before .before .before .next .ensures) ∙ c .before .before .before .before .before .before .before .before .before .before .before .before .before .step2 .given .1)) .past .later, (told (now (c .before .before .before .before .before .before .before .before .before .before .before .before .before .before .before .before .before .before .args .s)) _ (c .before .before .before .before .before .before .before .before .before .before .before .before .before .before .before .before .before .before .pre .1 .0) (Open _ _) (sym (c .before .before .before .before .before .before .before .before .before .before .before .before .before .before .before .next .ensures) ∙ c .before .before .before .before .before .before .before .before .before .before .before .before .before .step2 .given .1)) .past .more, (c .before .before .before .before .before .before .before .before .before .before .before .operator-at .ensures .safe (c .before .before .before .before .before .before .before .before .before .before .if1 .left)) .0)) (c .before .before .before .before .before .before .before .before .measure .result) (c .before .before .before .before .before .before .before .before .measure .ensures) (c .before .before .before .before .before .before .x .given .0 .0) (c .before .before .before .before .before .before .x .given .0 .1 .0) (c .before .before .before .before .before .before .x .given .1) (c .before .before .before .before .if2 .left) (c .before .before .before .closing-at .result) (c .before .before .before .closing-at .ensures) (c .before .before .if3 .taken) _ (c .minus .ensures)
+
+measure-measure-requires-2 : (t : ℕ) → measure-lts.Need-measure-requires-2 (next-reads.Asked, next-reads.Learnt, word-of-reads.Asked, word-of-reads.Learnt, operator-at-reads.Asked, operator-at-reads.Learnt, measure-below t, measure.Post, exponent-reads.Asked, exponent-reads.Learnt, closing-at-reads.Asked, closing-at-reads.Learnt, minus-reads.Asked, minus-reads.Learnt, joined-reads.Asked, joined-reads.Learnt, closed-reads.Asked, closed-reads.Learnt) (measure-at t) measure.Post
+measure-measure-requires-2 t c κs = (omega (arith, c .before .before .before .before .before .before .before .before .before .before .before .before .before .before .before .before .pre .0, (told (now (c .before .before .before .before .before .before .before .before .before .before .before .before .before .before .before .before .args .s)) _ (c .before .before .before .before .before .before .before .before .before .before .before .before .before .before .before .before .pre .1 .0) (Open _ _) (sym (c .before .before .before .before .before .before .before .before .before .before .before .before .before .next .ensures) ∙ c .before .before .before .before .before .before .before .before .before .before .before .step2 .given .1)) .past .later, (told (now (c .before .before .before .before .before .before .before .before .before .before .before .before .before .before .before .before .args .s)) _ (c .before .before .before .before .before .before .before .before .before .before .before .before .before .before .before .before .pre .1 .0) (Open _ _) (sym (c .before .before .before .before .before .before .before .before .before .before .before .before .before .next .ensures) ∙ c .before .before .before .before .before .before .before .before .before .before .before .step2 .given .1)) .past .more, (c .before .before .before .before .before .before .before .before .before .operator-at .ensures .safe (c .before .before .before .before .before .before .before .before .if1 .left)) .0, (done-safe (now (c .before .before .before .before .before .before .before .before .before .before .before .before .before .before .before .before .args .s)) _ (c .before .before .before .before .before .before .measure .result) ((c .before .before .before .before .before .before .measure .ensures) .safe) (c .before .before .before .before .x .given .0 .0) (c .before .before .before .before .x .given .0 .1 .0) (c .before .before .before .before .x .given .1)) .1 .0, (done-safe (now (c .before .before .before .before .before .before .before .before .before .before .before .before .before .before .before .before .args .s)) _ (c .before .before .before .before .before .before .measure .result) ((c .before .before .before .before .before .before .measure .ensures) .safe) (c .before .before .before .before .x .given .0 .0) (c .before .before .before .before .x .given .0 .1 .0) (c .before .before .before .before .x .given .1)) .1 .1), ((done-safe (now (c .before .before .before .before .before .before .before .before .before .before .before .before .before .before .before .before .args .s)) _ (c .before .before .before .before .before .before .measure .result) ((c .before .before .before .before .before .before .measure .ensures) .safe) (c .before .before .before .before .x .given .0 .0) (c .before .before .before .before .x .given .0 .1 .0) (c .before .before .before .before .x .given .1)) .1 .1, (c .before .before .before .before .before .before .before .before .before .before .before .before .before .before .before .before .pre .1 .1)))
+
+measure-enum-known-y : (t : ℕ) → measure-lts.Need-enum-known-y (next-reads.Asked, next-reads.Learnt, word-of-reads.Asked, word-of-reads.Learnt, operator-at-reads.Asked, operator-at-reads.Learnt, measure-below t, measure.Post, exponent-reads.Asked, exponent-reads.Learnt, closing-at-reads.Asked, closing-at-reads.Learnt, minus-reads.Asked, minus-reads.Learnt, joined-reads.Asked, joined-reads.Learnt, closed-reads.Asked, closed-reads.Learnt) (measure-at t) measure.Post
+measure-enum-known-y t c = search needs
+
+measure-returns-5 : (t : ℕ) → measure-lts.Need-returns-5 (next-reads.Asked, next-reads.Learnt, word-of-reads.Asked, word-of-reads.Learnt, operator-at-reads.Asked, operator-at-reads.Learnt, measure-below t, measure.Post, exponent-reads.Asked, exponent-reads.Learnt, closing-at-reads.Asked, closing-at-reads.Learnt, minus-reads.Asked, minus-reads.Learnt, joined-reads.Asked, joined-reads.Learnt, closed-reads.Asked, closed-reads.Learnt) (measure-at t) measure.Post
+measure-returns-5 t c = second-stops (now (c .before .before .before .before .before .before .before .before .before .before .before .before .before .before .before .before .before .before .args .row)) (now (c .before .before .before .before .before .before .before .before .before .before .before .before .before .before .before .before .before .before .args .s)) (c .before .before .before .before .before .before .before .before .before .before .before .before .before .before .before .before .before .before .pre .1 .1) _ (c .before .before .before .before .before .before .before .before .before .before .before .before .before .step2 .given .0 .0) (c .before .before .before .before .before .before .before .before .before .before .before .before .before .step2 .given .0 .1 .0) ((told (now (c .before .before .before .before .before .before .before .before .before .before .before .before .before .before .before .before .before .before .args .s)) _ (c .before .before .before .before .before .before .before .before .before .before .before .before .before .before .before .before .before .before .pre .1 .0) (Open _ _) (sym (c .before .before .before .before .before .before .before .before .before .before .before .before .before .before .before .next .ensures) ∙ c .before .before .before .before .before .before .before .before .before .before .before .before .before .step2 .given .1)) .first) (c .before .before .before .before .before .before .before .before .before .before .before .operator-at .result) (c .before .before .before .before .before .before .before .before .before .before .before .operator-at .ensures) (omega (arith, (told (now (c .before .before .before .before .before .before .before .before .before .before .before .before .before .before .before .before .before .before .args .s)) _ (c .before .before .before .before .before .before .before .before .before .before .before .before .before .before .before .before .before .before .pre .1 .0) (Open _ _) (sym (c .before .before .before .before .before .before .before .before .before .before .before .before .before .before .before .next .ensures) ∙ c .before .before .before .before .before .before .before .before .before .before .before .before .before .step2 .given .1)) .past .later, (told (now (c .before .before .before .before .before .before .before .before .before .before .before .before .before .before .before .before .before .before .args .s)) _ (c .before .before .before .before .before .before .before .before .before .before .before .before .before .before .before .before .before .before .pre .1 .0) (Open _ _) (sym (c .before .before .before .before .before .before .before .before .before .before .before .before .before .before .before .next .ensures) ∙ c .before .before .before .before .before .before .before .before .before .before .before .before .before .step2 .given .1)) .past .more, (c .before .before .before .before .before .before .before .before .before .before .before .operator-at .ensures .safe (c .before .before .before .before .before .before .before .before .before .before .if1 .left)) .0)) (c .before .before .before .before .before .before .before .before .measure .result) (c .before .before .before .before .before .before .before .before .measure .ensures) (c .before .before .before .before .before .before .x .given .0 .0) (c .before .before .before .before .before .before .x .given .0 .1 .0) (c .before .before .before .before .before .before .x .given .1) (c .before .before .before .before .if2 .left) (c .before .before .before .closing-at .result) (c .before .before .before .closing-at .ensures) (c .before .before .if3 .left) (c .before .measure2 .result) (c .before .measure2 .ensures) (stops (c .before .measure2 .result) (c .match3 .keys2))
+
+measure-joined-requires : (t : ℕ) → measure-lts.Need-joined-requires (next-reads.Asked, next-reads.Learnt, word-of-reads.Asked, word-of-reads.Learnt, operator-at-reads.Asked, operator-at-reads.Learnt, measure-below t, measure.Post, exponent-reads.Asked, exponent-reads.Learnt, closing-at-reads.Asked, closing-at-reads.Learnt, minus-reads.Asked, minus-reads.Learnt, joined-reads.Asked, joined-reads.Learnt, closed-reads.Asked, closed-reads.Learnt) (measure-at t) measure.Post
+measure-joined-requires t c κs = ((done-safe (now (c .before .before .before .before .before .before .before .before .before .before .before .before .before .before .before .before .before .before .before .before .args .s)) _ (c .before .before .before .before .before .before .before .before .before .before .measure .result) ((c .before .before .before .before .before .before .before .before .before .before .measure .ensures) .safe) (c .before .before .before .before .before .before .before .before .x .given .0 .0) (c .before .before .before .before .before .before .before .before .x .given .0 .1 .0) (c .before .before .before .before .before .before .before .before .x .given .1)) .0, (done-safe (now (c .before .before .before .before .before .before .before .before .before .before .before .before .before .before .before .before .before .before .before .before .args .s)) _ (c .before .before .before .measure2 .result) ((c .before .before .before .measure2 .ensures) .safe) (c .before .y .given .0 .0) (c .before .y .given .0 .1 .0) (c .before .y .given .1)) .0)
+
+measure-closed-requires : (t : ℕ) → measure-lts.Need-closed-requires (next-reads.Asked, next-reads.Learnt, word-of-reads.Asked, word-of-reads.Learnt, operator-at-reads.Asked, operator-at-reads.Learnt, measure-below t, measure.Post, exponent-reads.Asked, exponent-reads.Learnt, closing-at-reads.Asked, closing-at-reads.Learnt, minus-reads.Asked, minus-reads.Learnt, joined-reads.Asked, joined-reads.Learnt, closed-reads.Asked, closed-reads.Learnt) (measure-at t) measure.Post
+measure-closed-requires t c κs = (done-safe (now (c .before .before .before .before .before .before .before .before .before .before .before .before .before .before .before .before .before .before .before .before .before .args .s)) _ (c .before .before .before .before .measure2 .result) ((c .before .before .before .before .measure2 .ensures) .safe) (c .before .before .y .given .0 .0) (c .before .before .y .given .0 .1 .0) (c .before .before .y .given .1)) .1 .1
+
+measure-returns-6 : (t : ℕ) → measure-lts.Need-returns-6 (next-reads.Asked, next-reads.Learnt, word-of-reads.Asked, word-of-reads.Learnt, operator-at-reads.Asked, operator-at-reads.Learnt, measure-below t, measure.Post, exponent-reads.Asked, exponent-reads.Learnt, closing-at-reads.Asked, closing-at-reads.Learnt, minus-reads.Asked, minus-reads.Learnt, joined-reads.Asked, joined-reads.Learnt, closed-reads.Asked, closed-reads.Learnt) (measure-at t) measure.Post
+measure-returns-6 t c = measured-end (now (c .before .before .before .before .before .args .row)) (now (c .before .before .before .before .before .args .s)) (c .before .before .before .before .before .pre .1 .1) _ (c .before .before .before .before .before .pre .1 .0) (sym (c .before .before .next .ensures) ∙ c .enum-told .given .1)
+
+measure-returns-7 : (t : ℕ) → measure-lts.Need-returns-7 (next-reads.Asked, next-reads.Learnt, word-of-reads.Asked, word-of-reads.Learnt, operator-at-reads.Asked, operator-at-reads.Learnt, measure-below t, measure.Post, exponent-reads.Asked, exponent-reads.Learnt, closing-at-reads.Asked, closing-at-reads.Learnt, minus-reads.Asked, minus-reads.Learnt, joined-reads.Asked, joined-reads.Learnt, closed-reads.Asked, closed-reads.Learnt) (measure-at t) measure.Post
+measure-returns-7 t c = measured-close (now (c .before .before .before .before .before .args .row)) (now (c .before .before .before .before .before .args .s)) (c .before .before .before .before .before .pre .1 .1) _ (c .before .before .before .before .before .pre .1 .0) _ _ (sym (c .before .before .next .ensures) ∙ c .enum-told2 .given .1)
+
+measure-returns-8 : (t : ℕ) → measure-lts.Need-returns-8 (next-reads.Asked, next-reads.Learnt, word-of-reads.Asked, word-of-reads.Learnt, operator-at-reads.Asked, operator-at-reads.Learnt, measure-below t, measure.Post, exponent-reads.Asked, exponent-reads.Learnt, closing-at-reads.Asked, closing-at-reads.Learnt, minus-reads.Asked, minus-reads.Learnt, joined-reads.Asked, joined-reads.Learnt, closed-reads.Asked, closed-reads.Learnt) (measure-at t) measure.Post
+measure-returns-8 t c = measured-word (now (c .before .before .before .before .before .before .before .before .args .row)) (now (c .before .before .before .before .before .before .before .before .args .s)) (c .before .before .before .before .before .before .before .before .pre .1 .1) _ (c .before .before .before .before .before .before .before .before .pre .1 .0) _ _ (sym (c .before .before .before .before .before .next .ensures) ∙ c .before .before .before .step .given .1) _ (c .word-of .ensures)
+
+measure-returns-9 : (t : ℕ) → measure-lts.Need-returns-9 (next-reads.Asked, next-reads.Learnt, word-of-reads.Asked, word-of-reads.Learnt, operator-at-reads.Asked, operator-at-reads.Learnt, measure-below t, measure.Post, exponent-reads.Asked, exponent-reads.Learnt, closing-at-reads.Asked, closing-at-reads.Learnt, minus-reads.Asked, minus-reads.Learnt, joined-reads.Asked, joined-reads.Learnt, closed-reads.Asked, closed-reads.Learnt) (measure-at t) measure.Post
+measure-returns-9 t c = both (now (c .before .before .before .before .before .before .before .before .before .before .before .before .before .before .before .before .before .before .before .before .before .before .args .row)) (now (c .before .before .before .before .before .before .before .before .before .before .before .before .before .before .before .before .before .before .before .before .before .before .args .s)) (c .before .before .before .before .before .before .before .before .before .before .before .before .before .before .before .before .before .before .before .before .before .before .pre .1 .1) _ (c .before .before .before .before .before .before .before .before .before .before .before .before .before .before .before .before .before .step2 .given .0 .0) (c .before .before .before .before .before .before .before .before .before .before .before .before .before .before .before .before .before .step2 .given .0 .1 .0) ((told (now (c .before .before .before .before .before .before .before .before .before .before .before .before .before .before .before .before .before .before .before .before .before .before .args .s)) _ (c .before .before .before .before .before .before .before .before .before .before .before .before .before .before .before .before .before .before .before .before .before .before .pre .1 .0) (Open _ _) (sym (c .before .before .before .before .before .before .before .before .before .before .before .before .before .before .before .before .before .before .before .next .ensures) ∙ c .before .before .before .before .before .before .before .before .before .before .before .before .before .before .before .before .before .step2 .given .1)) .first) (c .before .before .before .before .before .before .before .before .before .before .before .before .before .before .before .operator-at .result) (c .before .before .before .before .before .before .before .before .before .before .before .before .before .before .before .operator-at .ensures) (omega (arith, (told (now (c .before .before .before .before .before .before .before .before .before .before .before .before .before .before .before .before .before .before .before .before .before .before .args .s)) _ (c .before .before .before .before .before .before .before .before .before .before .before .before .before .before .before .before .before .before .before .before .before .before .pre .1 .0) (Open _ _) (sym (c .before .before .before .before .before .before .before .before .before .before .before .before .before .before .before .before .before .before .before .next .ensures) ∙ c .before .before .before .before .before .before .before .before .before .before .before .before .before .before .before .before .before .step2 .given .1)) .past .later, (told (now (c .before .before .before .before .before .before .before .before .before .before .before .before .before .before .before .before .before .before .before .before .before .before .args .s)) _ (c .before .before .before .before .before .before .before .before .before .before .before .before .before .before .before .before .before .before .before .before .before .before .pre .1 .0) (Open _ _) (sym (c .before .before .before .before .before .before .before .before .before .before .before .before .before .before .before .before .before .before .before .next .ensures) ∙ c .before .before .before .before .before .before .before .before .before .before .before .before .before .before .before .before .before .step2 .given .1)) .past .more, (c .before .before .before .before .before .before .before .before .before .before .before .before .before .before .before .operator-at .ensures .safe (c .before .before .before .before .before .before .before .before .before .before .before .before .before .before .if1 .left)) .0)) (c .before .before .before .before .before .before .before .before .before .before .before .before .measure .result) (c .before .before .before .before .before .before .before .before .before .before .before .before .measure .ensures) (c .before .before .before .before .before .before .before .before .before .before .x .given .0 .0) (c .before .before .before .before .before .before .before .before .before .before .x .given .0 .1 .0) (c .before .before .before .before .before .before .before .before .before .before .x .given .1) (c .before .before .before .before .before .before .before .before .if2 .left) (c .before .before .before .before .before .before .before .closing-at .result) (c .before .before .before .before .before .before .before .closing-at .ensures) (c .before .before .before .before .before .before .if3 .left) (c .before .before .before .before .before .measure2 .result) (c .before .before .before .before .before .measure2 .ensures) (c .before .before .before .y .given .0 .0) (c .before .before .before .y .given .0 .1 .0) (c .before .before .before .y .given .1) _ (c .before .joined .ensures) _ (c .closed .ensures)
+
+pub +measure-spec : {M : Type 1} → statement M
++measure-spec = close μ-measure λ t. measure-lts.spec (next-reads.Asked, next-reads.Learnt, word-of-reads.Asked, word-of-reads.Learnt, operator-at-reads.Asked, operator-at-reads.Learnt, measure-below t, measure.Post, exponent-reads.Asked, exponent-reads.Learnt, closing-at-reads.Asked, closing-at-reads.Learnt, minus-reads.Asked, minus-reads.Learnt, joined-reads.Asked, joined-reads.Learnt, closed-reads.Asked, closed-reads.Learnt)
+    (measure-at t)
+    measure.Post
+    (measure-next-requires t)
+    (measure-enum-told t)
+    (measure-enum-told-2 t)
+    (measure-enum-known-step t)
+    (measure-sub-word-of t)
+    (measure-part-word-of-start t)
+    (measure-part-word-of-end t)
+    (measure-word-of-requires t)
+    (measure-enum-known-step-2 t)
+    (measure-operator-at-requires t)
+    (measure-returns t)
+    (measure-measure-requires t)
+    (measure-enum-known-x t)
+    (measure-returns-2 t)
+    (measure-exponent-requires t)
+    (measure-returns-3 t)
+    (measure-closing-at-requires t)
+    (measure-minus-requires t)
+    (measure-returns-4 t)
+    (measure-measure-requires-2 t)
+    (measure-enum-known-y t)
+    (measure-returns-5 t)
+    (measure-joined-requires t)
+    (measure-closed-requires t)
+    (measure-returns-6 t)
+    (measure-returns-7 t)
+    (measure-returns-8 t)
+    (measure-returns-9 t)

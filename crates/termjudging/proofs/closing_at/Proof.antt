@@ -1,0 +1,48 @@
+-- `termjudging::closing_at` meets its contract, case by case.
+use borrow.Author.Needs.{needs}
+use mathlib.Core.Path.{_≡_, refl, sym, ap, _∙_, subst}
+use denote.Ref.{now}
+use Rattle.termjudging.specs.Steps.{closing-close, closing-open, closing-word, closing-end}
+use Rattle.termjudging.proofs.closing_at.Statement.{statement}
+use Rattle.termjudging.proofs.closing_at.Tie as tie
+
+next-requires : tie.Need-next-requires
+next-requires c κs = search needs
+
+enum-known-step : tie.Need-enum-known-step
+enum-known-step c = search needs
+
+enum-known-step-2 : tie.Need-enum-known-step-2
+enum-known-step-2 c = search needs
+
+enum-known-step-3 : tie.Need-enum-known-step-3
+enum-known-step-3 c = search needs
+
+enum-told : tie.Need-enum-told
+enum-told c = search needs
+
+returns : tie.Need-returns
+returns c = closing-close (now (c .before .before .before .before .before .args .s)) _ (c .before .before .before .before .before .pre) _ _ (sym (c .before .before .before .next .ensures) ∙ c .before .step .given .1)
+
+returns-2 : tie.Need-returns-2
+returns-2 c = closing-open (now (c .before .before .before .before .before .args .s)) _ (c .before .before .before .before .before .pre) _ _ (sym (c .before .before .before .next .ensures) ∙ c .before .step2 .given .1)
+
+returns-3 : tie.Need-returns-3
+returns-3 c = closing-word (now (c .before .before .before .before .before .args .s)) _ (c .before .before .before .before .before .pre) _ _ (sym (c .before .before .before .next .ensures) ∙ c .before .step3 .given .1)
+
+returns-4 : tie.Need-returns-4
+returns-4 c = closing-end (now (c .before .before .before .before .args .s)) _ (c .before .before .before .before .pre) _ (sym (c .before .before .next .ensures) ∙ c .enum-told .given .1)
+
+pub closing-at-spec : {M : Type 1} → statement M
+closing-at-spec =
+    tie.close
+    (tie.spec
+    next-requires
+    enum-known-step
+    enum-known-step-2
+    enum-known-step-3
+    enum-told
+    returns
+    returns-2
+    returns-3
+    returns-4)

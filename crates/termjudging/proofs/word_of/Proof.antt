@@ -1,0 +1,66 @@
+-- `termjudging::word_of` meets its contract, test by test.
+use borrow.Author.Needs.{needs}
+use mathlib.Core.Path.{_≡_, refl, sym, ap, _∙_}
+use borrow.Author.Tests.{eq-eqb, ne-eqb}
+use Rattle.textlaws.specs.laws.Picks.{pick-yes, pick-no}
+use Rattle.termjudging.specs.declared.Sub.the-variants.{Done}
+use Rattle.termjudging.specs.Found.{letterM, judged}
+use Rattle.measures.specs.Made.{of}
+use Rattle.termjudging.proofs.word_of.Statement.{statement}
+use Rattle.termjudging.proofs.word_of.Tie as tie
+
+is-integer-requires : tie.Need-is-integer-requires
+is-integer-requires c κs = search needs
+
+magnitude-requires : tie.Need-magnitude-requires
+magnitude-requires c κs = sym (c .before .is-integer .ensures) ∙ c .if1 .taken
+
+judge-requires : tie.Need-judge-requires
+judge-requires c κs = search needs
+
+returns : tie.Need-returns
+returns c = c .judge .ensures ∙ ap (λ v. judged (of v 1 0 0 0 0) (c .before .before .before .before .before .before .args .p) (c .before .before .before .before .before .before .args .reader)) (c .before .magnitude .ensures) ∙ sym (pick-yes _ _ (sym (c .before .before .before .is-integer .ensures) ∙ c .before .before .if1 .taken))
+
+returns-2 : tie.Need-returns-2
+returns-2 c = sym (pick-no _ _ (sym (c .before .before .is-integer .ensures) ∙ c .before .if1 .left) ∙ pick-no _ _ (ne-eqb _ _ (c .if2 .taken)))
+
+shared-slice-read-index-in : tie.Need-shared-slice-read-index-in
+shared-slice-read-index-in c = search needs
+
+index-in-requires : tie.Need-index-in-requires
+index-in-requires c κs = search needs
+
+one-if-requires : tie.Need-one-if-requires
+one-if-requires c κs = search needs
+
+one-if-requires-2 : tie.Need-one-if-requires-2
+one-if-requires-2 c κs = search needs
+
+one-if-requires-3 : tie.Need-one-if-requires-3
+one-if-requires-3 c κs = search needs
+
+one-if-requires-4 : tie.Need-one-if-requires-4
+one-if-requires-4 c κs = search needs
+
+returns-3 : tie.Need-returns-3
+returns-3 c =
+    (λ i. Done (of 1 1 (c .before .before .before .one-if .ensures i) (c .before .before .one-if2 .ensures i) (c .before .one-if3 .ensures i) (c .one-if4 .ensures i)) (c .before .before .before .before .before .before .before .before .before .before .before .args .reader))
+    ∙ ap (λ k. Done (letterM k) (c .before .before .before .before .before .before .before .before .before .before .before .args .reader)) (c .before .before .before .before .index-in .ensures)
+    ∙ sym (pick-no _ _ (sym (c .before .before .before .before .before .before .before .before .is-integer .ensures) ∙ c .before .before .before .before .before .before .before .if1 .left) ∙ pick-yes _ _ (eq-eqb _ _ (c .before .before .before .before .before .before .if2 .left)))
+
+pub word-of-spec : {M : Type 1} → statement M
+word-of-spec =
+    tie.close
+    (tie.spec
+    is-integer-requires
+    magnitude-requires
+    judge-requires
+    returns
+    returns-2
+    shared-slice-read-index-in
+    index-in-requires
+    one-if-requires
+    one-if-requires-2
+    one-if-requires-3
+    one-if-requires-4
+    returns-3)

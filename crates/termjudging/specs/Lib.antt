@@ -1,0 +1,9 @@
+pub mod Found
+pub mod Integers
+pub mod Judging
+pub mod Steps
+pub mod Owning
+pub mod Operands
+pub mod Inside
+pub mod Walk
+pub mod Accepting
