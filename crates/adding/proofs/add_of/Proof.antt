@@ -18,7 +18,9 @@ use Rattle.operating.proofs.read_pair.Reads as read-pair-reads
 
 -- src/lib.rt:59:9
 read-pair-requires : tie.Need-read-pair-requires
-read-pair-requires c κs = omega (arith, row-length (now (c .before .before .before .before .before .before .before .args .row)) (c .before .before .before .before .before .before .before .pre .0) .1, c .before .before .before .before .before .before .before .pre .1 .0)
+read-pair-requires c κs =
+    let start = c .before .before .before .before .before .before .before in
+    omega (arith, row-length (now (start .args .row)) (start .pre .0) .1, start .pre .1 .0)
 
 -- src/lib.rt:61:23
 enum-known-pair : tie.Need-enum-known-pair
@@ -30,7 +32,11 @@ enum-known-pair-2 c = search needs
 
 -- src/lib.rt:62:36
 write-sum-requires : tie.Need-write-sum-requires
-write-sum-requires c κs = (omega (arith, row-length (now (c .before .before .before .before .before .before .before .before .before .before .before .before .before .before .before .before .args .row)) (c .before .before .before .before .before .before .before .before .before .before .before .before .before .before .before .before .pre .0) .1, c .before .before .before .before .before .before .before .before .before .before .before .before .before .before .before .before .pre .1 .0, c .before .before .before .before .before .before .before .before .before .before .before .before .before .before .before .before .pre .1 .1, c .before .before .before .before .before .before .before .before .read-pair .kept .1 .1 .1 .0), read-pair (c .before .before .before .before .pair2 .given .1) (c .before .before .before .before .before .before .before .before .read-pair .ensures))
+write-sum-requires c κs =
+    let pair2 = c .before .before .before .before .pair2 in
+    let at-read-pair = c .before .before .before .before .before .before .before .before .read-pair in
+    let start = c .before .before .before .before .before .before .before .before .before .before .before .before .before .before .before .before in
+    (omega (arith, row-length (now (start .args .row)) (start .pre .0) .1, start .pre .1 .0, start .pre .1 .1, at-read-pair .kept .1 .1 .1 .0), read-pair (pair2 .given .1) (at-read-pair .ensures))
 
 -- src/lib.rt:46:1
 same-length : tie.Need-same-length
@@ -38,7 +44,10 @@ same-length c = search needs
 
 -- src/lib.rt:46:1
 returns : tie.Need-returns
-returns c = two-refused (ofSum (length (now (c .before .before .before .before .before .before .before .before .before .before .before .before .before .args .row)))) (sum ℤ-ring) (now (c .before .before .before .before .before .before .before .before .before .before .before .before .before .args .row)) (now (c .before .before .before .before .before .before .before .before .before .before .before .before .before .args .s)) (now (c .before .before .before .before .before .before .before .before .before .before .before .before .before .args .t)) (length (now (c .before .before .before .before .before .before .before .before .before .before .before .before .before .args .result))) (now (c .before .before .before .before .before .before .before .before .before .before .before .before .before .args .result)) (c .before .pair .given .1) (c .before .before .before .before .before .read-pair .ensures)
+returns c =
+    let at-read-pair = c .before .before .before .before .before .read-pair in
+    let start = c .before .before .before .before .before .before .before .before .before .before .before .before .before in
+    two-refused (ofSum (length (now (start .args .row)))) (sum ℤ-ring) (now (start .args .row)) (now (start .args .s)) (now (start .args .t)) (length (now (start .args .result))) (now (start .args .result)) (c .before .pair .given .1) (at-read-pair .ensures)
 
 -- src/lib.rt:46:1
 same-length-2 : tie.Need-same-length-2

@@ -29,7 +29,9 @@ use Rattle.measures.proofs.limit_of.Reads as limit-of-reads
 
 -- src/lib.rt:37:32
 add-requires : tie.Need-add-requires
-add-requires c κs = (form-small (c .before .before .before .before .before .before .pre .0 .0) (c .before .before .before .before .before .before .pre .1 .of-left), form-small (c .before .before .before .before .before .before .pre .0 .0) (c .before .before .before .before .before .before .pre .1 .of-right))
+add-requires c κs =
+    let start = c .before .before .before .before .before .before in
+    (form-small (start .pre .0 .0) (start .pre .1 .of-left), form-small (start .pre .0 .0) (start .pre .1 .of-right))
 
 -- src/lib.rt:37:9
 limit-of-requires : tie.Need-limit-of-requires
@@ -37,7 +39,9 @@ limit-of-requires c κs = search needs
 
 -- src/lib.rt:39:9
 returns : tie.Need-returns
-returns c = two-stopped (ofSum (length (now (c .before .before .before .before .before .before .before .before .before .args .row)))) (sum ℤ-ring) (now (c .before .before .before .before .before .before .before .before .before .args .row)) (now (c .before .before .before .before .before .before .before .before .before .args .s)) (now (c .before .before .before .before .before .before .before .before .before .args .t)) (length (now (c .before .before .before .before .before .before .before .before .before .args .result))) (c .before .before .before .before .before .before .before .before .before .pre .1) (meets (c .before .before .before .before .before .before .before .before .before .pre .0 .0) (c .before .before .before .before .before .before .before .before .before .pre .1)) (now (c .before .before .before .before .before .before .before .before .before .args .result)) (c .before .limit-of .ensures ∙ ap limitM (c .before .before .add .ensures)) (c .if1 .taken)
+returns c =
+    let start = c .before .before .before .before .before .before .before .before .before in
+    two-stopped (ofSum (length (now (start .args .row)))) (sum ℤ-ring) (now (start .args .row)) (now (start .args .s)) (now (start .args .t)) (length (now (start .args .result))) (start .pre .1) (meets (start .pre .0 .0) (start .pre .1)) (now (start .args .result)) (c .before .limit-of .ensures ∙ ap limitM (c .before .before .add .ensures)) (c .if1 .taken)
 
 -- src/lib.rt:41:40
 slice-relend-prefix-add : tie.Need-slice-relend-prefix-add
@@ -45,11 +49,15 @@ slice-relend-prefix-add c = search needs
 
 -- src/lib.rt:41:40
 slice-aggregate-add : tie.Need-slice-aggregate-add
-slice-aggregate-add c = sym (length-take-le 16384 (c .before .before .before .before .before .before .before .before .before .before .before .args .b .now) (c .before .before .before .before .before .before .before .before .before .before .before .pre .0 .1 .1))
+slice-aggregate-add c =
+    let start = c .before .before .before .before .before .before .before .before .before .before .before in
+    sym (length-take-le 16384 (start .args .b .now) (start .pre .0 .1 .1))
 
 -- src/lib.rt:41:9
 add-requires-2 : tie.Need-add-requires-2
-add-requires-2 c κs = (side-by-side (c .before .before .before .before .before .before .before .before .before .before .before .pre .0 .0) (c .before .before .before .before .before .before .before .before .before .before .before .pre .1), omega (arith, length-take-le 16384 (c .before .before .before .before .before .before .before .before .before .before .before .args .b .now) (c .before .before .before .before .before .before .before .before .before .before .before .pre .0 .1 .1), form-words (c .before .before .before .before .before .before .before .before .before .before .before .pre .0 .0) (c .before .before .before .before .before .before .before .before .before .before .before .pre .1 .of-left), form-words (c .before .before .before .before .before .before .before .before .before .before .before .pre .0 .0) (c .before .before .before .before .before .before .before .before .before .before .before .pre .1 .of-right)))
+add-requires-2 c κs =
+    let start = c .before .before .before .before .before .before .before .before .before .before .before in
+    (side-by-side (start .pre .0 .0) (start .pre .1), omega (arith, length-take-le 16384 (start .args .b .now) (start .pre .0 .1 .1), form-words (start .pre .0 .0) (start .pre .1 .of-left), form-words (start .pre .0 .0) (start .pre .1 .of-right)))
 
 -- src/lib.rt:42:29
 slice-reshare-prefix-write-result : tie.Need-slice-reshare-prefix-write-result
@@ -57,12 +65,20 @@ slice-reshare-prefix-write-result c = begins-le (c .before .before .before .befo
 
 -- src/lib.rt:42:29
 slice-aggregate-write-result : tie.Need-slice-aggregate-write-result
-slice-aggregate-write-result c = sym (length-take-le (c .before .before .before .before .before .add2 .result) (c .before .before .before .before .before .add2 .last .0) (begins-le (c .before .before .before .before .before .add2 .ensures)))
+slice-aggregate-write-result c =
+    let add2 = c .before .before .before .before .before .add2 in
+    sym (length-take-le (add2 .result) (add2 .last .0) (begins-le (add2 .ensures)))
 
 -- src/lib.rt:42:5
 write-result-requires : tie.Need-write-result-requires
-write-result-requires c κs = let z = sym (c .before .before .before .before .before .before .before .before .before .before .limit-of .ensures ∙ ap limitM (c .before .before .before .before .before .before .before .before .before .before .before .add .ensures)) ∙ c .before .before .before .before .before .before .before .before .before .if1 .left in
-    (coded (sum-codes (c .before .before .before .before .before .before .before .before .before .before .before .before .before .before .before .before .before .before .pre .0 .0) (c .before .before .before .before .before .before .before .before .before .before .before .before .before .before .before .before .before .before .pre .1) z (c .before .before .before .before .before .before .add2 .ensures)), omega (arith, length-take-le (c .before .before .before .before .before .before .add2 .result) (c .before .before .before .before .before .before .add2 .last .0) (begins-le (c .before .before .before .before .before .before .add2 .ensures)), sum-words (c .before .before .before .before .before .before .before .before .before .before .before .before .before .before .before .before .before .before .pre .0 .0) (c .before .before .before .before .before .before .before .before .before .before .before .before .before .before .before .before .before .before .pre .1) z (c .before .before .before .before .before .before .add2 .ensures)))
+write-result-requires c κs =
+    let add2 = c .before .before .before .before .before .before .add2 in
+    let if1 = c .before .before .before .before .before .before .before .before .before .if1 in
+    let limit-of = c .before .before .before .before .before .before .before .before .before .before .limit-of in
+    let add = c .before .before .before .before .before .before .before .before .before .before .before .add in
+    let start = c .before .before .before .before .before .before .before .before .before .before .before .before .before .before .before .before .before .before in
+    let z = sym (limit-of .ensures ∙ ap limitM (add .ensures)) ∙ if1 .left in
+    (coded (sum-codes (start .pre .0 .0) (start .pre .1) z (add2 .ensures)), omega (arith, length-take-le (add2 .result) (add2 .last .0) (begins-le (add2 .ensures)), sum-words (start .pre .0 .0) (start .pre .1) z (add2 .ensures)))
 
 -- src/lib.rt:20:1
 same-length : tie.Need-same-length
@@ -78,9 +94,15 @@ same-length-3 c = search needs
 
 -- src/lib.rt:20:1
 returns-2 : tie.Need-returns-2
-returns-2 c = let z = sym (c .before .before .before .before .before .before .before .before .before .before .before .before .before .limit-of .ensures ∙ ap limitM (c .before .before .before .before .before .before .before .before .before .before .before .before .before .before .add .ensures)) ∙ c .before .before .before .before .before .before .before .before .before .before .before .before .if1 .left in
-    let e = ap (fitted (length (now (c .before .before .before .before .before .before .before .before .before .before .before .before .before .before .before .before .before .before .before .before .before .args .result)))) (sum-text (c .before .before .before .before .before .before .before .before .before .before .before .before .before .before .before .before .before .before .before .before .before .pre .0 .0) (c .before .before .before .before .before .before .before .before .before .before .before .before .before .before .before .before .before .before .before .before .before .pre .1) z (c .before .before .before .before .before .before .before .before .before .add2 .ensures)) ∙ sym (two-goes (ofSum (length (now (c .before .before .before .before .before .before .before .before .before .before .before .before .before .before .before .before .before .before .before .before .before .args .row)))) (sum ℤ-ring) (now (c .before .before .before .before .before .before .before .before .before .before .before .before .before .before .before .before .before .before .before .before .before .args .row)) (now (c .before .before .before .before .before .before .before .before .before .before .before .before .before .before .before .before .before .before .before .before .before .args .s)) (now (c .before .before .before .before .before .before .before .before .before .before .before .before .before .before .before .before .before .before .before .before .before .args .t)) (length (now (c .before .before .before .before .before .before .before .before .before .before .before .before .before .before .before .before .before .before .before .before .before .args .result))) (c .before .before .before .before .before .before .before .before .before .before .before .before .before .before .before .before .before .before .before .before .before .pre .1) (meets (c .before .before .before .before .before .before .before .before .before .before .before .before .before .before .before .before .before .before .before .before .before .pre .0 .0) (c .before .before .before .before .before .before .before .before .before .before .before .before .before .before .before .before .before .before .before .before .before .pre .1)) z) in
-    (c .before .before .write-result .ensures .0 ∙ ap writtenOf e, c .before .before .write-result .ensures .1 ∙ ap (λ x. resultAfter x (now (c .before .before .before .before .before .before .before .before .before .before .before .before .before .before .before .before .before .before .before .before .before .args .result))) e)
+returns-2 c =
+    let add2 = c .before .before .before .before .before .before .before .before .before .add2 in
+    let if1 = c .before .before .before .before .before .before .before .before .before .before .before .before .if1 in
+    let limit-of = c .before .before .before .before .before .before .before .before .before .before .before .before .before .limit-of in
+    let add = c .before .before .before .before .before .before .before .before .before .before .before .before .before .before .add in
+    let start = c .before .before .before .before .before .before .before .before .before .before .before .before .before .before .before .before .before .before .before .before .before in
+    let z = sym (limit-of .ensures ∙ ap limitM (add .ensures)) ∙ if1 .left in
+    let e = ap (fitted (length (now (start .args .result)))) (sum-text (start .pre .0 .0) (start .pre .1) z (add2 .ensures)) ∙ sym (two-goes (ofSum (length (now (start .args .row)))) (sum ℤ-ring) (now (start .args .row)) (now (start .args .s)) (now (start .args .t)) (length (now (start .args .result))) (start .pre .1) (meets (start .pre .0 .0) (start .pre .1)) z) in
+    (c .before .before .write-result .ensures .0 ∙ ap writtenOf e, c .before .before .write-result .ensures .1 ∙ ap (λ x. resultAfter x (now (start .args .result))) e)
 
 pub write-sum-spec : {M : Type 1} → statement M
 write-sum-spec =

@@ -19,7 +19,9 @@ text-length-requires c κs = search needs
 
 -- src/lib.rt:38:9
 returns : tie.Need-returns
-returns c = answered-short _ (textOf (dec 0 (now (c .before .before .before .before .args .x)))) (now (c .before .before .before .before .args .result)) (omega (arith, c .if1 .taken, c .before .text-length .ensures))
+returns c =
+    let start = c .before .before .before .before in
+    answered-short _ (textOf (dec 0 (now (start .args .x)))) (now (start .args .result)) (omega (arith, c .if1 .taken, c .before .text-length .ensures))
 
 -- src/lib.rt:40:9
 write-text-requires : tie.Need-write-text-requires

@@ -17,7 +17,10 @@ abbrev tables : tie.Start → List ℕ
 tables s = length (now (s .args .a)) ∷ length (now (s .args .b)) ∷ length (now (s .args .c)) ∷ length (now (s .args .d)) ∷ []
 
 returns : tie.Need-returns
-returns c = answer-none (tables (c .before .before .before .before .before .before .before)) (now (c .before .before .before .before .before .before .before .args .line)) (now (c .before .before .before .before .before .before .before .args .out)) (c .if1 .taken)
+returns c =
+    let before = c .before .before .before .before .before .before .before in
+    let start = c .before .before .before .before .before .before .before in
+    answer-none (tables (before)) (now (start .args .line)) (now (start .args .out)) (c .if1 .taken)
 
 word-line-requires : tie.Need-word-line-requires
 word-line-requires c κs = c .before .before .before .before .before .if1 .left
@@ -38,7 +41,12 @@ same-length-5 : tie.Need-same-length-5
 same-length-5 c = c .before .before .before .before .before .before .before .before .before .before .word-line .kept .1 .1 .1 .1 .1 .0
 
 returns-2 : tie.Need-returns-2
-returns-2 c = answer-some (tables (c .before .before .before .before .before .before .before .before .before .before .before .before .before .before .before .before .before .before .before .before .before .before .before)) (now (c .before .before .before .before .before .before .before .before .before .before .before .before .before .before .before .before .before .before .before .before .before .before .before .args .line)) (c .before .before .before .before .before .before .before .before .before .before .before .before .before .before .before .before .if1 .left) (c .before .before .before .before .before .before .before .before .before .before .word-line .ensures)
+returns-2 c =
+    let word-line = c .before .before .before .before .before .before .before .before .before .before .word-line in
+    let if1 = c .before .before .before .before .before .before .before .before .before .before .before .before .before .before .before .before .if1 in
+    let before = c .before .before .before .before .before .before .before .before .before .before .before .before .before .before .before .before .before .before .before .before .before .before .before in
+    let start = c .before .before .before .before .before .before .before .before .before .before .before .before .before .before .before .before .before .before .before .before .before .before .before in
+    answer-some (tables (before)) (now (start .args .line)) (if1 .left) (word-line .ensures)
 
 pub answer-line-spec : {M : Type 1} → statement M
 answer-line-spec =

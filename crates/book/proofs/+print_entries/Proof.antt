@@ -38,7 +38,9 @@ print-entries-returns : (t : ℕ) → print-entries-lts.Need-returns (
   print-entries-below t,
   print-entries.Post,
 ) (print-entries-at t) print-entries.Post
-print-entries-returns t c = (wrote-as (wrote-none (c .before .before .before .before .before .before .before .args .out .now)) (no-lines (c .before .before .before .before .before .before .before .args .book .now) (c .before .before .before .before .before .before .before .args .n) (c .before .before .before .before .before .before .before .args .p) (c .before .before .before .before .before .before .before .args .at) (c .before .before .before .before .before .before .before .args .i) (c .if1 .taken)), omega arith)
+print-entries-returns t c =
+    let start = c .before .before .before .before .before .before .before in
+    (wrote-as (wrote-none (start .args .out .now)) (no-lines (start .args .book .now) (start .args .n) (start .args .p) (start .args .at) (start .args .i) (c .if1 .taken)), omega arith)
 
 -- src/lib.rt:78:49
 print-entries-add-number-at : (t : ℕ) → print-entries-lts.Need-add-number-at (
@@ -60,7 +62,9 @@ print-entries-number-at-requires : (t : ℕ) → print-entries-lts.Need-number-a
   print-entries-below t,
   print-entries.Post,
 ) (print-entries-at t) print-entries.Post
-print-entries-number-at-requires t c κs = omega (arith, here-of (c .before .before .before .before .before .before .before .args .book .now) (c .before .before .before .before .before .before .before .args .p) (c .before .before .before .before .before .before .before .args .at) (c .before .before .before .before .before .before .before .args .i) (c .before .before .before .before .before .before .before .args .k) (c .if1 .left) (c .before .before .before .before .before .before .before .pre .1 .0 .1) .fields)
+print-entries-number-at-requires t c κs =
+    let start = c .before .before .before .before .before .before .before in
+    omega (arith, here-of (start .args .book .now) (start .args .p) (start .args .at) (start .args .i) (start .args .k) (c .if1 .left) (start .pre .1 .0 .1) .fields)
 
 -- src/lib.rt:78:15
 print-entries-add-mid : (t : ℕ) → print-entries-lts.Need-add-mid (
@@ -93,7 +97,9 @@ print-entries-number-at-requires-2 : (t : ℕ) → print-entries-lts.Need-number
   print-entries-below t,
   print-entries.Post,
 ) (print-entries-at t) print-entries.Post
-print-entries-number-at-requires-2 t c κs = omega (arith, here-of (c .before .before .before .before .before .before .before .before .args .book .now) (c .before .before .before .before .before .before .before .before .args .p) (c .before .before .before .before .before .before .before .before .args .at) (c .before .before .before .before .before .before .before .before .args .i) (c .before .before .before .before .before .before .before .before .args .k) (c .before .if1 .left) (c .before .before .before .before .before .before .before .before .pre .1 .0 .1) .fields)
+print-entries-number-at-requires-2 t c κs =
+    let start = c .before .before .before .before .before .before .before .before in
+    omega (arith, here-of (start .args .book .now) (start .args .p) (start .args .at) (start .args .i) (start .args .k) (c .before .if1 .left) (start .pre .1 .0 .1) .fields)
 
 -- src/lib.rt:79:15
 print-entries-add-end : (t : ℕ) → print-entries-lts.Need-add-end (
@@ -104,7 +110,9 @@ print-entries-add-end : (t : ℕ) → print-entries-lts.Need-add-end (
   print-entries-below t,
   print-entries.Post,
 ) (print-entries-at t) print-entries.Post
-print-entries-add-end t c = omega (arith, c .before .before .before .before .before .before .before .before .before .pre .1 .0 .1 .start, c .before .number-at .ensures .1, c .number-at2 .ensures .1)
+print-entries-add-end t c =
+    let start = c .before .before .before .before .before .before .before .before .before in
+    omega (arith, start .pre .1 .0 .1 .start, c .before .number-at .ensures .1, c .number-at2 .ensures .1)
 
 -- src/lib.rt:80:9
 print-entries-print-entry-requires : (t : ℕ) → print-entries-lts.Need-print-entry-requires (
@@ -115,7 +123,10 @@ print-entries-print-entry-requires : (t : ℕ) → print-entries-lts.Need-print-
   print-entries-below t,
   print-entries.Post,
 ) (print-entries-at t) print-entries.Post
-print-entries-print-entry-requires t c κs = ((c .before .before .before .before .before .before .before .before .before .before .before .before .before .before .pre .1 .0 .0, here-of (c .before .before .before .before .before .before .before .before .before .before .before .before .before .before .args .book .now) (c .before .before .before .before .before .before .before .before .before .before .before .before .before .before .args .p) (c .before .before .before .before .before .before .before .before .before .before .before .before .before .before .args .at) (c .before .before .before .before .before .before .before .before .before .before .before .before .before .before .args .i) (c .before .before .before .before .before .before .before .before .before .before .before .before .before .before .args .k) (c .before .before .before .before .before .before .before .if1 .left) (c .before .before .before .before .before .before .before .before .before .before .before .before .before .before .pre .1 .0 .1)), (c .before .before .before .before .before .before .before .before .before .before .before .before .before .before .pre .1 .1 .0, omega (arith, c .before .before .before .before .before .before .before .if1 .left, c .before .before .before .before .before .before .before .before .before .before .before .before .before .before .pre .1 .1 .1)))
+print-entries-print-entry-requires t c κs =
+    let if1 = c .before .before .before .before .before .before .before .if1 in
+    let start = c .before .before .before .before .before .before .before .before .before .before .before .before .before .before in
+    ((start .pre .1 .0 .0, here-of (start .args .book .now) (start .args .p) (start .args .at) (start .args .i) (start .args .k) (if1 .left) (start .pre .1 .0 .1)), (start .pre .1 .1 .0, omega (arith, if1 .left, start .pre .1 .1 .1)))
 
 -- src/lib.rt:84:9
 print-entries-add-print-entries : (t : ℕ) → print-entries-lts.Need-add-print-entries (
@@ -126,7 +137,9 @@ print-entries-add-print-entries : (t : ℕ) → print-entries-lts.Need-add-print
   print-entries-below t,
   print-entries.Post,
 ) (print-entries-at t) print-entries.Post
-print-entries-add-print-entries t c = omega (arith, c .before .before .before .before .before .before .before .before .before .before .before .before .before .before .before .before .before .before .before .before .before .before .before .before .before .pre .1 .0 .1 .fields)
+print-entries-add-print-entries t c =
+    let start = c .before .before .before .before .before .before .before .before .before .before .before .before .before .before .before .before .before .before .before .before .before .before .before .before .before in
+    omega (arith, start .pre .1 .0 .1 .fields)
 
 -- src/lib.rt:86:9
 print-entries-add-print-entries-2 : (t : ℕ) → print-entries-lts.Need-add-print-entries-2 (
@@ -137,7 +150,9 @@ print-entries-add-print-entries-2 : (t : ℕ) → print-entries-lts.Need-add-pri
   print-entries-below t,
   print-entries.Post,
 ) (print-entries-at t) print-entries.Post
-print-entries-add-print-entries-2 t c = omega (arith, c .before .before .before .before .before .before .before .before .before .before .before .before .before .before .before .before .before .before .before .before .before .before .before .before .before .pre .1 .0 .1 .number)
+print-entries-add-print-entries-2 t c =
+    let start = c .before .before .before .before .before .before .before .before .before .before .before .before .before .before .before .before .before .before .before .before .before .before .before .before .before in
+    omega (arith, start .pre .1 .0 .1 .number)
 
 -- src/lib.rt:87:9
 print-entries-sub-print-entries : (t : ℕ) → print-entries-lts.Need-sub-print-entries (
@@ -148,7 +163,9 @@ print-entries-sub-print-entries : (t : ℕ) → print-entries-lts.Need-sub-print
   print-entries-below t,
   print-entries.Post,
 ) (print-entries-at t) print-entries.Post
-print-entries-sub-print-entries t c = omega (arith, c .before .before .before .before .before .before .before .before .before .before .before .before .before .before .before .before .before .before .if1 .left)
+print-entries-sub-print-entries t c =
+    let if1 = c .before .before .before .before .before .before .before .before .before .before .before .before .before .before .before .before .before .before .if1 in
+    omega (arith, if1 .left)
 
 -- src/lib.rt:88:9
 print-entries-sub-print-entries-2 : (t : ℕ) → print-entries-lts.Need-sub-print-entries-2 (
@@ -159,7 +176,9 @@ print-entries-sub-print-entries-2 : (t : ℕ) → print-entries-lts.Need-sub-pri
   print-entries-below t,
   print-entries.Post,
 ) (print-entries-at t) print-entries.Post
-print-entries-sub-print-entries-2 t c = omega (arith, wrote-length (c .before .before .before .before .before .before .before .before .before .before .print-entry .ensures .0), c .before .before .before .before .before .before .before .before .before .before .print-entry .ensures .0 .fits)
+print-entries-sub-print-entries-2 t c =
+    let print-entry = c .before .before .before .before .before .before .before .before .before .before .print-entry in
+    omega (arith, wrote-length (print-entry .ensures .0), print-entry .ensures .0 .fits)
 
 -- src/lib.rt:88:9
 print-entries-part-print-entries-start : (t : ℕ) → print-entries-lts.Need-part-print-entries-start (
@@ -192,13 +211,18 @@ print-entries-print-entries-requires : (t : ℕ) → print-entries-lts.Need-prin
   print-entries-below t,
   print-entries.Post,
 ) (print-entries-at t) print-entries.Post
-print-entries-print-entries-requires t c κs = (
-  omega (arith, c .before .before .before .before .before .before .before .before .before .before .before .before .before .before .before .before .before .before .before .before .before .before .before .before .before .before .before .before .before .before .pre .0, c .before .before .before .before .before .before .before .before .before .before .before .before .before .before .before .before .before .before .before .before .before .before .before .if1 .left),
-  (
-    (c .before .before .before .before .before .before .before .before .before .before .before .before .before .before .before .before .before .before .before .before .before .before .before .before .before .before .before .before .before .before .pre .1 .0 .0, step (c .before .before .before .before .before .before .before .before .before .before .before .before .before .before .before .before .before .before .before .before .before .before .before .before .before .before .before .before .before .before .args .book .now) (c .before .before .before .before .before .before .before .before .before .before .before .before .before .before .before .before .before .before .before .before .before .before .before .before .before .before .before .before .before .before .args .n) (c .before .before .before .before .before .before .before .before .before .before .before .before .before .before .before .before .before .before .before .before .before .before .before .before .before .before .before .before .before .before .args .p) (c .before .before .before .before .before .before .before .before .before .before .before .before .before .before .before .before .before .before .before .before .before .before .before .before .before .before .before .before .before .before .args .at) (c .before .before .before .before .before .before .before .before .before .before .before .before .before .before .before .before .before .before .before .before .before .before .before .before .before .before .before .before .before .before .args .i) (c .before .before .before .before .before .before .before .before .before .before .before .before .before .before .before .before .before .before .before .before .before .before .before .before .before .before .before .before .before .before .args .k) (c .before .before .before .before .before .before .before .before .before .before .before .before .before .before .before .before .before .before .before .before .before .before .before .before .before .before .before .before .before .before .pre .1 .0 .0 .short) (c .before .before .before .before .before .before .before .before .before .before .before .before .before .before .before .before .before .before .before .before .before .before .before .if1 .left) (c .before .before .before .before .before .before .before .before .before .before .before .before .before .before .before .before .before .before .before .before .before .before .before .before .before .before .before .before .before .before .pre .1 .0 .1) (c .before .before .before .before .before .before .before .before .before .before .before .before .before .before .before .before .before .before .before .before .before .before .number-at .ensures .0) (c .before .before .before .before .before .before .before .before .before .before .before .before .before .before .before .before .before .before .before .before .before .number-at2 .ensures .0) .left),
-    (omega (arith, c .before .before .before .before .before .before .before .before .before .before .before .before .before .before .before .print-entry .kept, c .before .before .before .before .before .before .before .before .before .before .before .before .before .before .before .before .before .before .before .before .before .before .before .before .before .before .before .before .before .before .pre .1 .1 .0), omega (arith, wrote-room (c .before .before .before .before .before .before .before .before .before .before .before .before .before .before .before .print-entry .ensures .0), c .before .before .before .before .before .before .before .before .before .before .before .before .before .before .before .print-entry .ensures .1, c .before .before .before .before .before .before .before .before .before .before .before .before .before .before .before .before .before .before .before .before .before .before .before .before .before .before .before .before .before .before .pre .1 .1 .1, c .before .before .before .before .before .before .before .before .before .before .before .before .before .before .before .before .before .before .before .before .before .before .before .if1 .left)),
-  ),
-)
+print-entries-print-entries-requires t c κs =
+    let print-entry = c .before .before .before .before .before .before .before .before .before .before .before .before .before .before .before .print-entry in
+    let number-at2 = c .before .before .before .before .before .before .before .before .before .before .before .before .before .before .before .before .before .before .before .before .before .number-at2 in
+    let number-at = c .before .before .before .before .before .before .before .before .before .before .before .before .before .before .before .before .before .before .before .before .before .before .number-at in
+    let if1 = c .before .before .before .before .before .before .before .before .before .before .before .before .before .before .before .before .before .before .before .before .before .before .before .if1 in
+    let start = c .before .before .before .before .before .before .before .before .before .before .before .before .before .before .before .before .before .before .before .before .before .before .before .before .before .before .before .before .before .before in (
+      omega (arith, start .pre .0, if1 .left),
+      (
+        (start .pre .1 .0 .0, step (start .args .book .now) (start .args .n) (start .args .p) (start .args .at) (start .args .i) (start .args .k) (start .pre .1 .0 .0 .short) (if1 .left) (start .pre .1 .0 .1) (number-at .ensures .0) (number-at2 .ensures .0) .left),
+        (omega (arith, print-entry .kept, start .pre .1 .1 .0), omega (arith, wrote-room (print-entry .ensures .0), print-entry .ensures .1, start .pre .1 .1 .1, if1 .left)),
+      ),
+    )
 
 -- src/lib.rt:94:5
 print-entries-add-result : (t : ℕ) → print-entries-lts.Need-add-result (
@@ -209,7 +233,11 @@ print-entries-add-result : (t : ℕ) → print-entries-lts.Need-add-result (
   print-entries-below t,
   print-entries.Post,
 ) (print-entries-at t) print-entries.Post
-print-entries-add-result t c = omega (arith, c .before .before .before .before .before .before .before .before .before .before .before .before .before .before .before .before .before .before .before .before .before .before .before .before .before .before .print-entry .ensures .1, c .before .before .before .before .before .before .before .before .before .before .print-entries .ensures .1, c .before .before .before .before .before .before .before .before .before .before .before .before .before .before .before .before .before .before .before .before .before .before .before .before .before .before .before .before .before .before .before .before .before .before .before .before .before .before .before .before .before .pre .1 .0 .1 .number)
+print-entries-add-result t c =
+    let at-print-entries = c .before .before .before .before .before .before .before .before .before .before .print-entries in
+    let print-entry = c .before .before .before .before .before .before .before .before .before .before .before .before .before .before .before .before .before .before .before .before .before .before .before .before .before .before .print-entry in
+    let start = c .before .before .before .before .before .before .before .before .before .before .before .before .before .before .before .before .before .before .before .before .before .before .before .before .before .before .before .before .before .before .before .before .before .before .before .before .before .before .before .before .before in
+    omega (arith, print-entry .ensures .1, at-print-entries .ensures .1, start .pre .1 .0 .1 .number)
 
 -- src/lib.rt:57:1
 print-entries-same-length : (t : ℕ) → print-entries-lts.Need-same-length (
@@ -275,7 +303,14 @@ print-entries-returns-2 : (t : ℕ) → print-entries-lts.Need-returns-2 (
   print-entries-below t,
   print-entries.Post,
 ) (print-entries-at t) print-entries.Post
-print-entries-returns-2 t c = (wrote-as (wrote-on (c .before .before .before .before .before .before .before .before .before .before .before .before .before .before .before .before .before .before .before .before .before .before .before .before .before .before .print-entry .ensures .0) (c .before .before .before .before .before .before .before .before .before .before .print-entries .ensures .0)) (step (c .before .before .before .before .before .before .before .before .before .before .before .before .before .before .before .before .before .before .before .before .before .before .before .before .before .before .before .before .before .before .before .before .before .before .before .before .before .before .before .before .before .args .book .now) (c .before .before .before .before .before .before .before .before .before .before .before .before .before .before .before .before .before .before .before .before .before .before .before .before .before .before .before .before .before .before .before .before .before .before .before .before .before .before .before .before .before .args .n) (c .before .before .before .before .before .before .before .before .before .before .before .before .before .before .before .before .before .before .before .before .before .before .before .before .before .before .before .before .before .before .before .before .before .before .before .before .before .before .before .before .before .args .p) (c .before .before .before .before .before .before .before .before .before .before .before .before .before .before .before .before .before .before .before .before .before .before .before .before .before .before .before .before .before .before .before .before .before .before .before .before .before .before .before .before .before .args .at) (c .before .before .before .before .before .before .before .before .before .before .before .before .before .before .before .before .before .before .before .before .before .before .before .before .before .before .before .before .before .before .before .before .before .before .before .before .before .before .before .before .before .args .i) (c .before .before .before .before .before .before .before .before .before .before .before .before .before .before .before .before .before .before .before .before .before .before .before .before .before .before .before .before .before .before .before .before .before .before .before .before .before .before .before .before .before .args .k) (c .before .before .before .before .before .before .before .before .before .before .before .before .before .before .before .before .before .before .before .before .before .before .before .before .before .before .before .before .before .before .before .before .before .before .before .before .before .before .before .before .before .pre .1 .0 .0 .short) (c .before .before .before .before .before .before .before .before .before .before .before .before .before .before .before .before .before .before .before .before .before .before .before .before .before .before .before .before .before .before .before .before .before .before .if1 .left) (c .before .before .before .before .before .before .before .before .before .before .before .before .before .before .before .before .before .before .before .before .before .before .before .before .before .before .before .before .before .before .before .before .before .before .before .before .before .before .before .before .before .pre .1 .0 .1) (c .before .before .before .before .before .before .before .before .before .before .before .before .before .before .before .before .before .before .before .before .before .before .before .before .before .before .before .before .before .before .before .before .before .number-at .ensures .0) (c .before .before .before .before .before .before .before .before .before .before .before .before .before .before .before .before .before .before .before .before .before .before .before .before .before .before .before .before .before .before .before .before .number-at2 .ensures .0) .lines), omega (arith, c .before .before .before .before .before .before .before .before .before .before .before .before .before .before .before .before .before .before .before .before .before .before .before .before .before .before .print-entry .ensures .1, c .before .before .before .before .before .before .before .before .before .before .print-entries .ensures .1, c .before .before .before .before .before .before .before .before .before .before .before .before .before .before .before .before .before .before .before .before .before .before .before .before .before .before .before .before .before .before .before .before .before .before .if1 .left))
+print-entries-returns-2 t c =
+    let at-print-entries = c .before .before .before .before .before .before .before .before .before .before .print-entries in
+    let print-entry = c .before .before .before .before .before .before .before .before .before .before .before .before .before .before .before .before .before .before .before .before .before .before .before .before .before .before .print-entry in
+    let number-at2 = c .before .before .before .before .before .before .before .before .before .before .before .before .before .before .before .before .before .before .before .before .before .before .before .before .before .before .before .before .before .before .before .before .number-at2 in
+    let number-at = c .before .before .before .before .before .before .before .before .before .before .before .before .before .before .before .before .before .before .before .before .before .before .before .before .before .before .before .before .before .before .before .before .before .number-at in
+    let if1 = c .before .before .before .before .before .before .before .before .before .before .before .before .before .before .before .before .before .before .before .before .before .before .before .before .before .before .before .before .before .before .before .before .before .before .if1 in
+    let start = c .before .before .before .before .before .before .before .before .before .before .before .before .before .before .before .before .before .before .before .before .before .before .before .before .before .before .before .before .before .before .before .before .before .before .before .before .before .before .before .before .before in
+    (wrote-as (wrote-on (print-entry .ensures .0) (at-print-entries .ensures .0)) (step (start .args .book .now) (start .args .n) (start .args .p) (start .args .at) (start .args .i) (start .args .k) (start .pre .1 .0 .0 .short) (if1 .left) (start .pre .1 .0 .1) (number-at .ensures .0) (number-at2 .ensures .0) .lines), omega (arith, print-entry .ensures .1, at-print-entries .ensures .1, if1 .left))
 
 pub +print-entries-spec : {M : Type 1} → statement M
 +print-entries-spec = close μ-print-entries λ t. print-entries-lts.spec (

@@ -24,7 +24,9 @@ returns-4 c = let s = c .before .before .before .before .args in sym (fourth-sho
 
 -- src/lib.rt:141:1
 returns-5 : tie.Need-returns-5
-returns-5 c = let s = c .before .before .before .before .args in sym (enough-four (s .a) (s .b) (s .c) (s .d) (c .before .before .before .if1 .left) (c .before .before .if2 .left) (c .before .if3 .left) (c .if4 .left))
+returns-5 c =
+    let start = c .before .before .before .before in
+    let s = start .args in sym (enough-four (s .a) (s .b) (s .c) (s .d) (c .before .before .before .if1 .left) (c .before .before .if2 .left) (c .before .if3 .left) (c .if4 .left))
 
 pub enough-lent-spec : {M : Type 1} → statement M
 enough-lent-spec = tie.close (tie.spec returns returns-2 returns-3 returns-4 returns-5)

@@ -30,7 +30,11 @@ enum-told c = search needs
 
 -- src/lib.rt:137:23
 print-fine-requires : tie.Need-print-fine-requires
-print-fine-requires c κs = (sym (c .before .before .before .before .before .before .before .read-book .ensures) ∙ c .before .before .before .before .before .enum-told .given .1, (c .before .before .before .before .before .before .before .before .before .before .before .before .before .before .pre .0, c .before .before .before .before .before .before .before .before .before .before .before .before .before .before .pre .1))
+print-fine-requires c κs =
+    let at-enum-told = c .before .before .before .before .before .enum-told in
+    let read-book = c .before .before .before .before .before .before .before .read-book in
+    let start = c .before .before .before .before .before .before .before .before .before .before .before .before .before .before in
+    (sym (read-book .ensures) ∙ at-enum-told .given .1, (start .pre .0, start .pre .1))
 
 -- src/lib.rt:122:1
 same-length : tie.Need-same-length
@@ -38,7 +42,11 @@ same-length c = search needs
 
 -- src/lib.rt:122:1
 returns : tie.Need-returns
-returns c = wrote-as (c .before .before .put-refusal .ensures) (refused-text (c .before .before .before .before .before .before .before .before .before .before .before .before .before .before .args .book .now) (c .before .before .before .before .before .before .before .read-book .ensures) (c .before .before .before .before .before .head .given .1))
+returns c =
+    let head = c .before .before .before .before .before .head in
+    let read-book = c .before .before .before .before .before .before .before .read-book in
+    let start = c .before .before .before .before .before .before .before .before .before .before .before .before .before .before in
+    wrote-as (c .before .before .put-refusal .ensures) (refused-text (start .args .book .now) (read-book .ensures) (head .given .1))
 
 -- src/lib.rt:122:1
 same-length-2 : tie.Need-same-length-2

@@ -21,7 +21,9 @@ enough-lent-requires c κs = search needs
 
 -- src/lib.rt:174:9
 returns : tie.Need-returns
-returns c = let s = c .before .before .before .before .before .before .before .before .args in
+returns c =
+    let start = c .before .before .before .before .before .before .before .before in
+    let s = start .args in
     let ts = length (s .a .now) ∷ length (s .b .now) ∷ length (s .c .now) ∷ length (s .d .now) ∷ [] in
     whole-2 _ (s .out .now) (s .a .now) (s .b .now) (s .c .now) (s .d .now) (reply-2 ts (s .book .now) (length (s .out .now)) (sym (c .before .enough-lent .ensures) ∙ not-true _ (c .if1 .taken)))
 
@@ -31,8 +33,12 @@ slice-aggregate-print-any c = search needs
 
 -- src/lib.rt:177:9
 print-any-requires : tie.Need-print-any-requires
-print-any-requires c κs = let s = c .before .before .before .before .before .before .before .before .before .before .before .before .before .args in
-    (lent-four (length (s .a .now)) (length (s .b .now)) (length (s .c .now)) (length (s .d .now)) (sym (c .before .before .before .before .before .before .enough-lent .ensures) ∙ not-false _ (c .before .before .before .before .before .if1 .left)), omega arith)
+print-any-requires c κs =
+    let if1 = c .before .before .before .before .before .if1 in
+    let enough-lent = c .before .before .before .before .before .before .enough-lent in
+    let start = c .before .before .before .before .before .before .before .before .before .before .before .before .before in
+    let s = start .args in
+    (lent-four (length (s .a .now)) (length (s .b .now)) (length (s .c .now)) (length (s .d .now)) (sym (enough-lent .ensures) ∙ not-false _ (if1 .left)), omega arith)
 
 -- src/lib.rt:178:5
 clear-tables-requires : tie.Need-clear-tables-requires
@@ -56,12 +62,18 @@ same-length-4 c = search needs
 
 -- src/lib.rt:180:9
 returns-2 : tie.Need-returns-2
-returns-2 c = let s = c .before .before .before .before .before .before .before .before .before .before .before .before .before .before .before .before .before .before .before .before .before .before .before .before .before .before .before .before .before .before .before .before .before .before .before .before .before .args in
-    let f = c .before .before .before .before .before .before .before .before .before .before .before .before .before .before .before .before .before .before .before .before .before .before .before .print-any in
+returns-2 c =
+    let clear-tables = c .before .before .before .before .before .before .before .before .before .clear-tables in
+    let print-any = c .before .before .before .before .before .before .before .before .before .before .before .before .before .before .before .before .before .before .before .before .before .before .before .print-any in
+    let if1 = c .before .before .before .before .before .before .before .before .before .before .before .before .before .before .before .before .before .before .before .before .before .before .before .before .before .before .before .before .before .if1 in
+    let enough-lent = c .before .before .before .before .before .before .before .before .before .before .before .before .before .before .before .before .before .before .before .before .before .before .before .before .before .before .before .before .before .before .enough-lent in
+    let start = c .before .before .before .before .before .before .before .before .before .before .before .before .before .before .before .before .before .before .before .before .before .before .before .before .before .before .before .before .before .before .before .before .before .before .before .before .before in
+    let s = start .args in
+    let f = print-any in
     let ts = length (s .a .now) ∷ length (s .b .now) ∷ length (s .c .now) ∷ length (s .d .now) ∷ [] in
     whole-11 _ (s .out .now) (s .a .now) (s .b .now) (s .c .now) (s .d .now)
-    (reply-11 ts (s .book .now) (length (s .out .now)) (sym (c .before .before .before .before .before .before .before .before .before .before .before .before .before .before .before .before .before .before .before .before .before .before .before .before .before .before .before .before .before .before .enough-lent .ensures) ∙ not-false _ (c .before .before .before .before .before .before .before .before .before .before .before .before .before .before .before .before .before .before .before .before .before .before .before .before .before .before .before .before .before .if1 .left)) (omega (arith, f .ensures .size, c .if2 .taken)))
-    (zeros-of (f .kept .1 .1 .0) (f .kept .1 .1 .1 .0) (f .kept .1 .1 .1 .1 .0) (f .kept .1 .1 .1 .1 .1 .0) (c .before .before .before .before .before .before .before .before .before .clear-tables .ensures))
+    (reply-11 ts (s .book .now) (length (s .out .now)) (sym (enough-lent .ensures) ∙ not-false _ (if1 .left)) (omega (arith, f .ensures .size, c .if2 .taken)))
+    (zeros-of (f .kept .1 .1 .0) (f .kept .1 .1 .1 .0) (f .kept .1 .1 .1 .1 .0) (f .kept .1 .1 .1 .1 .1 .0) (clear-tables .ensures))
 
 -- src/lib.rt:182:20
 array-share-prefix-text : tie.Need-array-share-prefix-text
@@ -69,11 +81,15 @@ array-share-prefix-text c = search needs
 
 -- src/lib.rt:182:20
 slice-aggregate-put : tie.Need-slice-aggregate-put
-slice-aggregate-put c = c .before .before .before .before .before .before .before .before .before .before .before .before .before .before .before .before .before .before .before .before .before .before .before .before .print-any .ensures .size ∙ sym (ap length (front (c .before .before .before .before .before .before .before .before .before .before .before .before .before .before .before .before .before .before .before .before .before .before .before .before .print-any .ensures)))
+slice-aggregate-put c =
+    let print-any = c .before .before .before .before .before .before .before .before .before .before .before .before .before .before .before .before .before .before .before .before .before .before .before .before .print-any in
+    print-any .ensures .size ∙ sym (ap length (front (print-any .ensures)))
 
 -- src/lib.rt:182:5
 put-requires : tie.Need-put-requires
-put-requires c κs = omega (arith, ap length (front (c .before .before .before .before .before .before .before .before .before .before .before .before .before .before .before .before .before .before .before .before .before .before .before .before .before .print-any .ensures)), c .before .before .before .before .before .before .before .before .before .before .before .before .before .before .before .before .before .before .before .before .before .before .before .before .before .print-any .ensures .size, c .before .before .if2 .left)
+put-requires c κs =
+    let print-any = c .before .before .before .before .before .before .before .before .before .before .before .before .before .before .before .before .before .before .before .before .before .before .before .before .before .print-any in
+    omega (arith, ap length (front (print-any .ensures)), print-any .ensures .size, c .before .before .if2 .left)
 
 -- src/lib.rt:161:1
 same-length-5 : tie.Need-same-length-5
@@ -97,13 +113,20 @@ same-length-9 c = search needs
 
 -- src/lib.rt:161:1
 returns-3 : tie.Need-returns-3
-returns-3 c = let s = c .before .before .before .before .before .before .before .before .before .before .before .before .before .before .before .before .before .before .before .before .before .before .before .before .before .before .before .before .before .before .before .before .before .before .before .before .before .before .before .before .before .before .args in
-    let f = c .before .before .before .before .before .before .before .before .before .before .before .before .before .before .before .before .before .before .before .before .before .before .before .before .before .before .before .before .print-any in
+returns-3 c =
+    let if2 = c .before .before .before .before .before .if2 in
+    let clear-tables = c .before .before .before .before .before .before .before .before .before .before .before .before .before .before .clear-tables in
+    let print-any = c .before .before .before .before .before .before .before .before .before .before .before .before .before .before .before .before .before .before .before .before .before .before .before .before .before .before .before .before .print-any in
+    let if1 = c .before .before .before .before .before .before .before .before .before .before .before .before .before .before .before .before .before .before .before .before .before .before .before .before .before .before .before .before .before .before .before .before .before .before .if1 in
+    let enough-lent = c .before .before .before .before .before .before .before .before .before .before .before .before .before .before .before .before .before .before .before .before .before .before .before .before .before .before .before .before .before .before .before .before .before .before .before .enough-lent in
+    let start = c .before .before .before .before .before .before .before .before .before .before .before .before .before .before .before .before .before .before .before .before .before .before .before .before .before .before .before .before .before .before .before .before .before .before .before .before .before .before .before .before .before .before in
+    let s = start .args in
+    let f = print-any in
     let ts = length (s .a .now) ∷ length (s .b .now) ∷ length (s .c .now) ∷ length (s .d .now) ∷ [] in
     whole-text _ (s .out .now) (s .a .now) (s .b .now) (s .c .now) (s .d .now)
-    (reply-text ts (s .book .now) (length (s .out .now)) (sym (c .before .before .before .before .before .before .before .before .before .before .before .before .before .before .before .before .before .before .before .before .before .before .before .before .before .before .before .before .before .before .before .before .before .before .before .enough-lent .ensures) ∙ not-false _ (c .before .before .before .before .before .before .before .before .before .before .before .before .before .before .before .before .before .before .before .before .before .before .before .before .before .before .before .before .before .before .before .before .before .before .if1 .left)) (omega (arith, f .ensures .size, c .before .before .before .before .before .if2 .left)))
+    (reply-text ts (s .book .now) (length (s .out .now)) (sym (enough-lent .ensures) ∙ not-false _ (if1 .left)) (omega (arith, f .ensures .size, if2 .left)))
     (f .ensures .size) (front (f .ensures)) (c .before .before .put .ensures)
-    (zeros-of (f .kept .1 .1 .0) (f .kept .1 .1 .1 .0) (f .kept .1 .1 .1 .1 .0) (f .kept .1 .1 .1 .1 .1 .0) (c .before .before .before .before .before .before .before .before .before .before .before .before .before .before .clear-tables .ensures))
+    (zeros-of (f .kept .1 .1 .0) (f .kept .1 .1 .1 .0) (f .kept .1 .1 .1 .1 .0) (f .kept .1 .1 .1 .1 .1 .0) (clear-tables .ensures))
 
 pub print-book-spec : {M : Type 1} → statement M
 print-book-spec =

@@ -92,11 +92,17 @@ array-share-prefix-point c = search needs
 
 -- src/lib.rt:53:37
 slice-aggregate-put-entry : tie.Need-slice-aggregate-put-entry
-slice-aggregate-put-entry c = sym (length-take-le (c .before .before .before .before .before .before .before .before .before .before .before .before .before .before .before .before .before .before .before .before .before .before .before .before .before .before .before .args .n) (c .before .before .before .before .before .before .before .before .before .before .compare .last .1 .1 .1 .0) (omega (arith, c .before .before .before .before .before .before .before .before .before .before .compare .kept, c .before .before .before .before .before .before .before .before .before .before .before .before .before .before .before .before .before .before .before .before .before .before .before .before .before .before .before .pre .0 .0 .most)))
+slice-aggregate-put-entry c =
+    let compare = c .before .before .before .before .before .before .before .before .before .before .compare in
+    let start = c .before .before .before .before .before .before .before .before .before .before .before .before .before .before .before .before .before .before .before .before .before .before .before .before .before .before .before in
+    sym (length-take-le (start .args .n) (compare .last .1 .1 .1 .0) (omega (arith, compare .kept, start .pre .0 .0 .most)))
 
 -- src/lib.rt:53:5
 put-entry-requires : tie.Need-put-entry-requires
-put-entry-requires c κs = (omega (arith, length-take-le (c .before .before .before .before .before .before .before .before .before .before .before .before .before .before .before .before .before .before .before .before .before .before .before .before .before .before .before .before .args .n) (c .before .before .before .before .before .before .before .before .before .before .before .compare .last .1 .1 .1 .0) (omega (arith, c .before .before .before .before .before .before .before .before .before .before .before .compare .kept, c .before .before .before .before .before .before .before .before .before .before .before .before .before .before .before .before .before .before .before .before .before .before .before .before .before .before .before .before .pre .0 .0 .most)), c .before .before .before .before .before .before .before .before .before .before .before .before .before .before .before .before .before .before .before .before .before .before .before .before .before .before .before .before .pre .0 .0 .most), c .before .before .before .before .before .before .before .before .before .before .before .before .before .before .before .before .before .before .before .before .before .before .before .before .before .before .before .before .pre .1 .1)
+put-entry-requires c κs =
+    let compare = c .before .before .before .before .before .before .before .before .before .before .before .compare in
+    let start = c .before .before .before .before .before .before .before .before .before .before .before .before .before .before .before .before .before .before .before .before .before .before .before .before .before .before .before .before in
+    (omega (arith, length-take-le (start .args .n) (compare .last .1 .1 .1 .0) (omega (arith, compare .kept, start .pre .0 .0 .most)), start .pre .0 .0 .most), start .pre .1 .1)
 
 -- src/lib.rt:21:1
 same-length : tie.Need-same-length
@@ -120,12 +126,17 @@ same-length-5 c = search needs
 
 -- src/lib.rt:21:1
 returns : tie.Need-returns
-returns c = let s = c .before .before .before .before .before .before .before .before .before .before .before .before .before .before .before .before .before .before .before .before .before .before .before .before .before .before .before .before .before .before .before .args in (
-  wrote-as (c .before .before .put-entry .ensures .0)
-      (entry-line (s .book .now) (s .n) (s .p) (s .at) (c .before .before .before .before .before .before .before .before .before .before .before .before .before .before .before .before .before .before .before .before .before .before .before .before .before .before .before .before .before .before .before .pre .0 .0) (length (s .a .now)) (length (s .b .now)) (length (s .c .now)) (length (s .d .now)) 4
-      (c .before .before .before .before .before .before .before .before .before .before .before .before .before .before .before .before .before .before .before .before .before .before .before .before .number-at .result) (c .before .before .before .before .before .before .before .before .before .before .before .before .before .before .before .before .before .before .before .before .before .before .before .number-at2 .result) (s .i) _ (c .before .before .before .before .before .before .before .before .before .before .before .before .before .before .before .before .before .before .before .before .before .before .before .before .before .before .before .before .before .before .before .pre .1 .0) (omega arith) (c .before .before .before .before .before .before .before .before .before .before .before .before .before .before .before .before .before .before .before .before .before .before .before .before .number-at .ensures .0) (c .before .before .before .before .before .before .before .before .before .before .before .before .before .before .before .before .before .before .before .before .before .before .before .number-at2 .ensures .0) (c .before .before .before .before .before .before .before .before .before .before .before .before .before .before .compare .ensures .0) (c .before .before .before .before .before .before .before .before .before .before .before .before .before .before .compare .ensures .1 .0)),
-  c .before .before .put-entry .ensures .1,
-)
+returns c =
+    let compare = c .before .before .before .before .before .before .before .before .before .before .before .before .before .before .compare in
+    let number-at2 = c .before .before .before .before .before .before .before .before .before .before .before .before .before .before .before .before .before .before .before .before .before .before .before .number-at2 in
+    let number-at = c .before .before .before .before .before .before .before .before .before .before .before .before .before .before .before .before .before .before .before .before .before .before .before .before .number-at in
+    let start = c .before .before .before .before .before .before .before .before .before .before .before .before .before .before .before .before .before .before .before .before .before .before .before .before .before .before .before .before .before .before .before in
+    let s = start .args in (
+      wrote-as (c .before .before .put-entry .ensures .0)
+          (entry-line (s .book .now) (s .n) (s .p) (s .at) (start .pre .0 .0) (length (s .a .now)) (length (s .b .now)) (length (s .c .now)) (length (s .d .now)) 4
+          (number-at .result) (number-at2 .result) (s .i) _ (start .pre .1 .0) (omega arith) (number-at .ensures .0) (number-at2 .ensures .0) (compare .ensures .0) (compare .ensures .1 .0)),
+      c .before .before .put-entry .ensures .1,
+    )
 
 pub print-entry-spec : {M : Type 1} → statement M
 print-entry-spec =

@@ -14,7 +14,9 @@ use Rattle.booklines.proofs.put_head.Reads as put-head-reads
 
 -- src/lib.rt:112:13
 shared-slice-read-n : tie.Need-shared-slice-read-n
-shared-slice-read-n c = omega (arith, sound (c .before .before .before .before .before .before .before .args .book .now) (c .before .before .before .before .before .before .before .pre .0) .count)
+shared-slice-read-n c =
+    let start = c .before .before .before .before .before .before .before in
+    omega (arith, sound (start .args .book .now) (start .pre .0) .count)
 
 -- src/lib.rt:112:13
 cast-n : tie.Need-cast-n
@@ -22,11 +24,15 @@ cast-n c = omega (arith, c .shared-slice-known2 .given 0)
 
 -- src/lib.rt:113:13
 add-q : tie.Need-add-q
-add-q c = omega (arith, sound (c .before .before .before .before .before .before .before .args .book .now) (c .before .before .before .before .before .before .before .pre .0) .row .most)
+add-q c =
+    let start = c .before .before .before .before .before .before .before in
+    omega (arith, sound (start .args .book .now) (start .pre .0) .row .most)
 
 -- src/lib.rt:114:13
 shared-slice-read-k : tie.Need-shared-slice-read-k
-shared-slice-read-k c = omega (arith, sound (c .before .before .before .before .before .before .before .before .args .book .now) (c .before .before .before .before .before .before .before .before .pre .0) .count)
+shared-slice-read-k c =
+    let start = c .before .before .before .before .before .before .before .before in
+    omega (arith, sound (start .args .book .now) (start .pre .0) .count)
 
 -- src/lib.rt:114:13
 cast-k : tie.Need-cast-k
@@ -34,7 +40,9 @@ cast-k c = omega (arith, c .shared-slice-known3 .given (1 + getD (c .before .bef
 
 -- src/lib.rt:115:13
 add-p : tie.Need-add-p
-add-p c = omega (arith, sound (c .before .before .before .before .before .before .before .before .args .book .now) (c .before .before .before .before .before .before .before .before .pre .0) .row .most)
+add-p c =
+    let start = c .before .before .before .before .before .before .before .before in
+    omega (arith, sound (start .args .book .now) (start .pre .0) .row .most)
 
 -- src/lib.rt:116:9
 put-head-requires : tie.Need-put-head-requires
@@ -42,11 +50,15 @@ put-head-requires c κs = search needs
 
 -- src/lib.rt:117:43
 mul-print-entries : tie.Need-mul-print-entries
-mul-print-entries c = omega (arith, sound (c .before .before .before .before .before .before .before .before .before .before .before .before .args .book .now) (c .before .before .before .before .before .before .before .before .before .before .before .before .pre .0) .left .number)
+mul-print-entries c =
+    let start = c .before .before .before .before .before .before .before .before .before .before .before .before in
+    omega (arith, sound (start .args .book .now) (start .pre .0) .left .number)
 
 -- src/lib.rt:117:39
 add-print-entries : tie.Need-add-print-entries
-add-print-entries c = omega (arith, sound (c .before .before .before .before .before .before .before .before .before .before .before .before .args .book .now) (c .before .before .before .before .before .before .before .before .before .before .before .before .pre .0) .left .number, sound (c .before .before .before .before .before .before .before .before .before .before .before .before .args .book .now) (c .before .before .before .before .before .before .before .before .before .before .before .before .pre .0) .row .most)
+add-print-entries c =
+    let start = c .before .before .before .before .before .before .before .before .before .before .before .before in
+    omega (arith, sound (start .args .book .now) (start .pre .0) .left .number, sound (start .args .book .now) (start .pre .0) .row .most)
 
 -- src/lib.rt:117:56
 sub-print-entries : tie.Need-sub-print-entries
@@ -62,8 +74,11 @@ part-print-entries-end c = search needs
 
 -- src/lib.rt:117:9
 print-entries-requires : tie.Need-print-entries-requires
-print-entries-requires c κs = let s = sound (c .before .before .before .before .before .before .before .before .before .before .before .before .before .before .before .before .before .args .book .now) (c .before .before .before .before .before .before .before .before .before .before .before .before .before .before .before .before .before .pre .0) in
-    ((s .row, s .left), (c .before .before .before .before .before .before .before .before .before .before .before .before .before .before .before .before .before .pre .1 .0, omega (arith, wrote-room (c .before .before .before .before .before .before .before .put-head .ensures .0), c .before .before .before .before .before .before .before .put-head .ensures .1, c .before .before .before .before .before .before .before .before .before .before .before .before .before .before .before .before .before .pre .1 .1, s .left .number)))
+print-entries-requires c κs =
+    let put-head = c .before .before .before .before .before .before .before .put-head in
+    let start = c .before .before .before .before .before .before .before .before .before .before .before .before .before .before .before .before .before in
+    let s = sound (start .args .book .now) (start .pre .0) in
+    ((s .row, s .left), (start .pre .1 .0, omega (arith, wrote-room (put-head .ensures .0), put-head .ensures .1, start .pre .1 .1, s .left .number)))
 
 -- src/lib.rt:118:5
 add-result : tie.Need-add-result
@@ -91,7 +106,11 @@ same-length-5 c = search needs
 
 -- src/lib.rt:99:1
 returns : tie.Need-returns
-returns c = wrote-as (wrote-on (c .before .before .before .before .before .before .before .before .before .before .before .before .before .before .before .before .before .before .put-head .ensures .0) (c .before .before .before .before .before .before .before .before .before .before .print-entries .ensures .0)) (sound (c .before .before .before .before .before .before .before .before .before .before .before .before .before .before .before .before .before .before .before .before .before .before .before .before .before .before .before .before .args .book .now) (c .before .before .before .before .before .before .before .before .before .before .before .before .before .before .before .before .before .before .before .before .before .before .before .before .before .before .before .before .pre .0) .text)
+returns c =
+    let print-entries = c .before .before .before .before .before .before .before .before .before .before .print-entries in
+    let put-head = c .before .before .before .before .before .before .before .before .before .before .before .before .before .before .before .before .before .before .put-head in
+    let start = c .before .before .before .before .before .before .before .before .before .before .before .before .before .before .before .before .before .before .before .before .before .before .before .before .before .before .before .before in
+    wrote-as (wrote-on (put-head .ensures .0) (print-entries .ensures .0)) (sound (start .args .book .now) (start .pre .0) .text)
 
 pub print-fine-spec : {M : Type 1} → statement M
 print-fine-spec =

@@ -151,7 +151,10 @@ put-numbers-returns-2 : (t : ℕ) → put-numbers-lts.Need-returns-2 (
   put-numbers-below t,
   put-numbers.Post,
 ) (put-numbers-at t) put-numbers.Post
-put-numbers-returns-2 t c = more-put (c .before .before .before .before .before .before .before .before .before .before .before .before .before .args .ns .now) (omega arith) (wrote-on (c .before .before .before .before .before .before .before .put-number .ensures .0) (c .before .before .put-numbers .ensures .0)) (c .before .before .before .before .before .before .before .put-number .ensures .1) (c .before .before .put-numbers .ensures .1)
+put-numbers-returns-2 t c =
+    let put-number = c .before .before .before .before .before .before .before .put-number in
+    let start = c .before .before .before .before .before .before .before .before .before .before .before .before .before in
+    more-put (start .args .ns .now) (omega arith) (wrote-on (put-number .ensures .0) (c .before .before .put-numbers .ensures .0)) (put-number .ensures .1) (c .before .before .put-numbers .ensures .1)
 
 pub +put-numbers-spec : {M : Type 1} → statement M
 +put-numbers-spec = close μ-put-numbers λ t. put-numbers-lts.spec (

@@ -83,7 +83,12 @@ same-length c = search needs
 
 -- src/lib.rt:64:1
 returns : tie.Need-returns
-returns c = (wrote-on (wrote-on (wrote-on (c .before .before .before .before .before .before .before .before .before .before .before .before .before .before .put .ensures) (c .before .before .before .before .before .before .before .before .before .before .put-numbers .ensures .0)) (c .before .before .before .before .before .before .put-number .ensures .0)) (c .before .before .put-number2 .ensures .0), omega (arith, c .before .before .before .before .before .before .before .before .before .before .before .before .before .before .put .ensures .size, c .before .before .before .before .before .before .before .before .before .before .put-numbers .ensures .1, c .before .before .before .before .before .before .put-number .ensures .1, c .before .before .put-number2 .ensures .1, c .before .before .before .before .before .before .before .before .before .before .before .before .before .before .before .before .before .before .before .pre .0))
+returns c =
+    let put-number = c .before .before .before .before .before .before .put-number in
+    let put-numbers = c .before .before .before .before .before .before .before .before .before .before .put-numbers in
+    let put = c .before .before .before .before .before .before .before .before .before .before .before .before .before .before .put in
+    let start = c .before .before .before .before .before .before .before .before .before .before .before .before .before .before .before .before .before .before .before in
+    (wrote-on (wrote-on (wrote-on (put .ensures) (put-numbers .ensures .0)) (put-number .ensures .0)) (c .before .before .put-number2 .ensures .0), omega (arith, put .ensures .size, put-numbers .ensures .1, put-number .ensures .1, c .before .before .put-number2 .ensures .1, start .pre .0))
 
 pub different-spec : {M : Type 1} → statement M
 different-spec =

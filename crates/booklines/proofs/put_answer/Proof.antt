@@ -46,7 +46,10 @@ same-length c = search needs
 
 -- src/lib.rt:105:1
 returns : tie.Need-returns
-returns c = (wrote-as (c .before .before .put .ensures) (sym (ap (λ x. answerText x (now (c .before .before .before .before .before .before .before .before .before .args .point))) (c .before .before .before .before .before .enum-told .given .1))), omega (arith, c .before .before .put .ensures .size))
+returns c =
+    let at-enum-told = c .before .before .before .before .before .enum-told in
+    let start = c .before .before .before .before .before .before .before .before .before in
+    (wrote-as (c .before .before .put .ensures) (sym (ap (λ x. answerText x (now (start .args .point))) (at-enum-told .given .1))), omega (arith, c .before .before .put .ensures .size))
 
 -- src/lib.rt:105:1
 same-length-2 : tie.Need-same-length-2
@@ -54,7 +57,10 @@ same-length-2 c = search needs
 
 -- src/lib.rt:105:1
 returns-2 : tie.Need-returns-2
-returns-2 c = (wrote-as (c .before .before .different .ensures .0) (sym (ap (λ x. answerText x (now (c .before .before .before .before .before .before .before .before .before .args .point))) (c .before .before .before .before .before .answer .given .1))), c .before .before .different .ensures .1)
+returns-2 c =
+    let answer = c .before .before .before .before .before .answer in
+    let start = c .before .before .before .before .before .before .before .before .before in
+    (wrote-as (c .before .before .different .ensures .0) (sym (ap (λ x. answerText x (now (start .args .point))) (answer .given .1))), c .before .before .different .ensures .1)
 
 -- src/lib.rt:105:1
 same-length-3 : tie.Need-same-length-3
@@ -62,7 +68,10 @@ same-length-3 c = search needs
 
 -- src/lib.rt:105:1
 returns-3 : tie.Need-returns-3
-returns-3 c = (wrote-as (c .before .before .refused .ensures .0) (sym (ap (λ x. answerText x (now (c .before .before .before .before .before .before .before .before .before .args .point))) (c .before .before .before .before .before .answer2 .given .1))), c .before .before .refused .ensures .1)
+returns-3 c =
+    let answer2 = c .before .before .before .before .before .answer2 in
+    let start = c .before .before .before .before .before .before .before .before .before in
+    (wrote-as (c .before .before .refused .ensures .0) (sym (ap (λ x. answerText x (now (start .args .point))) (answer2 .given .1))), c .before .before .refused .ensures .1)
 
 pub put-answer-spec : {M : Type 1} → statement M
 put-answer-spec =

@@ -41,7 +41,9 @@ same-length c = search needs
 -- src/lib.rt:119:1
 returns : tie.Need-returns
 unfolding entryText
-returns c = (wrote-on (c .before .before .before .before .before .before .put-number .ensures .0) (c .before .before .put-answer .ensures .0), omega (arith, c .before .before .before .before .before .before .put-number .ensures .1, c .before .before .put-answer .ensures .1))
+returns c =
+    let put-number = c .before .before .before .before .before .before .put-number in
+    (wrote-on (put-number .ensures .0) (c .before .before .put-answer .ensures .0), omega (arith, put-number .ensures .1, c .before .before .put-answer .ensures .1))
 
 pub put-entry-spec : {M : Type 1} → statement M
 put-entry-spec =

@@ -64,7 +64,10 @@ same-length c = search needs
 -- src/lib.rt:131:1
 returns : tie.Need-returns
 unfolding headText
-returns c = (wrote-on (wrote-on (c .before .before .before .before .before .before .before .before .before .before .put .ensures) (c .before .before .before .before .before .before .put-number .ensures .0)) (c .before .before .put-number2 .ensures .0), omega (arith, c .before .before .before .before .before .before .before .before .before .before .put .ensures .size, c .before .before .before .before .before .before .put-number .ensures .1, c .before .before .put-number2 .ensures .1))
+returns c =
+    let put-number = c .before .before .before .before .before .before .put-number in
+    let put = c .before .before .before .before .before .before .before .before .before .before .put in
+    (wrote-on (wrote-on (put .ensures) (put-number .ensures .0)) (c .before .before .put-number2 .ensures .0), omega (arith, put .ensures .size, put-number .ensures .1, c .before .before .put-number2 .ensures .1))
 
 pub put-head-spec : {M : Type 1} → statement M
 put-head-spec =

@@ -14,7 +14,10 @@ write-number-requires c κs = omega (arith, numeral-20 (c .before .before .args 
 
 -- src/lib.rt:45:5
 slice-write-out : tie.Need-slice-write-out
-slice-write-out c = omega (arith, wrote-length (c .before .before .write-number .ensures), c .before .before .write-number .ensures .size, numeral-20 (c .before .before .before .before .before .args .n) (omega (arith, c .before .before .before .before .before .fits .n)), c .before .before .before .before .before .pre)
+slice-write-out c =
+    let start = c .before .before .before .before .before in
+    let fits = c .before .before .before .before .before .fits in
+    omega (arith, wrote-length (c .before .before .write-number .ensures), c .before .before .write-number .ensures .size, numeral-20 (start .args .n) (omega (arith, fits .n)), start .pre)
 
 -- src/lib.rt:46:5
 add-result : tie.Need-add-result
@@ -26,8 +29,11 @@ same-length c = search needs
 
 -- src/lib.rt:39:1
 returns : tie.Need-returns
-returns c = let l = numeral-20 (c .before .before .before .before .before .args .n) (omega (arith, c .before .before .before .before .before .fits .n)) in
-    (wrote-byte (c .before .before .write-number .ensures) (c .before .before .before .before .before .args .last) (omega (arith, c .before .before .write-number .ensures .size, l, c .before .before .before .before .before .pre)), omega (arith, c .before .before .write-number .ensures .size, l))
+returns c =
+    let start = c .before .before .before .before .before in
+    let fits = c .before .before .before .before .before .fits in
+    let l = numeral-20 (start .args .n) (omega (arith, fits .n)) in
+    (wrote-byte (c .before .before .write-number .ensures) (start .args .last) (omega (arith, c .before .before .write-number .ensures .size, l, start .pre)), omega (arith, c .before .before .write-number .ensures .size, l))
 
 pub put-number-spec : {M : Type 1} → statement M
 put-number-spec =

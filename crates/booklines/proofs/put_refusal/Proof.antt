@@ -63,7 +63,10 @@ same-length c = search needs
 -- src/lib.rt:144:1
 returns : tie.Need-returns
 unfolding refusalText
-returns c = wrote-on (wrote-on (c .before .before .before .before .before .before .before .before .before .before .put .ensures) (c .before .before .before .before .before .before .put-number .ensures .0)) (c .before .before .put-number2 .ensures .0)
+returns c =
+    let put-number = c .before .before .before .before .before .before .put-number in
+    let put = c .before .before .before .before .before .before .before .before .before .before .put in
+    wrote-on (wrote-on (put .ensures) (put-number .ensures .0)) (c .before .before .put-number2 .ensures .0)
 
 pub put-refusal-spec : {M : Type 1} → statement M
 put-refusal-spec =

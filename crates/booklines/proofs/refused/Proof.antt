@@ -28,7 +28,9 @@ part-put-number-end c = search needs
 
 -- src/lib.rt:98:9
 put-number-requires : tie.Need-put-number-requires
-put-number-requires c κs = omega (arith, wrote-room (c .before .before .before .put-refused .ensures), c .before .before .before .put-refused .ensures .size, start-10 (c .before .before .before .before .before .before .args .side), c .before .before .before .before .before .before .pre)
+put-number-requires c κs =
+    let start = c .before .before .before .before .before .before in
+    omega (arith, wrote-room (c .before .before .before .put-refused .ensures), c .before .before .before .put-refused .ensures .size, start-10 (start .args .side), start .pre)
 
 -- src/lib.rt:99:13
 add-b : tie.Need-add-b
@@ -48,7 +50,10 @@ part-put-number-end-2 c = search needs
 
 -- src/lib.rt:100:9
 put-number-requires-2 : tie.Need-put-number-requires-2
-put-number-requires-2 c κs = omega (arith, wrote-room (wrote-on (c .before .before .before .before .before .before .before .put-refused .ensures) (c .before .before .before .put-number .ensures .0)), c .before .before .before .before .before .before .before .put-refused .ensures .size, start-10 (c .before .before .before .before .before .before .before .before .before .before .args .side), c .before .before .before .put-number .ensures .1, c .before .before .before .before .before .before .before .before .before .before .pre)
+put-number-requires-2 c κs =
+    let put-refused = c .before .before .before .before .before .before .before .put-refused in
+    let start = c .before .before .before .before .before .before .before .before .before .before in
+    omega (arith, wrote-room (wrote-on (put-refused .ensures) (c .before .before .before .put-number .ensures .0)), put-refused .ensures .size, start-10 (start .args .side), c .before .before .before .put-number .ensures .1, start .pre)
 
 -- src/lib.rt:101:5
 add-result : tie.Need-add-result
@@ -60,7 +65,11 @@ same-length c = search needs
 
 -- src/lib.rt:92:1
 returns : tie.Need-returns
-returns c = (wrote-on (wrote-on (c .before .before .before .before .before .before .before .before .before .before .put-refused .ensures) (c .before .before .before .before .before .before .put-number .ensures .0)) (c .before .before .put-number2 .ensures .0), omega (arith, c .before .before .before .before .before .before .before .before .before .before .put-refused .ensures .size, start-10 (c .before .before .before .before .before .before .before .before .before .before .before .before .before .args .side), c .before .before .before .before .before .before .put-number .ensures .1, c .before .before .put-number2 .ensures .1))
+returns c =
+    let put-number = c .before .before .before .before .before .before .put-number in
+    let put-refused = c .before .before .before .before .before .before .before .before .before .before .put-refused in
+    let start = c .before .before .before .before .before .before .before .before .before .before .before .before .before in
+    (wrote-on (wrote-on (put-refused .ensures) (put-number .ensures .0)) (c .before .before .put-number2 .ensures .0), omega (arith, put-refused .ensures .size, start-10 (start .args .side), put-number .ensures .1, c .before .before .put-number2 .ensures .1))
 
 pub refused-spec : {M : Type 1} → statement M
 refused-spec =

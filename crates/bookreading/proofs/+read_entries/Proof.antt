@@ -104,7 +104,10 @@ read-entries-returns-3 : (t : ℕ) → read-entries-lts.Need-returns-3 (
   read-entries-below t,
   read-entries.Post,
 ) (read-entries-at t) read-entries.Post
-read-entries-returns-3 t c = let s = c .before .before .before .before .before .before .args in c .refused .ensures ∙ entries-refused (s .book .now) (s .p) (s .at) (s .k) (c .before .before .before .before .if1 .left) (c .before .before .before .read-both .ensures) (c .before .enum-told .given .1)
+read-entries-returns-3 t c =
+    let if1 = c .before .before .before .before .if1 in
+    let start = c .before .before .before .before .before .before in
+    let s = start .args in c .refused .ensures ∙ entries-refused (s .book .now) (s .p) (s .at) (s .k) (if1 .left) (c .before .before .before .read-both .ensures) (c .before .enum-told .given .1)
 
 -- src/lib.rt:97:24
 read-entries-add-read-entries : (t : ℕ) → read-entries-lts.Need-add-read-entries (
@@ -126,7 +129,9 @@ read-entries-add-read-entries-2 : (t : ℕ) → read-entries-lts.Need-add-read-e
   read-entries-below t,
   read-entries.Post,
 ) (read-entries-at t) read-entries.Post
-read-entries-add-read-entries-2 t c = let s = c .before .before .before .before .before .before .args in omega (arith, both-within (s .book .now) (s .p) (s .at) (c .before .before .before .read-both .ensures) (c .before .lengths .given .1), c .before .before .before .before .before .before .pre .1)
+read-entries-add-read-entries-2 t c =
+    let start = c .before .before .before .before .before .before in
+    let s = start .args in omega (arith, both-within (s .book .now) (s .p) (s .at) (c .before .before .before .read-both .ensures) (c .before .lengths .given .1), start .pre .1)
 
 -- src/lib.rt:97:39
 read-entries-sub-read-entries : (t : ℕ) → read-entries-lts.Need-sub-read-entries (
@@ -148,8 +153,11 @@ read-entries-read-entries-requires : (t : ℕ) → read-entries-lts.Need-read-en
   read-entries-below t,
   read-entries.Post,
 ) (read-entries-at t) read-entries.Post
-read-entries-read-entries-requires t c κs = let s = c .before .before .before .before .before .before .args in
-    (omega (arith, c .before .before .before .before .before .before .pre .0, c .before .before .before .before .if1 .left), omega (arith, c .before .before .before .before .before .before .pre .1, c .before .before .before .before .if1 .left, both-within (s .book .now) (s .p) (s .at) (c .before .before .before .read-both .ensures) (c .before .lengths .given .1)))
+read-entries-read-entries-requires t c κs =
+    let if1 = c .before .before .before .before .if1 in
+    let start = c .before .before .before .before .before .before in
+    let s = start .args in
+    (omega (arith, start .pre .0, if1 .left), omega (arith, start .pre .1, if1 .left, both-within (s .book .now) (s .p) (s .at) (c .before .before .before .read-both .ensures) (c .before .lengths .given .1)))
 
 -- src/lib.rt:82:1
 read-entries-returns-4 : (t : ℕ) → read-entries-lts.Need-returns-4 (
@@ -160,7 +168,11 @@ read-entries-returns-4 : (t : ℕ) → read-entries-lts.Need-returns-4 (
   read-entries-below t,
   read-entries.Post,
 ) (read-entries-at t) read-entries.Post
-read-entries-returns-4 t c = let s = c .before .before .before .before .before .before .before .args in c .read-entries .ensures ∙ entries-on (s .book .now) (s .p) (s .at) (s .k) (c .before .before .before .before .before .if1 .left) (c .before .before .before .before .read-both .ensures) (c .before .before .lengths .given .1)
+read-entries-returns-4 t c =
+    let read-both = c .before .before .before .before .read-both in
+    let if1 = c .before .before .before .before .before .if1 in
+    let start = c .before .before .before .before .before .before .before in
+    let s = start .args in c .read-entries .ensures ∙ entries-on (s .book .now) (s .p) (s .at) (s .k) (if1 .left) (read-both .ensures) (c .before .before .lengths .given .1)
 
 pub +read-entries-spec : {M : Type 1} → statement M
 +read-entries-spec = close μ-read-entries λ t. read-entries-lts.spec (

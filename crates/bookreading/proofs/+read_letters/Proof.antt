@@ -108,7 +108,10 @@ read-letters-returns-3 : (t : ℕ) → read-letters-lts.Need-returns-3 (
   read-letters-below t,
   read-letters.Post,
 ) (read-letters-at t) read-letters.Post
-read-letters-returns-3 t c = let s = c .before .before .before .before .before .before .args in sym (letters-wrong (s .book .now) (s .i) (s .k) (c .before .before .before .before .if1 .left) (c .before .before .before .if2 .left) (sym (letters-part (s .book .now) (s .i) (c .before .is-row .ensures)) ∙ not-true _ (c .if3 .taken)))
+read-letters-returns-3 t c =
+    let if1 = c .before .before .before .before .if1 in
+    let start = c .before .before .before .before .before .before in
+    let s = start .args in sym (letters-wrong (s .book .now) (s .i) (s .k) (if1 .left) (c .before .before .before .if2 .left) (sym (letters-part (s .book .now) (s .i) (c .before .is-row .ensures)) ∙ not-true _ (c .if3 .taken)))
 
 -- src/lib.rt:116:27
 read-letters-sub-read-letters : (t : ℕ) → read-letters-lts.Need-sub-read-letters (
@@ -135,7 +138,11 @@ read-letters-returns-4 : (t : ℕ) → read-letters-lts.Need-returns-4 (
   read-letters-below t,
   read-letters.Post,
 ) (read-letters-at t) read-letters.Post
-read-letters-returns-4 t c = let s = c .before .before .before .before .before .before .before .args in c .read-letters .ensures ∙ letters-on (s .book .now) (s .i) (s .k) (c .before .before .before .before .before .if1 .left) (c .before .before .before .before .if2 .left) (sym (letters-part (s .book .now) (s .i) (c .before .before .is-row .ensures)) ∙ not-false _ (c .before .if3 .left))
+read-letters-returns-4 t c =
+    let if2 = c .before .before .before .before .if2 in
+    let if1 = c .before .before .before .before .before .if1 in
+    let start = c .before .before .before .before .before .before .before in
+    let s = start .args in c .read-letters .ensures ∙ letters-on (s .book .now) (s .i) (s .k) (if1 .left) (if2 .left) (sym (letters-part (s .book .now) (s .i) (c .before .before .is-row .ensures)) ∙ not-false _ (c .before .if3 .left))
 
 pub +read-letters-spec : {M : Type 1} → statement M
 +read-letters-spec = close μ-read-letters λ t. read-letters-lts.spec (

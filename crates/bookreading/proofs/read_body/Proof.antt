@@ -34,7 +34,9 @@ add-e c = search needs
 
 -- src/lib.rt:46:9
 returns-3 : tie.Need-returns-3
-returns-3 c = let s = c .before .before .before .before .before .args in
+returns-3 c =
+    let start = c .before .before .before .before .before in
+    let s = start .args in
     ap bodyOf (sym (length-cut (s .book .now) (s .p) (s .at) (c .before .before .before .if1 .left) (sym (c .before .before .number-at .ensures .0) ∙ c .before .if2 .left) (c .if3 .taken)))
 
 -- src/lib.rt:48:9
@@ -47,14 +49,22 @@ add-if4 c = search needs
 
 -- src/lib.rt:50:9
 returns-4 : tie.Need-returns-4
-returns-4 c = let s = c .before .before .before .before .before .before .before .args in
-    ap bodyOf (sym (length-wrong (s .book .now) (s .p) (s .at) (c .before .before .before .before .before .if1 .left) (sym (c .before .before .before .before .number-at .ensures .0) ∙ c .before .before .before .if2 .left) (c .before .before .if3 .left) (omega (arith, c .before .number-at2 .ensures .0, c .if4 .taken))))
+returns-4 c =
+    let number-at = c .before .before .before .before .number-at in
+    let if1 = c .before .before .before .before .before .if1 in
+    let start = c .before .before .before .before .before .before .before in
+    let s = start .args in
+    ap bodyOf (sym (length-wrong (s .book .now) (s .p) (s .at) (if1 .left) (sym (number-at .ensures .0) ∙ c .before .before .before .if2 .left) (c .before .before .if3 .left) (omega (arith, c .before .number-at2 .ensures .0, c .if4 .taken))))
 
 -- src/lib.rt:33:1
 returns-5 : tie.Need-returns-5
-returns-5 c = let s = c .before .before .before .before .before .before .before .args in
+returns-5 c =
+    let number-at = c .before .before .before .before .number-at in
+    let if1 = c .before .before .before .before .before .if1 in
+    let start = c .before .before .before .before .before .before .before in
+    let s = start .args in
     ap Length (c .before .number-at2 .ensures .0)
-    ∙ ap bodyOf (sym (length-fine (s .book .now) (s .p) (s .at) (c .before .before .before .before .before .if1 .left) (sym (c .before .before .before .before .number-at .ensures .0) ∙ c .before .before .before .if2 .left) (c .before .before .if3 .left) (omega (arith, c .before .number-at2 .ensures .0, c .if4 .left))))
+    ∙ ap bodyOf (sym (length-fine (s .book .now) (s .p) (s .at) (if1 .left) (sym (number-at .ensures .0) ∙ c .before .before .before .if2 .left) (c .before .before .if3 .left) (omega (arith, c .before .number-at2 .ensures .0, c .if4 .left))))
 
 pub read-body-spec : {M : Type 1} → statement M
 read-body-spec =

@@ -29,11 +29,16 @@ cast-n c = omega (arith, c .shared-slice-known2 .given 0)
 
 -- src/lib.rt:152:9
 returns-3 : tie.Need-returns-3
-returns-3 c = sym (book-few (c .before .before .before .before .before .args .book .now) (c .before .before .before .if1 .left) (c .before .before .if2 .left) (c .if3 .taken))
+returns-3 c =
+    let start = c .before .before .before .before .before in
+    sym (book-few (start .args .book .now) (c .before .before .before .if1 .left) (c .before .before .if2 .left) (c .if3 .taken))
 
 -- src/lib.rt:155:9
 returns-4 : tie.Need-returns-4
-returns-4 c = sym (book-many (c .before .before .before .before .before .before .args .book .now) (c .before .before .before .before .if1 .left) (c .before .before .before .if2 .left) (c .before .if3 .left) (c .if4 .taken))
+returns-4 c =
+    let if1 = c .before .before .before .before .if1 in
+    let start = c .before .before .before .before .before .before in
+    sym (book-many (start .args .book .now) (if1 .left) (c .before .before .before .if2 .left) (c .before .if3 .left) (c .if4 .taken))
 
 -- src/lib.rt:157:9
 read-letters-requires : tie.Need-read-letters-requires
@@ -53,11 +58,23 @@ read-contents-requires c κs = search needs
 
 -- src/lib.rt:141:1
 returns-5 : tie.Need-returns-5
-returns-5 c = sym (book-letters (c .before .before .before .before .before .before .before .before .before .before .args .book .now) (c .before .before .before .before .before .before .before .before .if1 .left) (c .before .before .before .before .before .before .before .if2 .left) (c .before .before .before .before .before .if3 .left) (c .before .before .before .before .if4 .left) (c .before .before .before .read-letters .ensures) (c .before .row .given .1))
+returns-5 c =
+    let if4 = c .before .before .before .before .if4 in
+    let if3 = c .before .before .before .before .before .if3 in
+    let if2 = c .before .before .before .before .before .before .before .if2 in
+    let if1 = c .before .before .before .before .before .before .before .before .if1 in
+    let start = c .before .before .before .before .before .before .before .before .before .before in
+    sym (book-letters (start .args .book .now) (if1 .left) (if2 .left) (if3 .left) (if4 .left) (c .before .before .before .read-letters .ensures) (c .before .row .given .1))
 
 -- src/lib.rt:141:1
 returns-6 : tie.Need-returns-6
-returns-6 c = c .read-contents .ensures ∙ ap headOf (sym (book-contents (c .before .before .before .before .before .before .before .before .before .before .args .book .now) (c .before .before .before .before .before .before .before .before .if1 .left) (c .before .before .before .before .before .before .before .if2 .left) (c .before .before .before .before .before .if3 .left) (c .before .before .before .before .if4 .left) (c .before .before .before .read-letters .ensures) (c .before .enum-told .given .1)))
+returns-6 c =
+    let if4 = c .before .before .before .before .if4 in
+    let if3 = c .before .before .before .before .before .if3 in
+    let if2 = c .before .before .before .before .before .before .before .if2 in
+    let if1 = c .before .before .before .before .before .before .before .before .if1 in
+    let start = c .before .before .before .before .before .before .before .before .before .before in
+    c .read-contents .ensures ∙ ap headOf (sym (book-contents (start .args .book .now) (if1 .left) (if2 .left) (if3 .left) (if4 .left) (c .before .before .before .read-letters .ensures) (c .before .enum-told .given .1)))
 
 pub read-book-spec : {M : Type 1} → statement M
 read-book-spec =

@@ -22,7 +22,9 @@ enum-told c = search needs
 
 -- src/lib.rt:63:9
 returns : tie.Need-returns
-returns c = let s = c .before .before .before .before .args in panel-stops (s .book .now) (s .p) (s .at) (c .before .before .read-body .ensures) (c .enum-told .given .1)
+returns c =
+    let start = c .before .before .before .before in
+    let s = start .args in panel-stops (s .book .now) (s .p) (s .at) (c .before .before .read-body .ensures) (c .enum-told .given .1)
 
 -- src/lib.rt:65:33
 add-read-body : tie.Need-add-read-body
@@ -30,11 +32,15 @@ add-read-body c = search needs
 
 -- src/lib.rt:65:40
 add-read-body-2 : tie.Need-add-read-body-2
-add-read-body-2 c = let s = c .before .before .before .before .before .args in omega (arith, body-within (s .book .now) (s .p) (s .at) (c .before .before .before .read-body .ensures) (c .before .panel .given .1), c .before .before .before .before .before .pre .1)
+add-read-body-2 c =
+    let start = c .before .before .before .before .before in
+    let s = start .args in omega (arith, body-within (s .book .now) (s .p) (s .at) (c .before .before .before .read-body .ensures) (c .before .panel .given .1), start .pre .1)
 
 -- src/lib.rt:65:9
 read-body-requires-2 : tie.Need-read-body-requires-2
-read-body-requires-2 c κs = let s = c .before .before .before .before .before .args in omega (arith, body-within (s .book .now) (s .p) (s .at) (c .before .before .before .read-body .ensures) (c .before .panel .given .1), c .before .before .before .before .before .pre .1, c .before .before .before .before .before .pre .0)
+read-body-requires-2 c κs =
+    let start = c .before .before .before .before .before in
+    let s = start .args in omega (arith, body-within (s .book .now) (s .p) (s .at) (c .before .before .before .read-body .ensures) (c .before .panel .given .1), start .pre .1, start .pre .0)
 
 -- src/lib.rt:66:22
 enum-known-cloud : tie.Need-enum-known-cloud
@@ -46,16 +52,28 @@ enum-told-2 c = search needs
 
 -- src/lib.rt:67:9
 returns-2 : tie.Need-returns-2
-returns-2 c = let s = c .before .before .before .before .before .before .before .before .args in cloud-stops (s .book .now) (s .p) (s .at) (c .before .before .before .before .before .before .read-body .ensures) (c .before .before .before .before .panel .given .1) (c .before .before .read-body2 .ensures) (c .enum-told2 .given .1)
+returns-2 c =
+    let panel = c .before .before .before .before .panel in
+    let read-body = c .before .before .before .before .before .before .read-body in
+    let start = c .before .before .before .before .before .before .before .before in
+    let s = start .args in cloud-stops (s .book .now) (s .p) (s .at) (read-body .ensures) (panel .given .1) (c .before .before .read-body2 .ensures) (c .enum-told2 .given .1)
 
 -- src/lib.rt:69:18
 add-t8 : tie.Need-add-t8
-add-t8 c = let s = c .before .before .before .before .before .before .before .before .before .args in
-    omega (arith, body-within (s .book .now) (s .p) (s .at) (c .before .before .before .before .before .before .before .read-body .ensures) (c .before .before .before .before .before .panel .given .1), body-within (s .book .now) _ _ (c .before .before .before .read-body2 .ensures) (c .before .cloud .given .1), c .before .before .before .before .before .before .before .before .before .pre .1)
+add-t8 c =
+    let panel = c .before .before .before .before .before .panel in
+    let read-body = c .before .before .before .before .before .before .before .read-body in
+    let start = c .before .before .before .before .before .before .before .before .before in
+    let s = start .args in
+    omega (arith, body-within (s .book .now) (s .p) (s .at) (read-body .ensures) (panel .given .1), body-within (s .book .now) _ _ (c .before .before .before .read-body2 .ensures) (c .before .cloud .given .1), start .pre .1)
 
 -- src/lib.rt:56:1
 returns-3 : tie.Need-returns-3
-returns-3 c = let s = c .before .before .before .before .before .before .before .before .before .args in both-lengths (s .book .now) (s .p) (s .at) (c .before .before .before .before .before .before .before .read-body .ensures) (c .before .before .before .before .before .panel .given .1) (c .before .before .before .read-body2 .ensures) (c .before .cloud .given .1)
+returns-3 c =
+    let panel = c .before .before .before .before .before .panel in
+    let read-body = c .before .before .before .before .before .before .before .read-body in
+    let start = c .before .before .before .before .before .before .before .before .before in
+    let s = start .args in both-lengths (s .book .now) (s .p) (s .at) (read-body .ensures) (panel .given .1) (c .before .before .before .read-body2 .ensures) (c .before .cloud .given .1)
 
 pub read-both-spec : {M : Type 1} → statement M
 read-both-spec =

@@ -32,11 +32,15 @@ cast-k c = omega (arith, c .shared-slice-known2 .given (1 + c .before .before .b
 
 -- src/lib.rt:132:9
 returns-2 : tie.Need-returns-2
-returns-2 c = sym (contents-few (c .before .before .before .before .args .book .now) (c .before .before .before .before .args .n) (c .before .before .if1 .left) (c .if2 .taken))
+returns-2 c =
+    let start = c .before .before .before .before in
+    sym (contents-few (start .args .book .now) (start .args .n) (c .before .before .if1 .left) (c .if2 .taken))
 
 -- src/lib.rt:135:9
 returns-3 : tie.Need-returns-3
-returns-3 c = sym (contents-many (c .before .before .before .before .before .args .book .now) (c .before .before .before .before .before .args .n) (c .before .before .before .if1 .left) (c .before .if2 .left) (c .if3 .taken))
+returns-3 c =
+    let start = c .before .before .before .before .before in
+    sym (contents-many (start .args .book .now) (start .args .n) (c .before .before .before .if1 .left) (c .before .if2 .left) (c .if3 .taken))
 
 -- src/lib.rt:137:31
 mul-read-entries : tie.Need-mul-read-entries
@@ -52,7 +56,10 @@ read-entries-requires c κs = search needs
 
 -- src/lib.rt:120:1
 returns-4 : tie.Need-returns-4
-returns-4 c = c .read-entries .ensures ∙ contents-on (c .before .before .before .before .before .before .args .book .now) (c .before .before .before .before .before .before .args .n) (c .before .before .before .before .if1 .left) (c .before .before .if2 .left) (c .before .if3 .left)
+returns-4 c =
+    let if1 = c .before .before .before .before .if1 in
+    let start = c .before .before .before .before .before .before in
+    c .read-entries .ensures ∙ contents-on (start .args .book .now) (start .args .n) (if1 .left) (c .before .before .if2 .left) (c .before .if3 .left)
 
 pub read-contents-spec : {M : Type 1} → statement M
 read-contents-spec =

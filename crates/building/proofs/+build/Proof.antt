@@ -54,147 +54,324 @@ node t c = λ q. (c .if1 .left) ((head-is t (c .before)) .is-kind ∙ q)
 
 -- the first operand, and what is built of it
 first : (t : ℕ) (c : build-lts.After-zero-power (claims t) (build-at t) build.Post) → Stands (now ((c .before .before .before .before .before .before .before .before .before) .args .row)) (now ((c .before .before .before .before .before .before .before .before .before) .args .s)) ((c .before .before .head-of) .result .next) (firstOf ((c .before .before .before .before .before .before .before .before .before) .pre .1 .x)) (tailOf ((c .before .before .before .before .before .before .before .before .before) .pre .1 .x) ++ ((c .before .before .before .before .before .before .before .before .before) .pre .1 .rest))
-first t c = first-of ((c .before .before .before .before .before .before .before .before .before) .pre .1) ((c .before .before .head-of) .ensures) (c .before .if1 .left) (c .zero-power .ensures)
+first t c =
+    let before = c .before .before .before .before .before .before .before .before .before in
+    first-of ((before) .pre .1) ((c .before .before .head-of) .ensures) (c .before .if1 .left) (c .zero-power .ensures)
 
 done : (t : ℕ) (c : build-lts.After-build (claims t) (build-at t) build.Post) → Done (now ((c .before .before .before .before .before .before .before .before .before .before .before .before .before .before .before) .args .row)) (now ((c .before .before .before .before .before .before .before .before .before .before .before .before .before .before .before) .args .s)) ((c .before .before .before .before .before .before .before .before .head-of) .result .next) ((c .build) .result .words) ((c .build) .result .next) ((c .build) .last .1 .1 .1 .0) (firstOf ((c .before .before .before .before .before .before .before .before .before .before .before .before .before .before .before) .pre .1 .x)) (tailOf ((c .before .before .before .before .before .before .before .before .before .before .before .before .before .before .before) .pre .1 .x) ++ ((c .before .before .before .before .before .before .before .before .before .before .before .before .before .before .before) .pre .1 .rest))
-done t c = (c .build) .ensures (firstOf ((c .before .before .before .before .before .before .before .before .before .before .before .before .before .before .before) .pre .1 .x)) (tailOf ((c .before .before .before .before .before .before .before .before .before .before .before .before .before .before .before) .pre .1 .x) ++ ((c .before .before .before .before .before .before .before .before .before .before .before .before .before .before .before) .pre .1 .rest)) (first t (c .before .before .before .before .before .before))
+done t c =
+    let at-before = c .before .before .before .before .before .before in
+    let before = c .before .before .before .before .before .before .before .before .before .before .before .before .before .before .before in
+    (c .build) .ensures (firstOf ((before) .pre .1 .x)) (tailOf ((before) .pre .1 .x) ++ ((before) .pre .1 .rest)) (first t (at-before))
 
 -- by the operator
 is-power : (t : ℕ) (c : build-lts.Then3 (claims t) (build-at t) build.Post) → kindOf ((c .before .before .before .before .before .before .before .before .before .before .before .before .before .before .before .before .before .before .before .before .before .before .before .before) .pre .1 .x) ≡ 4
-is-power t c = sym ((head-is t (c .before .before .before .before .before .before .before .before .before .before .before .before .before .before .before .before .before)) .is-kind) ∙ c .if3 .taken
+is-power t c =
+    let before = c .before .before .before .before .before .before .before .before .before .before .before .before .before .before .before .before .before in
+    sym ((head-is t (before)) .is-kind) ∙ c .if3 .taken
 
 not-power : (t : ℕ) (c : build-lts.Else3 (claims t) (build-at t) build.Post) → kindOf ((c .before .before .before .before .before .before .before .before .before .before .before .before .before .before .before .before .before .before .before .before .before .before .before .before) .pre .1 .x) ≡ 4 → ⊥
-not-power t c = λ q. c .if3 .left ((head-is t (c .before .before .before .before .before .before .before .before .before .before .before .before .before .before .before .before .before)) .is-kind ∙ q)
+not-power t c =
+    let before = c .before .before .before .before .before .before .before .before .before .before .before .before .before .before .before .before .before in
+    λ q. c .if3 .left ((head-is t (before)) .is-kind ∙ q)
 
 -- the second operand, and what is built of it
 no-close : (t : ℕ) (c : build-lts.Else4 (claims t) (build-at t) build.Post) → Passed (now ((c .before .before .before .before .before .before .before .before .before .before .before .before .before .before .before .before .before .before .before .before .before .before .before .before .before .before) .args .s)) ((c .before .before .before .before .before .before .before .before .before .before .before .build) .result .next) 0
-no-close t c = subst (Passed (now ((c .before .before .before .before .before .before .before .before .before .before .before .before .before .before .before .before .before .before .before .before .before .before .before .before .before .before) .args .s)) ((c .before .before .before .before .before .before .before .before .before .before .before .build) .result .next)) (c .if4 .left) (c .before .past2 .ensures)
+no-close t c =
+    let at-build = c .before .before .before .before .before .before .before .before .before .before .before .build in
+    let before = c .before .before .before .before .before .before .before .before .before .before .before .before .before .before .before .before .before .before .before .before .before .before .before .before .before .before in
+    subst (Passed (now ((before) .args .s)) ((at-build) .result .next)) (c .if4 .left) (c .before .past2 .ensures)
 
 second : (t : ℕ) (c : build-lts.Else4 (claims t) (build-at t) build.Post) → Stands (now ((c .before .before .before .before .before .before .before .before .before .before .before .before .before .before .before .before .before .before .before .before .before .before .before .before .before .before) .args .row)) (now ((c .before .before .before .before .before .before .before .before .before .before .before .before .before .before .before .before .before .before .before .before .before .before .before .before .before .before) .args .s)) ((c .before .before .before .before .before .before .before .before .before .before .before .build) .result .next) (secondOf ((c .before .before .before .before .before .before .before .before .before .before .before .before .before .before .before .before .before .before .before .before .before .before .before .before .before .before) .pre .1 .x)) (closeOf ((c .before .before .before .before .before .before .before .before .before .before .before .before .before .before .before .before .before .before .before .before .before .before .before .before .before .before) .pre .1 .x) ++ ((c .before .before .before .before .before .before .before .before .before .before .before .before .before .before .before .before .before .before .before .before .before .before .before .before .before .before) .pre .1 .rest))
-second t c = second-of ((c .before .before .before .before .before .before .before .before .before .before .before .before .before .before .before .before .before .before .before .before .before .before .before .before .before .before) .pre .1 .x) ((c .before .before .before .before .before .before .before .before .before .before .before .before .before .before .before .before .before .before .before .before .before .before .before .before .before .before) .pre .1 .rest) (node t (c .before .before .before .before .before .before .before .before .before .before .before .before .before .before .before .before .before .before)) (not-power t (c .before .before)) (((c .before .before .before .before .before .before .before .before .before .before .before .before .before .before .before .before .before .before .before .before .before .before .before .before .before .before) .pre .1) .stands) (done t (c .before .before .before .before .before .before .before .before .before .before .before)) (no-close t c)
+second t c =
+    let before-3 = c .before .before .before .before .before .before .before .before .before .before .before in
+    let at-before = c .before .before .before .before .before .before .before .before .before .before .before .before .before .before .before .before .before .before in
+    let before = c .before .before .before .before .before .before .before .before .before .before .before .before .before .before .before .before .before .before .before .before .before .before .before .before .before .before in
+    second-of ((before) .pre .1 .x) ((before) .pre .1 .rest) (node t (at-before)) (not-power t (c .before .before)) (((before) .pre .1) .stands) (done t (before-3)) (no-close t c)
 
 done-2 : (t : ℕ) (c : build-lts.After-build2 (claims t) (build-at t) build.Post) → Done (now ((c .before .before .before .before .before .before .before .before .before .before .before .before .before .before .before .before .before .before .before .before .before .before .before .before .before .before .before .before .before .before .before) .args .row)) (now ((c .before .before .before .before .before .before .before .before .before .before .before .before .before .before .before .before .before .before .before .before .before .before .before .before .before .before .before .before .before .before .before) .args .s)) ((c .before .before .before .before .before .before .before .before .before .before .before .before .before .before .before .before .build) .result .next) ((c .build2) .result .words) ((c .build2) .result .next) ((c .build2) .last .1 .1 .1 .0) (secondOf ((c .before .before .before .before .before .before .before .before .before .before .before .before .before .before .before .before .before .before .before .before .before .before .before .before .before .before .before .before .before .before .before) .pre .1 .x)) (closeOf ((c .before .before .before .before .before .before .before .before .before .before .before .before .before .before .before .before .before .before .before .before .before .before .before .before .before .before .before .before .before .before .before) .pre .1 .x) ++ ((c .before .before .before .before .before .before .before .before .before .before .before .before .before .before .before .before .before .before .before .before .before .before .before .before .before .before .before .before .before .before .before) .pre .1 .rest))
-done-2 t c = (c .build2) .ensures (secondOf ((c .before .before .before .before .before .before .before .before .before .before .before .before .before .before .before .before .before .before .before .before .before .before .before .before .before .before .before .before .before .before .before) .pre .1 .x)) (closeOf ((c .before .before .before .before .before .before .before .before .before .before .before .before .before .before .before .before .before .before .before .before .before .before .before .before .before .before .before .before .before .before .before) .pre .1 .x) ++ ((c .before .before .before .before .before .before .before .before .before .before .before .before .before .before .before .before .before .before .before .before .before .before .before .before .before .before .before .before .before .before .before) .pre .1 .rest)) (second t (c .before .before .before .before .before))
+done-2 t c =
+    let at-before = c .before .before .before .before .before in
+    let before = c .before .before .before .before .before .before .before .before .before .before .before .before .before .before .before .before .before .before .before .before .before .before .before .before .before .before .before .before .before .before .before in
+    (c .build2) .ensures (secondOf ((before) .pre .1 .x)) (closeOf ((before) .pre .1 .x) ++ ((before) .pre .1 .rest)) (second t (at-before))
 
 both-at : (t : ℕ) (c : build-lts.After-stack5 (claims t) (build-at t) build.Post) → Both (now ((c .before .before .before .before .before .before .before .before .before .before .before .before .before .before .before .before .before .before .before .before .before .before .before .before .before .before .before .before .before .before .before .before) .args .row)) ((c .before .before .before .before .before .before .before .before .before .before .before .before .before .before .before .before .before .build) .result .words) ((c .before .build2) .result .words) (putMid ((c .before .before .before .before .before .before .before .before .before .before .before .before .before .before .before .before .before .build) .result .words) (length ((c .before .before .before .before .before .before .before .before .before .before .before .before .before .before .before .before .before .build) .last .1 .1 .1 .0) - ((c .before .before .before .before .before .before .before .before .before .before .before .before .before .before .before .before .before .build) .result .words)) ((c .before .before .before .before .before .before .before .before .before .before .before .before .before .before .before .before .before .build) .last .1 .1 .1 .0) ((c .before .build2) .last .1 .1 .1 .0)) (firstOf ((c .before .before .before .before .before .before .before .before .before .before .before .before .before .before .before .before .before .before .before .before .before .before .before .before .before .before .before .before .before .before .before .before) .pre .1 .x)) (secondOf ((c .before .before .before .before .before .before .before .before .before .before .before .before .before .before .before .before .before .before .before .before .before .before .before .before .before .before .before .before .before .before .before .before) .pre .1 .x))
-both-at t c = both (((c .before .before .before .before .before .before .before .before .before .before .before .before .before .before .before .before .before .before .before .before .before .before .before .before .before .before .before .before .before .before .before .before) .pre .1) .proper) (first t (c .before .before .before .before .before .before .before .before .before .before .before .before .before .before .before .before .before .before .before .before .before .before .before)) (done t (c .before .before .before .before .before .before .before .before .before .before .before .before .before .before .before .before .before)) (second t (c .before .before .before .before .before .before)) (done-2 t (c .before)) ((c .before .build2) .kept .1 .1 .1 .0 ∙ length-tail-part ((c .before .before .before .before .before .before .before .before .before .before .before .before .before .before .before .before .before .build) .result .words) ((c .before .before .before .before .before .before .before .before .before .before .before .before .before .before .before .before .before .build) .last .1 .1 .1 .0)) (c .stack5 .given .1)
+both-at t c =
+    let before-4 = c .before .before .before .before .before .before in
+    let before-3 = c .before .before .before .before .before .before .before .before .before .before .before .before .before .before .before .before .before in
+    let at-build = c .before .before .before .before .before .before .before .before .before .before .before .before .before .before .before .before .before .build in
+    let at-before = c .before .before .before .before .before .before .before .before .before .before .before .before .before .before .before .before .before .before .before .before .before .before .before in
+    let before = c .before .before .before .before .before .before .before .before .before .before .before .before .before .before .before .before .before .before .before .before .before .before .before .before .before .before .before .before .before .before .before .before in
+    both (((before) .pre .1) .proper) (first t (at-before)) (done t (before-3)) (second t (before-4)) (done-2 t (c .before)) ((c .before .build2) .kept .1 .1 .1 .0 ∙ length-tail-part ((at-build) .result .words) ((at-build) .last .1 .1 .1 .0)) (c .stack5 .given .1)
 
 build-head-of-requires : (t : ℕ) → build-lts.Need-head-of-requires (claims t) (build-at t) build.Post
 build-head-of-requires t c κs = ((c .before .before .before .before .before .before) .pre .1) .inside
 
 build-sub-leaf-form : (t : ℕ) → build-lts.Need-sub-leaf-form (claims t) (build-at t) build.Post
-build-sub-leaf-form t c = omega (arith, leaf-some ((c .before .before .before .before .before .before .before .before) .pre .1) ((c .before .head-of) .ensures) (c .if1 .taken), head-inside ((c .before .before .before .before .before .before .before .before) .pre .1) ((c .before .head-of) .ensures))
+build-sub-leaf-form t c =
+    let before = c .before .before .before .before .before .before .before .before in
+    omega (arith, leaf-some ((before) .pre .1) ((c .before .head-of) .ensures) (c .if1 .taken), head-inside ((before) .pre .1) ((c .before .head-of) .ensures))
 
 build-part-leaf-form-start : (t : ℕ) → build-lts.Need-part-leaf-form-start (claims t) (build-at t) build.Post
-build-part-leaf-form-start t c = omega (arith, leaf-some ((c .before .before .before .before .before .before .before .before) .pre .1) ((c .before .head-of) .ensures) (c .if1 .taken), head-inside ((c .before .before .before .before .before .before .before .before) .pre .1) ((c .before .head-of) .ensures))
+build-part-leaf-form-start t c =
+    let before = c .before .before .before .before .before .before .before .before in
+    omega (arith, leaf-some ((before) .pre .1) ((c .before .head-of) .ensures) (c .if1 .taken), head-inside ((before) .pre .1) ((c .before .head-of) .ensures))
 
 build-part-leaf-form-end : (t : ℕ) → build-lts.Need-part-leaf-form-end (claims t) (build-at t) build.Post
-build-part-leaf-form-end t c = omega (arith, leaf-some ((c .before .before .before .before .before .before .before .before) .pre .1) ((c .before .head-of) .ensures) (c .if1 .taken), head-inside ((c .before .before .before .before .before .before .before .before) .pre .1) ((c .before .head-of) .ensures))
+build-part-leaf-form-end t c =
+    let before = c .before .before .before .before .before .before .before .before in
+    omega (arith, leaf-some ((before) .pre .1) ((c .before .head-of) .ensures) (c .if1 .taken), head-inside ((before) .pre .1) ((c .before .head-of) .ensures))
 
 build-leaf-form-requires : (t : ℕ) → build-lts.Need-leaf-form-requires (claims t) (build-at t) build.Post
-build-leaf-form-requires t c κs = leaf-asks ((c .before .before .before .before .before .before .before .before .before .before) .pre .1) ((c .before .before .before .head-of) .ensures) (c .before .before .if1 .taken)
+build-leaf-form-requires t c κs =
+    let before = c .before .before .before .before .before .before .before .before .before .before in
+    leaf-asks ((before) .pre .1) ((c .before .before .before .head-of) .ensures) (c .before .before .if1 .taken)
 
 build-same-length : (t : ℕ) → build-lts.Need-same-length (claims t) (build-at t) build.Post
 build-same-length t c = search needs
 
 build-returns : (t : ℕ) → build-lts.Need-returns (claims t) (build-at t) build.Post
-build-returns t c = leaf-gives ((c .before .before .before .before .before .before .before .before .before .before .before .before .before) .pre .1) ((c .before .before .before .before .before .before .head-of) .ensures) (c .before .before .before .before .before .if1 .taken) (c .before .before .leaf-form .ensures)
+build-returns t c =
+    let if1 = c .before .before .before .before .before .if1 in
+    let head-of = c .before .before .before .before .before .before .head-of in
+    let before = c .before .before .before .before .before .before .before .before .before .before .before .before .before in
+    leaf-gives ((before) .pre .1) ((head-of) .ensures) (if1 .taken) (c .before .before .leaf-form .ensures)
 
 build-zero-power-requires : (t : ℕ) → build-lts.Need-zero-power-requires (claims t) (build-at t) build.Post
 build-zero-power-requires t c κs = head-inside ((c .before .before .before .before .before .before .before .before) .pre .1) ((c .before .head-of) .ensures)
 
 build-slice-write-stack : (t : ℕ) → build-lts.Need-slice-write-stack (claims t) (build-at t) build.Post
-build-slice-write-stack t c = zero-room ((c .before .before .before .before .before .before .before .before .before .before) .pre .1) ((c .before .before .before .head-of) .ensures) (c .before .before .if1 .left) (c .before .zero-power .ensures) (c .if2 .taken)
+build-slice-write-stack t c =
+    let before = c .before .before .before .before .before .before .before .before .before .before in
+    zero-room ((before) .pre .1) ((c .before .before .before .head-of) .ensures) (c .before .before .if1 .left) (c .before .zero-power .ensures) (c .if2 .taken)
 
 build-same-length-2 : (t : ℕ) → build-lts.Need-same-length-2 (claims t) (build-at t) build.Post
 build-same-length-2 t c = search needs
 
 build-returns-2 : (t : ℕ) → build-lts.Need-returns-2 (claims t) (build-at t) build.Post
-build-returns-2 t c = zero-gives ((c .before .before .before .before .before .before .before .before .before .before) .pre .1) ((c .before .before .before .head-of) .ensures) (c .before .before .if1 .left) (c .before .zero-power .ensures) (c .if2 .taken) (λ x. made-one 0 x ((c .before .before .before .before .before .before .before .before .before .before) .args .stack .now) (zero-room ((c .before .before .before .before .before .before .before .before .before .before) .pre .1) ((c .before .before .before .head-of) .ensures) (c .before .before .if1 .left) (c .before .zero-power .ensures) (c .if2 .taken)))
+build-returns-2 t c =
+    let before = c .before .before .before .before .before .before .before .before .before .before in
+    zero-gives ((before) .pre .1) ((c .before .before .before .head-of) .ensures) (c .before .before .if1 .left) (c .before .zero-power .ensures) (c .if2 .taken) (λ x. made-one 0 x ((before) .args .stack .now) (zero-room ((before) .pre .1) ((c .before .before .before .head-of) .ensures) (c .before .before .if1 .left) (c .before .zero-power .ensures) (c .if2 .taken)))
 
 build-build-requires : (t : ℕ) → build-lts.Need-build-requires (claims t) (build-at t) build.Post
-build-build-requires t c κs = (omega (arith, (c .before .before .before .before .before .before .before .before .before .before .before .before .before .before) .pre .0, (head-is t (c .before .before .before .before .before .before .before)) .onto .later, (head-is t (c .before .before .before .before .before .before .before)) .onto .inside), first-ready ((c .before .before .before .before .before .before .before .before .before .before .before .before .before .before) .pre .1) ((c .before .before .before .before .before .before .before .head-of) .ensures) (c .before .before .before .before .before .before .if1 .left) (c .before .before .before .before .before .zero-power .ensures) (c .before .before .before .before .if2 .left))
+build-build-requires t c κs =
+    let if2 = c .before .before .before .before .if2 in
+    let zero-power = c .before .before .before .before .before .zero-power in
+    let at-before = c .before .before .before .before .before .before .before in
+    let if1 = c .before .before .before .before .before .before .if1 in
+    let head-of = c .before .before .before .before .before .before .before .head-of in
+    let before = c .before .before .before .before .before .before .before .before .before .before .before .before .before .before in
+    (omega (arith, (before) .pre .0, (head-is t (at-before)) .onto .later, (head-is t (at-before)) .onto .inside), first-ready ((before) .pre .1) ((head-of) .ensures) (if1 .left) (zero-power .ensures) (if2 .left))
 
 build-exponent-at-requires : (t : ℕ) → build-lts.Need-exponent-at-requires (claims t) (build-at t) build.Post
-build-exponent-at-requires t c κs = exponent-stands ((c .before .before .before .before .before .before .before .before .before .before .before .before .before .before .before .before .before .before .before .before .before .before .before .before) .pre .1 .x) ((c .before .before .before .before .before .before .before .before .before .before .before .before .before .before .before .before .before .before .before .before .before .before .before .before) .pre .1 .rest) (is-power t c) ((done t (c .before .before .before .before .before .before .before .before .before)) .inside) ((done t (c .before .before .before .before .before .before .before .before .before)) .behind)
+build-exponent-at-requires t c κs =
+    let at-before = c .before .before .before .before .before .before .before .before .before in
+    let before = c .before .before .before .before .before .before .before .before .before .before .before .before .before .before .before .before .before .before .before .before .before .before .before .before in
+    exponent-stands ((before) .pre .1 .x) ((before) .pre .1 .rest) (is-power t c) ((done t (at-before)) .inside) ((done t (at-before)) .behind)
 
 build-raise-requires : (t : ℕ) → build-lts.Need-raise-requires (claims t) (build-at t) build.Post
-build-raise-requires t c κs = raise-asks (((c .before .before .before .before .before .before .before .before .before .before .before .before .before .before .before .before .before .before .before .before .before .before .before .before .before .before .before .before .before) .pre .1) .proper) ((c .before .before .before .before .before .before .before .before .before .before .before .before .before .before .before .before .before .before .before .before .before .before .before .before .before .before .before .before .before) .pre .1 .x) ((c .before .before .before .before .before .before .before .before .before .before .before .before .before .before .before .before .before .before .before .before .before .before .before .before .before .before .before .before .before) .pre .1 .rest) (is-power t (c .before .before .before .before .before)) (zero-is ((c .before .before .before .before .before .before .before .before .before .before .before .before .before .before .before .before .before .before .before .before .before .before .before .before .before .before .before .before .before) .pre .1) ((c .before .before .before .before .before .before .before .before .before .before .before .before .before .before .before .before .before .before .before .before .before .before .head-of) .ensures) (c .before .before .before .before .before .before .before .before .before .before .before .before .before .before .before .before .before .before .before .before .before .if1 .left) (c .before .before .before .before .before .before .before .before .before .before .before .before .before .before .before .before .before .before .before .before .zero-power .ensures) .no (c .before .before .before .before .before .before .before .before .before .before .before .before .before .before .before .before .before .before .before .if2 .left)) (((c .before .before .before .before .before .before .before .before .before .before .before .before .before .before .before .before .before .before .before .before .before .before .before .before .before .before .before .before .before) .pre .1) .stands) (first t (c .before .before .before .before .before .before .before .before .before .before .before .before .before .before .before .before .before .before .before .before)) (done t (c .before .before .before .before .before .before .before .before .before .before .before .before .before .before)) (c .before .before .before .before .exponent-at .ensures) (omega (arith, ((c .before .before .before .before .before .before .before .before .before .before .before .before .before .before .before .before .before .before .before .before .before .before .before .before .before .before .before .before .before) .pre .1) .room, ((c .before .before .before .before .before .before .before .before .before .before .before .before .before .before .build) .kept .1 .1 .1 .0))) (tables-as ((c .before .before .before .before .before .before .before .before .before .before .before .before .before .before .build) .kept .1 .1 .1 .1 .0) ((c .before .before .before .before .before .before .before .before .before .before .before .before .before .before .build) .kept .1 .1 .1 .1 .1 .0) ((c .before .before .before .before .before .before .before .before .before .before .before .before .before .before .build) .kept .1 .1 .1 .1 .1 .1 .0) (((c .before .before .before .before .before .before .before .before .before .before .before .before .before .before .before .before .before .before .before .before .before .before .before .before .before .before .before .before .before) .pre .1) .tables))
+build-raise-requires t c κs =
+    let at-before = c .before .before .before .before .before in
+    let exponent-at = c .before .before .before .before .exponent-at in
+    let before-4 = c .before .before .before .before .before .before .before .before .before .before .before .before .before .before in
+    let at-build = c .before .before .before .before .before .before .before .before .before .before .before .before .before .before .build in
+    let if2 = c .before .before .before .before .before .before .before .before .before .before .before .before .before .before .before .before .before .before .before .if2 in
+    let before-3 = c .before .before .before .before .before .before .before .before .before .before .before .before .before .before .before .before .before .before .before .before in
+    let zero-power = c .before .before .before .before .before .before .before .before .before .before .before .before .before .before .before .before .before .before .before .before .zero-power in
+    let if1 = c .before .before .before .before .before .before .before .before .before .before .before .before .before .before .before .before .before .before .before .before .before .if1 in
+    let head-of = c .before .before .before .before .before .before .before .before .before .before .before .before .before .before .before .before .before .before .before .before .before .before .head-of in
+    let before = c .before .before .before .before .before .before .before .before .before .before .before .before .before .before .before .before .before .before .before .before .before .before .before .before .before .before .before .before .before in
+    raise-asks (((before) .pre .1) .proper) ((before) .pre .1 .x) ((before) .pre .1 .rest) (is-power t (at-before)) (zero-is ((before) .pre .1) ((head-of) .ensures) (if1 .left) (zero-power .ensures) .no (if2 .left)) (((before) .pre .1) .stands) (first t (before-3)) (done t (before-4)) (exponent-at .ensures) (omega (arith, ((before) .pre .1) .room, ((at-build) .kept .1 .1 .1 .0))) (tables-as ((at-build) .kept .1 .1 .1 .1 .0) ((at-build) .kept .1 .1 .1 .1 .1 .0) ((at-build) .kept .1 .1 .1 .1 .1 .1 .0) (((before) .pre .1) .tables))
 
 build-past-requires : (t : ℕ) → build-lts.Need-past-requires (claims t) (build-at t) build.Post
-build-past-requires t c κs = exponent-inside ((c .before .before .before .before .before .before .before .before .before .before .before .before .before .before .before .before .before .before .before .before .before .before .before .before .before .before .before .before .before .before .before .before .before .before .before .before .before .before) .pre .1 .x) ((c .before .before .before .before .before .before .before .before .before .before .before .before .before .before .before .before .before .before .before .before .before .before .before .before .before .before .before .before .before .before .before .before .before .before .before .before .before .before) .pre .1 .rest) (is-power t (c .before .before .before .before .before .before .before .before .before .before .before .before .before .before)) ((done t (c .before .before .before .before .before .before .before .before .before .before .before .before .before .before .before .before .before .before .before .before .before .before .before)) .behind) (c .before .before .before .before .before .before .before .before .before .before .before .before .before .exponent-at .ensures)
+build-past-requires t c κs =
+    let at-before = c .before .before .before .before .before .before .before .before .before .before .before .before .before .before in
+    let exponent-at = c .before .before .before .before .before .before .before .before .before .before .before .before .before .exponent-at in
+    let before-3 = c .before .before .before .before .before .before .before .before .before .before .before .before .before .before .before .before .before .before .before .before .before .before .before in
+    let before = c .before .before .before .before .before .before .before .before .before .before .before .before .before .before .before .before .before .before .before .before .before .before .before .before .before .before .before .before .before .before .before .before .before .before .before .before .before .before in
+    exponent-inside ((before) .pre .1 .x) ((before) .pre .1 .rest) (is-power t (at-before)) ((done t (before-3)) .behind) (exponent-at .ensures)
 
 build-same-length-3 : (t : ℕ) → build-lts.Need-same-length-3 (claims t) (build-at t) build.Post
-build-same-length-3 t c = c .before .before .before .before .before .before .before .before .before .raise .kept .1 .0 ∙ ((c .before .before .before .before .before .before .before .before .before .before .before .before .before .before .before .before .before .before .before .before .before .before .before .before .build) .kept .1 .1 .1 .0)
+build-same-length-3 t c =
+    let raise = c .before .before .before .before .before .before .before .before .before .raise in
+    let at-build = c .before .before .before .before .before .before .before .before .before .before .before .before .before .before .before .before .before .before .before .before .before .before .before .before .build in
+    raise .kept .1 .0 ∙ ((at-build) .kept .1 .1 .1 .0)
 
 build-same-length-4 : (t : ℕ) → build-lts.Need-same-length-4 (claims t) (build-at t) build.Post
-build-same-length-4 t c = c .before .before .before .before .before .before .before .before .before .raise .kept .1 .1 .1 .1 .0 ∙ ((c .before .before .before .before .before .before .before .before .before .before .before .before .before .before .before .before .before .before .before .before .before .before .before .before .build) .kept .1 .1 .1 .1 .0)
+build-same-length-4 t c =
+    let raise = c .before .before .before .before .before .before .before .before .before .raise in
+    let at-build = c .before .before .before .before .before .before .before .before .before .before .before .before .before .before .before .before .before .before .before .before .before .before .before .before .build in
+    raise .kept .1 .1 .1 .1 .0 ∙ ((at-build) .kept .1 .1 .1 .1 .0)
 
 build-same-length-5 : (t : ℕ) → build-lts.Need-same-length-5 (claims t) (build-at t) build.Post
-build-same-length-5 t c = c .before .before .before .before .before .before .before .before .before .raise .kept .1 .1 .1 .1 .1 .0 ∙ ((c .before .before .before .before .before .before .before .before .before .before .before .before .before .before .before .before .before .before .before .before .before .before .before .before .build) .kept .1 .1 .1 .1 .1 .0)
+build-same-length-5 t c =
+    let raise = c .before .before .before .before .before .before .before .before .before .raise in
+    let at-build = c .before .before .before .before .before .before .before .before .before .before .before .before .before .before .before .before .before .before .before .before .before .before .before .before .build in
+    raise .kept .1 .1 .1 .1 .1 .0 ∙ ((at-build) .kept .1 .1 .1 .1 .1 .0)
 
 build-same-length-6 : (t : ℕ) → build-lts.Need-same-length-6 (claims t) (build-at t) build.Post
-build-same-length-6 t c = c .before .before .before .before .before .before .before .before .before .raise .kept .1 .1 .1 .1 .1 .1 .0 ∙ ((c .before .before .before .before .before .before .before .before .before .before .before .before .before .before .before .before .before .before .before .before .before .before .before .before .build) .kept .1 .1 .1 .1 .1 .1 .0)
+build-same-length-6 t c =
+    let raise = c .before .before .before .before .before .before .before .before .before .raise in
+    let at-build = c .before .before .before .before .before .before .before .before .before .before .before .before .before .before .before .before .before .before .before .before .before .before .before .before .build in
+    raise .kept .1 .1 .1 .1 .1 .1 .0 ∙ ((at-build) .kept .1 .1 .1 .1 .1 .1 .0)
 
 build-returns-3 : (t : ℕ) → build-lts.Need-returns-3 (claims t) (build-at t) build.Post
-build-returns-3 t c = finished (((c .before .before .before .before .before .before .before .before .before .before .before .before .before .before .before .before .before .before .before .before .before .before .before .before .before .before .before .before .before .before .before .before .before .before .before .before .before .before .before) .pre .1) .stands) (raise-gives (((c .before .before .before .before .before .before .before .before .before .before .before .before .before .before .before .before .before .before .before .before .before .before .before .before .before .before .before .before .before .before .before .before .before .before .before .before .before .before .before) .pre .1) .proper) ((c .before .before .before .before .before .before .before .before .before .before .before .before .before .before .before .before .before .before .before .before .before .before .before .before .before .before .before .before .before .before .before .before .before .before .before .before .before .before .before) .pre .1 .x) ((c .before .before .before .before .before .before .before .before .before .before .before .before .before .before .before .before .before .before .before .before .before .before .before .before .before .before .before .before .before .before .before .before .before .before .before .before .before .before .before) .pre .1 .rest) (is-power t (c .before .before .before .before .before .before .before .before .before .before .before .before .before .before .before)) (((c .before .before .before .before .before .before .before .before .before .before .before .before .before .before .before .before .before .before .before .before .before .before .before .before .before .before .before .before .before .before .before .before .before .before .before .before .before .before .before) .pre .1) .stands) (first t (c .before .before .before .before .before .before .before .before .before .before .before .before .before .before .before .before .before .before .before .before .before .before .before .before .before .before .before .before .before .before)) ((head-is t (c .before .before .before .before .before .before .before .before .before .before .before .before .before .before .before .before .before .before .before .before .before .before .before .before .before .before .before .before .before .before .before .before)) .onto .later) (done t (c .before .before .before .before .before .before .before .before .before .before .before .before .before .before .before .before .before .before .before .before .before .before .before .before)) (c .before .before .before .before .before .before .before .before .before .before .before .before .before .before .exponent-at .ensures) (c .before .before .before .before .before .before .before .before .before .raise .ensures) (c .past .ensures))
+build-returns-3 t c =
+    let raise = c .before .before .before .before .before .before .before .before .before .raise in
+    let at-before = c .before .before .before .before .before .before .before .before .before .before .before .before .before .before .before in
+    let exponent-at = c .before .before .before .before .before .before .before .before .before .before .before .before .before .before .exponent-at in
+    let before-5 = c .before .before .before .before .before .before .before .before .before .before .before .before .before .before .before .before .before .before .before .before .before .before .before .before in
+    let before-3 = c .before .before .before .before .before .before .before .before .before .before .before .before .before .before .before .before .before .before .before .before .before .before .before .before .before .before .before .before .before .before in
+    let before-4 = c .before .before .before .before .before .before .before .before .before .before .before .before .before .before .before .before .before .before .before .before .before .before .before .before .before .before .before .before .before .before .before .before in
+    let before = c .before .before .before .before .before .before .before .before .before .before .before .before .before .before .before .before .before .before .before .before .before .before .before .before .before .before .before .before .before .before .before .before .before .before .before .before .before .before .before in
+    finished (((before) .pre .1) .stands) (raise-gives (((before) .pre .1) .proper) ((before) .pre .1 .x) ((before) .pre .1 .rest) (is-power t (at-before)) (((before) .pre .1) .stands) (first t (before-3)) ((head-is t (before-4)) .onto .later) (done t (before-5)) (exponent-at .ensures) (raise .ensures) (c .past .ensures))
 
 build-past-requires-2 : (t : ℕ) → build-lts.Need-past-requires-2 (claims t) (build-at t) build.Post
 build-past-requires-2 t c κs = (done t (c .before .before .before .before .before .before .before .before .before)) .inside
 
 build-negate-front-requires : (t : ℕ) → build-lts.Need-negate-front-requires (claims t) (build-at t) build.Post
-build-negate-front-requires t c κs = ((begins-le ((done t (c .before .before .before .before .before .before .before .before .before .before .before .before .before)) .made), omega (arith, (done t (c .before .before .before .before .before .before .before .before .before .before .before .before .before)) .made .size, few-words (((c .before .before .before .before .before .before .before .before .before .before .before .before .before .before .before .before .before .before .before .before .before .before .before .before .before .before .before .before) .pre .1) .proper) (first t (c .before .before .before .before .before .before .before .before .before .before .before .before .before .before .before .before .before .before .before)), ((c .before .before .before .before .before .before .before .before .before .before .before .before .before .before .before .before .before .before .before .before .before .before .before .before .before .before .before .before) .pre .1) .tables .first, ((c .before .before .before .before .before .before .before .before .before .before .before .before .before .build) .kept .1 .1 .1 .1 .0))), coded (first-codes (((c .before .before .before .before .before .before .before .before .before .before .before .before .before .before .before .before .before .before .before .before .before .before .before .before .before .before .before .before) .pre .1) .proper) (first t (c .before .before .before .before .before .before .before .before .before .before .before .before .before .before .before .before .before .before .before)) (done t (c .before .before .before .before .before .before .before .before .before .before .before .before .before))))
+build-negate-front-requires t c κs =
+    let before = c .before .before .before .before .before .before .before .before .before .before .before .before .before in
+    let at-build = c .before .before .before .before .before .before .before .before .before .before .before .before .before .build in
+    let before-3 = c .before .before .before .before .before .before .before .before .before .before .before .before .before .before .before .before .before .before .before in
+    let at-before = c .before .before .before .before .before .before .before .before .before .before .before .before .before .before .before .before .before .before .before .before .before .before .before .before .before .before .before .before in
+    ((begins-le ((done t (before)) .made), omega (arith, (done t (before)) .made .size, few-words (((at-before) .pre .1) .proper) (first t (before-3)), ((at-before) .pre .1) .tables .first, ((at-build) .kept .1 .1 .1 .1 .0))), coded (first-codes (((at-before) .pre .1) .proper) (first t (before-3)) (done t (before))))
 
 build-same-length-7 : (t : ℕ) → build-lts.Need-same-length-7 (claims t) (build-at t) build.Post
-build-same-length-7 t c = c .before .before .before .before .negate-front .kept .0 ∙ ((c .before .before .before .before .before .before .before .before .before .before .before .before .before .before .before .before .before .before .build) .kept .1 .1 .1 .0)
+build-same-length-7 t c =
+    let negate-front = c .before .before .before .before .negate-front in
+    let at-build = c .before .before .before .before .before .before .before .before .before .before .before .before .before .before .before .before .before .before .build in
+    negate-front .kept .0 ∙ ((at-build) .kept .1 .1 .1 .0)
 
 build-same-length-8 : (t : ℕ) → build-lts.Need-same-length-8 (claims t) (build-at t) build.Post
-build-same-length-8 t c = c .before .before .before .before .negate-front .kept .1 .1 .0 ∙ ((c .before .before .before .before .before .before .before .before .before .before .before .before .before .before .before .before .before .before .build) .kept .1 .1 .1 .1 .0)
+build-same-length-8 t c =
+    let negate-front = c .before .before .before .before .negate-front in
+    let at-build = c .before .before .before .before .before .before .before .before .before .before .before .before .before .before .before .before .before .before .build in
+    negate-front .kept .1 .1 .0 ∙ ((at-build) .kept .1 .1 .1 .1 .0)
 
 build-same-length-9 : (t : ℕ) → build-lts.Need-same-length-9 (claims t) (build-at t) build.Post
-build-same-length-9 t c = ((c .before .before .before .before .before .before .before .before .before .before .before .before .before .before .before .before .before .before .build) .kept .1 .1 .1 .1 .1 .0)
+build-same-length-9 t c =
+    let at-build = c .before .before .before .before .before .before .before .before .before .before .before .before .before .before .before .before .before .before .build in
+    ((at-build) .kept .1 .1 .1 .1 .1 .0)
 
 build-same-length-10 : (t : ℕ) → build-lts.Need-same-length-10 (claims t) (build-at t) build.Post
-build-same-length-10 t c = ((c .before .before .before .before .before .before .before .before .before .before .before .before .before .before .before .before .before .before .build) .kept .1 .1 .1 .1 .1 .1 .0)
+build-same-length-10 t c =
+    let at-build = c .before .before .before .before .before .before .before .before .before .before .before .before .before .before .before .before .before .before .build in
+    ((at-build) .kept .1 .1 .1 .1 .1 .1 .0)
 
 build-returns-4 : (t : ℕ) → build-lts.Need-returns-4 (claims t) (build-at t) build.Post
-build-returns-4 t c = finished (((c .before .before .before .before .before .before .before .before .before .before .before .before .before .before .before .before .before .before .before .before .before .before .before .before .before .before .before .before .before .before .before .before .before) .pre .1) .stands) (negate-gives (((c .before .before .before .before .before .before .before .before .before .before .before .before .before .before .before .before .before .before .before .before .before .before .before .before .before .before .before .before .before .before .before .before .before) .pre .1) .proper) ((c .before .before .before .before .before .before .before .before .before .before .before .before .before .before .before .before .before .before .before .before .before .before .before .before .before .before .before .before .before .before .before .before .before) .pre .1 .x) ((c .before .before .before .before .before .before .before .before .before .before .before .before .before .before .before .before .before .before .before .before .before .before .before .before .before .before .before .before .before .before .before .before .before) .pre .1 .rest) (node t (c .before .before .before .before .before .before .before .before .before .before .before .before .before .before .before .before .before .before .before .before .before .before .before .before .before)) (not-power t (c .before .before .before .before .before .before .before .before .before)) (first t (c .before .before .before .before .before .before .before .before .before .before .before .before .before .before .before .before .before .before .before .before .before .before .before .before)) ((head-is t (c .before .before .before .before .before .before .before .before .before .before .before .before .before .before .before .before .before .before .before .before .before .before .before .before .before .before)) .onto .later) (done t (c .before .before .before .before .before .before .before .before .before .before .before .before .before .before .before .before .before .before)) (c .before .before .before .before .before .before .before .before .past2 .ensures) (c .before .before .before .before .before .before .before .if4 .taken) (c .before .before .before .before .negate-front .ensures))
+build-returns-4 t c =
+    let negate-front = c .before .before .before .before .negate-front in
+    let if4 = c .before .before .before .before .before .before .before .if4 in
+    let before-3 = c .before .before .before .before .before .before .before .before .before in
+    let past2 = c .before .before .before .before .before .before .before .before .past2 in
+    let before-6 = c .before .before .before .before .before .before .before .before .before .before .before .before .before .before .before .before .before .before in
+    let before-4 = c .before .before .before .before .before .before .before .before .before .before .before .before .before .before .before .before .before .before .before .before .before .before .before .before in
+    let at-before = c .before .before .before .before .before .before .before .before .before .before .before .before .before .before .before .before .before .before .before .before .before .before .before .before .before in
+    let before-5 = c .before .before .before .before .before .before .before .before .before .before .before .before .before .before .before .before .before .before .before .before .before .before .before .before .before .before in
+    let before = c .before .before .before .before .before .before .before .before .before .before .before .before .before .before .before .before .before .before .before .before .before .before .before .before .before .before .before .before .before .before .before .before .before in
+    finished (((before) .pre .1) .stands) (negate-gives (((before) .pre .1) .proper) ((before) .pre .1 .x) ((before) .pre .1 .rest) (node t (at-before)) (not-power t (before-3)) (first t (before-4)) ((head-is t (before-5)) .onto .later) (done t (before-6)) (past2 .ensures) (if4 .taken) (negate-front .ensures))
 
 build-mul-build : (t : ℕ) → build-lts.Need-mul-build (claims t) (build-at t) build.Post
-build-mul-build t c = omega (arith, begins-le ((done t (c .before .before .before .before .before .before .before .before .before .before .before)) .made), ((c .before .before .before .before .before .before .before .before .before .before .before .build) .kept .1 .1 .1 .0), (c .before .before .before .before .before .before .before .before .before .before .before .before .before .before .before .before .before .before .before .before .before .before .before .before .before .before) .good .1 .1 .1 .0)
+build-mul-build t c =
+    let before = c .before .before .before .before .before .before .before .before .before .before .before in
+    let at-build = c .before .before .before .before .before .before .before .before .before .before .before .build in
+    let at-before = c .before .before .before .before .before .before .before .before .before .before .before .before .before .before .before .before .before .before .before .before .before .before .before .before .before .before in
+    omega (arith, begins-le ((done t (before)) .made), ((at-build) .kept .1 .1 .1 .0), (at-before) .good .1 .1 .1 .0)
 
 build-sub-build : (t : ℕ) → build-lts.Need-sub-build (claims t) (build-at t) build.Post
-build-sub-build t c = omega (arith, begins-le ((done t (c .before .before .before .before .before .before .before .before .before .before .before)) .made), ((c .before .before .before .before .before .before .before .before .before .before .before .build) .kept .1 .1 .1 .0), (c .before .before .before .before .before .before .before .before .before .before .before .before .before .before .before .before .before .before .before .before .before .before .before .before .before .before) .good .1 .1 .1 .0)
+build-sub-build t c =
+    let before = c .before .before .before .before .before .before .before .before .before .before .before in
+    let at-build = c .before .before .before .before .before .before .before .before .before .before .before .build in
+    let at-before = c .before .before .before .before .before .before .before .before .before .before .before .before .before .before .before .before .before .before .before .before .before .before .before .before .before .before in
+    omega (arith, begins-le ((done t (before)) .made), ((at-build) .kept .1 .1 .1 .0), (at-before) .good .1 .1 .1 .0)
 
 build-part-build-start : (t : ℕ) → build-lts.Need-part-build-start (claims t) (build-at t) build.Post
-build-part-build-start t c = omega (arith, begins-le ((done t (c .before .before .before .before .before .before .before .before .before .before .before)) .made), ((c .before .before .before .before .before .before .before .before .before .before .before .build) .kept .1 .1 .1 .0), (c .before .before .before .before .before .before .before .before .before .before .before .before .before .before .before .before .before .before .before .before .before .before .before .before .before .before) .good .1 .1 .1 .0)
+build-part-build-start t c =
+    let before = c .before .before .before .before .before .before .before .before .before .before .before in
+    let at-build = c .before .before .before .before .before .before .before .before .before .before .before .build in
+    let at-before = c .before .before .before .before .before .before .before .before .before .before .before .before .before .before .before .before .before .before .before .before .before .before .before .before .before .before in
+    omega (arith, begins-le ((done t (before)) .made), ((at-build) .kept .1 .1 .1 .0), (at-before) .good .1 .1 .1 .0)
 
 build-part-build-end : (t : ℕ) → build-lts.Need-part-build-end (claims t) (build-at t) build.Post
-build-part-build-end t c = omega (arith, begins-le ((done t (c .before .before .before .before .before .before .before .before .before .before .before)) .made), ((c .before .before .before .before .before .before .before .before .before .before .before .build) .kept .1 .1 .1 .0), (c .before .before .before .before .before .before .before .before .before .before .before .before .before .before .before .before .before .before .before .before .before .before .before .before .before .before) .good .1 .1 .1 .0)
+build-part-build-end t c =
+    let before = c .before .before .before .before .before .before .before .before .before .before .before in
+    let at-build = c .before .before .before .before .before .before .before .before .before .before .before .build in
+    let at-before = c .before .before .before .before .before .before .before .before .before .before .before .before .before .before .before .before .before .before .before .before .before .before .before .before .before .before in
+    omega (arith, begins-le ((done t (before)) .made), ((at-build) .kept .1 .1 .1 .0), (at-before) .good .1 .1 .1 .0)
 
 build-build-requires-2 : (t : ℕ) → build-lts.Need-build-requires-2 (claims t) (build-at t) build.Post
-build-build-requires-2 t c κs = (omega (arith, (c .before .before .before .before .before .before .before .before .before .before .before .before .before .before .before .before .before .before .before .before .before .before .before .before .before .before .before .before .before .before) .pre .0, (head-is t (c .before .before .before .before .before .before .before .before .before .before .before .before .before .before .before .before .before .before .before .before .before .before .before)) .onto .later, (done t (c .before .before .before .before .before .before .before .before .before .before .before .before .before .before .before)) .later, (done t (c .before .before .before .before .before .before .before .before .before .before .before .before .before .before .before)) .inside), ready-as (sym (length-tail-part ((c .before .before .before .before .before .before .before .before .before .before .before .before .before .before .before .build) .result .words) ((c .before .before .before .before .before .before .before .before .before .before .before .before .before .before .before .build) .last .1 .1 .1 .0))) refl refl refl (second-ready (((c .before .before .before .before .before .before .before .before .before .before .before .before .before .before .before .before .before .before .before .before .before .before .before .before .before .before .before .before .before .before) .pre .1) .proper) ((c .before .before .before .before .before .before .before .before .before .before .before .before .before .before .before .before .before .before .before .before .before .before .before .before .before .before .before .before .before .before) .pre .1 .x) ((c .before .before .before .before .before .before .before .before .before .before .before .before .before .before .before .before .before .before .before .before .before .before .before .before .before .before .before .before .before .before) .pre .1 .rest) (node t (c .before .before .before .before .before .before .before .before .before .before .before .before .before .before .before .before .before .before .before .before .before .before)) (not-power t (c .before .before .before .before .before .before)) (((c .before .before .before .before .before .before .before .before .before .before .before .before .before .before .before .before .before .before .before .before .before .before .before .before .before .before .before .before .before .before) .pre .1) .stands) (done t (c .before .before .before .before .before .before .before .before .before .before .before .before .before .before .before)) (no-close t (c .before .before .before .before)) (omega (arith, ((c .before .before .before .before .before .before .before .before .before .before .before .before .before .before .before .before .before .before .before .before .before .before .before .before .before .before .before .before .before .before) .pre .1) .room, ((c .before .before .before .before .before .before .before .before .before .before .before .before .before .before .before .build) .kept .1 .1 .1 .0))) (tables-as ((c .before .before .before .before .before .before .before .before .before .before .before .before .before .before .before .build) .kept .1 .1 .1 .1 .0) ((c .before .before .before .before .before .before .before .before .before .before .before .before .before .before .before .build) .kept .1 .1 .1 .1 .1 .0) ((c .before .before .before .before .before .before .before .before .before .before .before .before .before .before .before .build) .kept .1 .1 .1 .1 .1 .1 .0) (((c .before .before .before .before .before .before .before .before .before .before .before .before .before .before .before .before .before .before .before .before .before .before .before .before .before .before .before .before .before .before) .pre .1) .tables))))
+build-build-requires-2 t c κs =
+    let before-5 = c .before .before .before .before .before .before in
+    let before-3 = c .before .before .before .before .before .before .before .before .before .before .before .before .before .before .before in
+    let at-build = c .before .before .before .before .before .before .before .before .before .before .before .before .before .before .before .build in
+    let before-4 = c .before .before .before .before .before .before .before .before .before .before .before .before .before .before .before .before .before .before .before .before .before .before in
+    let at-before = c .before .before .before .before .before .before .before .before .before .before .before .before .before .before .before .before .before .before .before .before .before .before .before in
+    let before = c .before .before .before .before .before .before .before .before .before .before .before .before .before .before .before .before .before .before .before .before .before .before .before .before .before .before .before .before .before .before in
+    (omega (arith, (before) .pre .0, (head-is t (at-before)) .onto .later, (done t (before-3)) .later, (done t (before-3)) .inside), ready-as (sym (length-tail-part ((at-build) .result .words) ((at-build) .last .1 .1 .1 .0))) refl refl refl (second-ready (((before) .pre .1) .proper) ((before) .pre .1 .x) ((before) .pre .1 .rest) (node t (before-4)) (not-power t (before-5)) (((before) .pre .1) .stands) (done t (before-3)) (no-close t (c .before .before .before .before)) (omega (arith, ((before) .pre .1) .room, ((at-build) .kept .1 .1 .1 .0))) (tables-as ((at-build) .kept .1 .1 .1 .1 .0) ((at-build) .kept .1 .1 .1 .1 .1 .0) ((at-build) .kept .1 .1 .1 .1 .1 .1 .0) (((before) .pre .1) .tables))))
 
 build-combine-requires : (t : ℕ) → build-lts.Need-combine-requires (claims t) (build-at t) build.Post
-build-combine-requires t c κs = ((both-at t (c .before .before .before .before .before .before .before .before .before .before .before)) .pair, both-combining (both-at t (c .before .before .before .before .before .before .before .before .before .before .before)) (combining (((c .before .before .before .before .before .before .before .before .before .before .before .before .before .before .before .before .before .before .before .before .before .before .before .before .before .before .before .before .before .before .before .before .before .before .before .before .before .before .before .before .before .before .before) .pre .1) .proper) ((c .before .before .before .before .before .before .before .before .before .before .before .before .before .before .before .before .before .before .before .before .before .before .before .before .before .before .before .before .before .before .before .before .before .before .before .before .before .before .before .before .before .before .before) .pre .1 .x) ((c .before .before .before .before .before .before .before .before .before .before .before .before .before .before .before .before .before .before .before .before .before .before .before .before .before .before .before .before .before .before .before .before .before .before .before .before .before .before .before .before .before .before .before) .pre .1 .rest) ((head-is t (c .before .before .before .before .before .before .before .before .before .before .before .before .before .before .before .before .before .before .before .before .before .before .before .before .before .before .before .before .before .before .before .before .before .before .before .before)) .is-kind) (node t (c .before .before .before .before .before .before .before .before .before .before .before .before .before .before .before .before .before .before .before .before .before .before .before .before .before .before .before .before .before .before .before .before .before .before .before)) (not-power t (c .before .before .before .before .before .before .before .before .before .before .before .before .before .before .before .before .before .before .before)) (((c .before .before .before .before .before .before .before .before .before .before .before .before .before .before .before .before .before .before .before .before .before .before .before .before .before .before .before .before .before .before .before .before .before .before .before .before .before .before .before .before .before .before .before) .pre .1) .stands) (first t (c .before .before .before .before .before .before .before .before .before .before .before .before .before .before .before .before .before .before .before .before .before .before .before .before .before .before .before .before .before .before .before .before .before .before)) (second t (c .before .before .before .before .before .before .before .before .before .before .before .before .before .before .before .before .before)) ((done t (c .before .before .before .before .before .before .before .before .before .before .before .before .before .before .before .before .before .before .before .before .before .before .before .before .before .before .before .before)) .made .size) ((done-2 t (c .before .before .before .before .before .before .before .before .before .before .before .before)) .made .size) (omega (arith, ((c .before .before .before .before .before .before .before .before .before .before .before .before .before .before .before .before .before .before .before .before .before .before .before .before .before .before .before .before .before .before .before .before .before .before .before .before .before .before .before .before .before .before .before) .pre .1) .room, ((c .before .before .before .before .before .before .before .before .before .before .before .before .before .before .before .before .before .before .before .before .before .before .before .before .before .before .before .before .build) .kept .1 .1 .1 .0), (c .before .before .before .before .before .before .before .before .before .before .before .stack5 .given .1))) (tables-as ((c .before .before .before .before .before .before .before .before .before .before .before .before .build2) .kept .1 .1 .1 .1 .0 ∙ ((c .before .before .before .before .before .before .before .before .before .before .before .before .before .before .before .before .before .before .before .before .before .before .before .before .before .before .before .before .build) .kept .1 .1 .1 .1 .0)) ((c .before .before .before .before .before .before .before .before .before .before .before .before .build2) .kept .1 .1 .1 .1 .1 .0 ∙ ((c .before .before .before .before .before .before .before .before .before .before .before .before .before .before .before .before .before .before .before .before .before .before .before .before .before .before .before .before .build) .kept .1 .1 .1 .1 .1 .0)) ((c .before .before .before .before .before .before .before .before .before .before .before .before .build2) .kept .1 .1 .1 .1 .1 .1 .0 ∙ ((c .before .before .before .before .before .before .before .before .before .before .before .before .before .before .before .before .before .before .before .before .before .before .before .before .before .before .before .before .build) .kept .1 .1 .1 .1 .1 .1 .0)) (((c .before .before .before .before .before .before .before .before .before .before .before .before .before .before .before .before .before .before .before .before .before .before .before .before .before .before .before .before .before .before .before .before .before .before .before .before .before .before .before .before .before .before .before) .pre .1) .tables))))
+build-combine-requires t c κs =
+    let before = c .before .before .before .before .before .before .before .before .before .before .before in
+    let before-9 = c .before .before .before .before .before .before .before .before .before .before .before .before in
+    let stack5 = c .before .before .before .before .before .before .before .before .before .before .before .stack5 in
+    let build2 = c .before .before .before .before .before .before .before .before .before .before .before .before .build2 in
+    let before-7 = c .before .before .before .before .before .before .before .before .before .before .before .before .before .before .before .before .before in
+    let before-5 = c .before .before .before .before .before .before .before .before .before .before .before .before .before .before .before .before .before .before .before in
+    let before-8 = c .before .before .before .before .before .before .before .before .before .before .before .before .before .before .before .before .before .before .before .before .before .before .before .before .before .before .before .before in
+    let at-build = c .before .before .before .before .before .before .before .before .before .before .before .before .before .before .before .before .before .before .before .before .before .before .before .before .before .before .before .before .build in
+    let before-6 = c .before .before .before .before .before .before .before .before .before .before .before .before .before .before .before .before .before .before .before .before .before .before .before .before .before .before .before .before .before .before .before .before .before .before in
+    let before-4 = c .before .before .before .before .before .before .before .before .before .before .before .before .before .before .before .before .before .before .before .before .before .before .before .before .before .before .before .before .before .before .before .before .before .before .before in
+    let before-3 = c .before .before .before .before .before .before .before .before .before .before .before .before .before .before .before .before .before .before .before .before .before .before .before .before .before .before .before .before .before .before .before .before .before .before .before .before in
+    let at-before = c .before .before .before .before .before .before .before .before .before .before .before .before .before .before .before .before .before .before .before .before .before .before .before .before .before .before .before .before .before .before .before .before .before .before .before .before .before .before .before .before .before .before .before in
+    ((both-at t (before)) .pair, both-combining (both-at t (before)) (combining (((at-before) .pre .1) .proper) ((at-before) .pre .1 .x) ((at-before) .pre .1 .rest) ((head-is t (before-3)) .is-kind) (node t (before-4)) (not-power t (before-5)) (((at-before) .pre .1) .stands) (first t (before-6)) (second t (before-7)) ((done t (before-8)) .made .size) ((done-2 t (before-9)) .made .size) (omega (arith, ((at-before) .pre .1) .room, ((at-build) .kept .1 .1 .1 .0), (stack5 .given .1))) (tables-as ((build2) .kept .1 .1 .1 .1 .0 ∙ ((at-build) .kept .1 .1 .1 .1 .0)) ((build2) .kept .1 .1 .1 .1 .1 .0 ∙ ((at-build) .kept .1 .1 .1 .1 .1 .0)) ((build2) .kept .1 .1 .1 .1 .1 .1 .0 ∙ ((at-build) .kept .1 .1 .1 .1 .1 .1 .0)) (((at-before) .pre .1) .tables))))
 
 build-past-requires-3 : (t : ℕ) → build-lts.Need-past-requires-3 (claims t) (build-at t) build.Post
-build-past-requires-3 t c κs = (done-2 t (c .before .before .before .before .before .before .before .before .before .before .before .before .before .before .before .before .before .before .before .before .before)) .inside
+build-past-requires-3 t c κs =
+    let before = c .before .before .before .before .before .before .before .before .before .before .before .before .before .before .before .before .before .before .before .before .before in
+    (done-2 t (before)) .inside
 
 build-same-length-11 : (t : ℕ) → build-lts.Need-same-length-11 (claims t) (build-at t) build.Post
-build-same-length-11 t c = c .before .before .before .before .before .before .before .before .before .combine .kept .1 .0 ∙ (c .before .before .before .before .before .before .before .before .before .before .before .before .before .before .before .before .before .before .before .before .before .stack5 .given .1) ∙ ((c .before .before .before .before .before .before .before .before .before .before .before .before .before .before .before .before .before .before .before .before .before .before .before .before .before .before .before .before .before .before .before .before .before .before .before .before .before .before .build) .kept .1 .1 .1 .0)
+build-same-length-11 t c =
+    let combine = c .before .before .before .before .before .before .before .before .before .combine in
+    let stack5 = c .before .before .before .before .before .before .before .before .before .before .before .before .before .before .before .before .before .before .before .before .before .stack5 in
+    let at-build = c .before .before .before .before .before .before .before .before .before .before .before .before .before .before .before .before .before .before .before .before .before .before .before .before .before .before .before .before .before .before .before .before .before .before .before .before .before .before .build in
+    combine .kept .1 .0 ∙ (stack5 .given .1) ∙ ((at-build) .kept .1 .1 .1 .0)
 
 build-same-length-12 : (t : ℕ) → build-lts.Need-same-length-12 (claims t) (build-at t) build.Post
-build-same-length-12 t c = c .before .before .before .before .before .before .before .before .before .combine .kept .1 .1 .1 .1 .0 ∙ ((c .before .before .before .before .before .before .before .before .before .before .before .before .before .before .before .before .before .before .before .before .before .before .build2) .kept .1 .1 .1 .1 .0 ∙ ((c .before .before .before .before .before .before .before .before .before .before .before .before .before .before .before .before .before .before .before .before .before .before .before .before .before .before .before .before .before .before .before .before .before .before .before .before .before .before .build) .kept .1 .1 .1 .1 .0))
+build-same-length-12 t c =
+    let combine = c .before .before .before .before .before .before .before .before .before .combine in
+    let build2 = c .before .before .before .before .before .before .before .before .before .before .before .before .before .before .before .before .before .before .before .before .before .before .build2 in
+    let at-build = c .before .before .before .before .before .before .before .before .before .before .before .before .before .before .before .before .before .before .before .before .before .before .before .before .before .before .before .before .before .before .before .before .before .before .before .before .before .before .build in
+    combine .kept .1 .1 .1 .1 .0 ∙ ((build2) .kept .1 .1 .1 .1 .0 ∙ ((at-build) .kept .1 .1 .1 .1 .0))
 
 build-same-length-13 : (t : ℕ) → build-lts.Need-same-length-13 (claims t) (build-at t) build.Post
-build-same-length-13 t c = c .before .before .before .before .before .before .before .before .before .combine .kept .1 .1 .1 .1 .1 .0 ∙ ((c .before .before .before .before .before .before .before .before .before .before .before .before .before .before .before .before .before .before .before .before .before .before .build2) .kept .1 .1 .1 .1 .1 .0 ∙ ((c .before .before .before .before .before .before .before .before .before .before .before .before .before .before .before .before .before .before .before .before .before .before .before .before .before .before .before .before .before .before .before .before .before .before .before .before .before .before .build) .kept .1 .1 .1 .1 .1 .0))
+build-same-length-13 t c =
+    let combine = c .before .before .before .before .before .before .before .before .before .combine in
+    let build2 = c .before .before .before .before .before .before .before .before .before .before .before .before .before .before .before .before .before .before .before .before .before .before .build2 in
+    let at-build = c .before .before .before .before .before .before .before .before .before .before .before .before .before .before .before .before .before .before .before .before .before .before .before .before .before .before .before .before .before .before .before .before .before .before .before .before .before .before .build in
+    combine .kept .1 .1 .1 .1 .1 .0 ∙ ((build2) .kept .1 .1 .1 .1 .1 .0 ∙ ((at-build) .kept .1 .1 .1 .1 .1 .0))
 
 build-same-length-14 : (t : ℕ) → build-lts.Need-same-length-14 (claims t) (build-at t) build.Post
-build-same-length-14 t c = c .before .before .before .before .before .before .before .before .before .combine .kept .1 .1 .1 .1 .1 .1 .0 ∙ ((c .before .before .before .before .before .before .before .before .before .before .before .before .before .before .before .before .before .before .before .before .before .before .build2) .kept .1 .1 .1 .1 .1 .1 .0 ∙ ((c .before .before .before .before .before .before .before .before .before .before .before .before .before .before .before .before .before .before .before .before .before .before .before .before .before .before .before .before .before .before .before .before .before .before .before .before .before .before .build) .kept .1 .1 .1 .1 .1 .1 .0))
+build-same-length-14 t c =
+    let combine = c .before .before .before .before .before .before .before .before .before .combine in
+    let build2 = c .before .before .before .before .before .before .before .before .before .before .before .before .before .before .before .before .before .before .before .before .before .before .build2 in
+    let at-build = c .before .before .before .before .before .before .before .before .before .before .before .before .before .before .before .before .before .before .before .before .before .before .before .before .before .before .before .before .before .before .before .before .before .before .before .before .before .before .build in
+    combine .kept .1 .1 .1 .1 .1 .1 .0 ∙ ((build2) .kept .1 .1 .1 .1 .1 .1 .0 ∙ ((at-build) .kept .1 .1 .1 .1 .1 .1 .0))
 
 build-returns-5 : (t : ℕ) → build-lts.Need-returns-5 (claims t) (build-at t) build.Post
-build-returns-5 t c = finished (((c .before .before .before .before .before .before .before .before .before .before .before .before .before .before .before .before .before .before .before .before .before .before .before .before .before .before .before .before .before .before .before .before .before .before .before .before .before .before .before .before .before .before .before .before .before .before .before .before .before .before .before .before .before) .pre .1) .stands) (combine-gives ((c .before .before .before .before .before .before .before .before .before .before .before .before .before .before .before .before .before .before .before .before .before .before .before .before .before .before .before .before .before .before .before .before .before .before .before .before .before .before .before .before .before .before .before .before .before .before .before .before .before .before .before .before .before) .pre .1 .x) ((c .before .before .before .before .before .before .before .before .before .before .before .before .before .before .before .before .before .before .before .before .before .before .before .before .before .before .before .before .before .before .before .before .before .before .before .before .before .before .before .before .before .before .before .before .before .before .before .before .before .before .before .before .before) .pre .1 .rest) ((head-is t (c .before .before .before .before .before .before .before .before .before .before .before .before .before .before .before .before .before .before .before .before .before .before .before .before .before .before .before .before .before .before .before .before .before .before .before .before .before .before .before .before .before .before .before .before .before .before)) .is-kind) (node t (c .before .before .before .before .before .before .before .before .before .before .before .before .before .before .before .before .before .before .before .before .before .before .before .before .before .before .before .before .before .before .before .before .before .before .before .before .before .before .before .before .before .before .before .before .before)) (not-power t (c .before .before .before .before .before .before .before .before .before .before .before .before .before .before .before .before .before .before .before .before .before .before .before .before .before .before .before .before .before)) ((head-is t (c .before .before .before .before .before .before .before .before .before .before .before .before .before .before .before .before .before .before .before .before .before .before .before .before .before .before .before .before .before .before .before .before .before .before .before .before .before .before .before .before .before .before .before .before .before .before)) .onto .later) (done t (c .before .before .before .before .before .before .before .before .before .before .before .before .before .before .before .before .before .before .before .before .before .before .before .before .before .before .before .before .before .before .before .before .before .before .before .before .before .before)) (no-close t (c .before .before .before .before .before .before .before .before .before .before .before .before .before .before .before .before .before .before .before .before .before .before .before .before .before .before .before)) (done-2 t (c .before .before .before .before .before .before .before .before .before .before .before .before .before .before .before .before .before .before .before .before .before .before)) (both-made (both-at t (c .before .before .before .before .before .before .before .before .before .before .before .before .before .before .before .before .before .before .before .before .before)) ((c .before .before .before .before .before .before .before .before .before .before .before .before .before .before .before .before .before .before .before .before .before .before .before .before .before .before .before .before .before .before .before .before .before .before .before .before .before .before .before .before .before .before .before .before .before .before .head-of) .result .kind) (c .before .before .before .before .before .before .before .before .before .combine .ensures)) (c .past3 .ensures))
+build-returns-5 t c =
+    let combine = c .before .before .before .before .before .before .before .before .before .combine in
+    let before-8 = c .before .before .before .before .before .before .before .before .before .before .before .before .before .before .before .before .before .before .before .before .before in
+    let before-7 = c .before .before .before .before .before .before .before .before .before .before .before .before .before .before .before .before .before .before .before .before .before .before in
+    let before-6 = c .before .before .before .before .before .before .before .before .before .before .before .before .before .before .before .before .before .before .before .before .before .before .before .before .before .before .before in
+    let before-4 = c .before .before .before .before .before .before .before .before .before .before .before .before .before .before .before .before .before .before .before .before .before .before .before .before .before .before .before .before .before in
+    let before-5 = c .before .before .before .before .before .before .before .before .before .before .before .before .before .before .before .before .before .before .before .before .before .before .before .before .before .before .before .before .before .before .before .before .before .before .before .before .before .before in
+    let before-3 = c .before .before .before .before .before .before .before .before .before .before .before .before .before .before .before .before .before .before .before .before .before .before .before .before .before .before .before .before .before .before .before .before .before .before .before .before .before .before .before .before .before .before .before .before .before in
+    let at-before = c .before .before .before .before .before .before .before .before .before .before .before .before .before .before .before .before .before .before .before .before .before .before .before .before .before .before .before .before .before .before .before .before .before .before .before .before .before .before .before .before .before .before .before .before .before .before in
+    let head-of = c .before .before .before .before .before .before .before .before .before .before .before .before .before .before .before .before .before .before .before .before .before .before .before .before .before .before .before .before .before .before .before .before .before .before .before .before .before .before .before .before .before .before .before .before .before .before .head-of in
+    let before = c .before .before .before .before .before .before .before .before .before .before .before .before .before .before .before .before .before .before .before .before .before .before .before .before .before .before .before .before .before .before .before .before .before .before .before .before .before .before .before .before .before .before .before .before .before .before .before .before .before .before .before .before .before in
+    finished (((before) .pre .1) .stands) (combine-gives ((before) .pre .1 .x) ((before) .pre .1 .rest) ((head-is t (at-before)) .is-kind) (node t (before-3)) (not-power t (before-4)) ((head-is t (at-before)) .onto .later) (done t (before-5)) (no-close t (before-6)) (done-2 t (before-7)) (both-made (both-at t (before-8)) ((head-of) .result .kind) (combine .ensures)) (c .past3 .ensures))
 
 pub +build-spec : {M : Type 1} → statement M
 +build-spec = close μ-build λ t. build-lts.spec (claims t) (build-at t)

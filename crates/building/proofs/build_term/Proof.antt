@@ -6,7 +6,9 @@ use Rattle.building.proofs.build_term.Statement.{statement}
 use Rattle.building.proofs.build_term.Tie as tie
 
 build-requires : tie.Need-build-requires
-build-requires c κs = given-ready (c .before .before .before .before .before .before .before .before .before .before .pre .0) (c .before .before .before .before .before .before .before .before .before .before .pre .1)
+build-requires c κs =
+    let start = c .before .before .before .before .before .before .before .before .before .before in
+    given-ready (start .pre .0) (start .pre .1)
 
 same-length : tie.Need-same-length
 same-length c = search needs

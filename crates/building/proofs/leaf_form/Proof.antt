@@ -20,16 +20,26 @@ index-in-requires : tie.Need-index-in-requires
 index-in-requires c κs = search needs
 
 cast-letter : tie.Need-cast-letter
-cast-letter c = omega (arith, c .index-in .ensures, letter-index (c .before .before .before .before .before .before .before .before .pre) (sym (c .before .before .before .is-capital .ensures) ∙ c .before .before .if1 .taken))
+cast-letter c =
+    let start = c .before .before .before .before .before .before .before .before in
+    omega (arith, c .index-in .ensures, letter-index (start .pre) (sym (c .before .before .before .is-capital .ensures) ∙ c .before .before .if1 .taken))
 
 letter-requires : tie.Need-letter-requires
-letter-requires c κs = (omega (arith, c .before .index-in .ensures, letter-index (c .before .before .before .before .before .before .before .before .before .pre) (sym (c .before .before .before .before .is-capital .ensures) ∙ c .before .before .before .if1 .taken)), c .before .before .before .before .before .before .before .before .before .pre .room)
+letter-requires c κs =
+    let is-capital = c .before .before .before .before .is-capital in
+    let start = c .before .before .before .before .before .before .before .before .before in
+    (omega (arith, c .before .index-in .ensures, letter-index (start .pre) (sym (is-capital .ensures) ∙ c .before .before .before .if1 .taken)), start .pre .room)
 
 same-length : tie.Need-same-length
 same-length c = search needs
 
 returns : tie.Need-returns
-returns c = letter-made (c .before .before .before .before .before .before .before .before .before .before .before .before .pre) _ _ _ (sym (c .before .before .before .before .before .before .before .is-capital .ensures) ∙ c .before .before .before .before .before .before .if1 .taken) (c .before .before .before .before .index-in .ensures) (c .before .before .letter .ensures)
+returns c =
+    let index-in = c .before .before .before .before .index-in in
+    let if1 = c .before .before .before .before .before .before .if1 in
+    let is-capital = c .before .before .before .before .before .before .before .is-capital in
+    let start = c .before .before .before .before .before .before .before .before .before .before .before .before in
+    letter-made (start .pre) _ _ _ (sym (is-capital .ensures) ∙ if1 .taken) (index-in .ensures) (c .before .before .letter .ensures)
 
 residue-requires : tie.Need-residue-requires
 residue-requires c κs = leaf-integer (c .before .before .before .before .before .before .pre) (sym (c .before .is-capital .ensures) ∙ c .if1 .left)
@@ -41,7 +51,12 @@ same-length-2 : tie.Need-same-length-2
 same-length-2 c = search needs
 
 returns-2 : tie.Need-returns-2
-returns-2 c = integer-made (c .before .before .before .before .before .before .before .before .before .before .before .pre) _ _ _ (sym (c .before .before .before .before .before .before .is-capital .ensures) ∙ c .before .before .before .before .before .if1 .left) (c .before .before .before .before .residue .ensures .1) (c .before .before .integer .ensures)
+returns-2 c =
+    let residue = c .before .before .before .before .residue in
+    let if1 = c .before .before .before .before .before .if1 in
+    let is-capital = c .before .before .before .before .before .before .is-capital in
+    let start = c .before .before .before .before .before .before .before .before .before .before .before in
+    integer-made (start .pre) _ _ _ (sym (is-capital .ensures) ∙ if1 .left) (residue .ensures .1) (c .before .before .integer .ensures)
 
 pub leaf-form-spec : {M : Type 1} → statement M
 leaf-form-spec =

@@ -24,13 +24,17 @@ part-cut-value-end : tie.Need-part-cut-value-end
 part-cut-value-end c = search needs
 
 cut-value-requires : tie.Need-cut-value-requires
-cut-value-requires c κs = ap (all digit) (tail-part 1 (c .before .before .before .before .args .w .now)) ∙ below-digits (c .before .before .before .before .pre) (c .before .if1 .taken)
+cut-value-requires c κs =
+    let start = c .before .before .before .before in
+    ap (all digit) (tail-part 1 (start .args .w .now)) ∙ below-digits (start .pre) (c .before .if1 .taken)
 
 sub-result : tie.Need-sub-result
 sub-result c = search needs
 
 returns : tie.Need-returns
-returns c = residue-below (c .before .before .before .before .before .pre) _ (c .before .before .if1 .taken) (c .cut-value .ensures ∙ ap (λ l. min (valueFrom 0 l) 1073741823) (tail-part 1 (c .before .before .before .before .before .args .w .now)))
+returns c =
+    let start = c .before .before .before .before .before in
+    residue-below (start .pre) _ (c .before .before .if1 .taken) (c .cut-value .ensures ∙ ap (λ l. min (valueFrom 0 l) 1073741823) (tail-part 1 (start .args .w .now)))
 
 cut-value-requires-2 : tie.Need-cut-value-requires-2
 cut-value-requires-2 c κs = natural-digits (c .before .before .before .pre) (c .if1 .left)

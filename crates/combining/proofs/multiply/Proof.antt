@@ -15,7 +15,9 @@ use Rattle.combining.proofs.multiply.Statement.{statement}
 use Rattle.combining.proofs.multiply.Tie as tie
 
 made : (c : tie.After-product-parts) → Begins (c .product-parts .result) (enc 0 (prodOf 0 (left (c .before .before .before .before .before .before .before .before .before .args .a) (c .before .before .before .before .before .before .before .before .before .args .stack .now)) (right (c .before .before .before .before .before .before .before .before .before .args .a) (c .before .before .before .before .before .before .before .before .before .args .b) (c .before .before .before .before .before .before .before .before .before .args .stack .now)))) (c .product-parts .last .1 .1 .0)
-made c = begins-as (c .product-parts .ensures) (both-product (c .before .before .before .before .before .before .before .before .before .args .a) (c .before .before .before .before .before .before .before .before .before .args .b) (c .before .before .before .before .before .before .before .before .before .args .stack .now))
+made c =
+    let start = c .before .before .before .before .before .before .before .before .before in
+    begins-as (c .product-parts .ensures) (both-product (start .args .a) (start .args .b) (start .args .stack .now))
 
 add-e : tie.Need-add-e
 add-e c = search needs
@@ -27,16 +29,25 @@ slice-aggregate-product-parts : tie.Need-slice-aggregate-product-parts
 slice-aggregate-product-parts c = sym (both-length (c .before .before .before .before .before .pre .0))
 
 product-parts-requires : tie.Need-product-parts-requires
-product-parts-requires c κs = (omega (arith, both-length (c .before .before .before .before .before .before .before .before .pre .0)), (both-coded (c .before .before .before .before .before .before .before .before .pre .0), both-space (c .before .before .before .before .before .before .before .before .args .a) (c .before .before .before .before .before .before .before .before .args .b) (c .before .before .before .before .before .before .before .before .args .stack .now) (c .before .before .before .before .before .before .before .before .pre .1 .0)))
+product-parts-requires c κs =
+    let start = c .before .before .before .before .before .before .before .before in
+    (omega (arith, both-length (start .pre .0)), (both-coded (start .pre .0), both-space (start .args .a) (start .args .b) (start .args .stack .now) (start .pre .1 .0)))
 
 slice-reshare-prefix-copy : tie.Need-slice-reshare-prefix-copy
 slice-reshare-prefix-copy c = begins-le (made (c .before .before .before .before .before .before))
 
 slice-aggregate-copy : tie.Need-slice-aggregate-copy
-slice-aggregate-copy c = sym (length-take-le (c .before .before .before .before .before .before .before .product-parts .result) (c .before .before .before .before .before .before .before .product-parts .last .1 .1 .0) (begins-le (made (c .before .before .before .before .before .before .before))))
+slice-aggregate-copy c =
+    let before = c .before .before .before .before .before .before .before in
+    let product-parts = c .before .before .before .before .before .before .before .product-parts in
+    sym (length-take-le (product-parts .result) (product-parts .last .1 .1 .0) (begins-le (made (before))))
 
 copy-requires : tie.Need-copy-requires
-copy-requires c κs = omega (arith, length-take-le (c .before .before .before .before .before .before .before .before .product-parts .result) (c .before .before .before .before .before .before .before .before .product-parts .last .1 .1 .0) (begins-le (made (c .before .before .before .before .before .before .before .before))), made (c .before .before .before .before .before .before .before .before) .size, c .before .before .before .before .before .before .before .before .before .before .before .before .before .before .before .before .before .pre .1 .1)
+copy-requires c κs =
+    let before = c .before .before .before .before .before .before .before .before in
+    let product-parts = c .before .before .before .before .before .before .before .before .product-parts in
+    let start = c .before .before .before .before .before .before .before .before .before .before .before .before .before .before .before .before .before in
+    omega (arith, length-take-le (product-parts .result) (product-parts .last .1 .1 .0) (begins-le (made (before))), made (before) .size, start .pre .1 .1)
 
 same-length : tie.Need-same-length
 same-length c = search needs
@@ -51,7 +62,11 @@ same-length-4 : tie.Need-same-length-4
 same-length-4 c = search needs
 
 returns : tie.Need-returns
-returns c = copied-front (drop (length (take (c .before .before .before .before .before .before .before .before .before .before .before .product-parts .result) (c .before .before .before .before .before .before .before .before .before .before .before .product-parts .last .1 .1 .0))) (c .before .before .before .before .before .before .before .before .before .before .before .before .before .before .before .before .before .before .before .before .args .stack .now)) (made (c .before .before .before .before .before .before .before .before .before .before .before)) (c .before .before .copy .ensures)
+returns c =
+    let before = c .before .before .before .before .before .before .before .before .before .before .before in
+    let product-parts = c .before .before .before .before .before .before .before .before .before .before .before .product-parts in
+    let start = c .before .before .before .before .before .before .before .before .before .before .before .before .before .before .before .before .before .before .before .before in
+    copied-front (drop (length (take (product-parts .result) (product-parts .last .1 .1 .0))) (start .args .stack .now)) (made (before)) (c .before .before .copy .ensures)
 
 pub multiply-spec : {M : Type 1} → statement M
 multiply-spec =

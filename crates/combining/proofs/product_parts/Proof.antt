@@ -13,7 +13,9 @@ use Rattle.combining.proofs.product_parts.Statement.{statement}
 use Rattle.combining.proofs.product_parts.Tie as tie
 
 slice-aggregate-product : tie.Need-slice-aggregate-product
-slice-aggregate-product c = sym (length-take-le (c .before .before .before .before .before .args .n) (c .before .before .before .before .before .args .s .now) (c .before .before .before .before .before .pre .0))
+slice-aggregate-product c =
+    let start = c .before .before .before .before .before in
+    sym (length-take-le (start .args .n) (start .args .s .now) (start .pre .0))
 
 mul-product : tie.Need-mul-product
 mul-product c = search needs
@@ -28,7 +30,9 @@ part-product-end : tie.Need-part-product-end
 part-product-end c = search needs
 
 product-requires : tie.Need-product-requires
-product-requires c κs = ((c .before .before .before .before .before .before .before .before .before .pre .1 .0 .0, subst (Coded 0) (sym (tail-part (c .before .before .before .before .before .before .before .before .before .args .n) (c .before .before .before .before .before .before .before .before .before .args .s .now))) (c .before .before .before .before .before .before .before .before .before .pre .1 .0 .1)), subst (λ l. Space 0 (dec 0 (take (c .before .before .before .before .before .before .before .before .before .args .n) (c .before .before .before .before .before .before .before .before .before .args .s .now))) (dec 0 l) (length (c .before .before .before .before .before .before .before .before .before .args .out .now)) (length (c .before .before .before .before .before .before .before .before .before .args .t .now)) (length (c .before .before .before .before .before .before .before .before .before .args .u .now))) (sym (tail-part (c .before .before .before .before .before .before .before .before .before .args .n) (c .before .before .before .before .before .before .before .before .before .args .s .now))) (c .before .before .before .before .before .before .before .before .before .pre .1 .1))
+product-requires c κs =
+    let start = c .before .before .before .before .before .before .before .before .before in
+    ((start .pre .1 .0 .0, subst (Coded 0) (sym (tail-part (start .args .n) (start .args .s .now))) (start .pre .1 .0 .1)), subst (λ l. Space 0 (dec 0 (take (start .args .n) (start .args .s .now))) (dec 0 l) (length (start .args .out .now)) (length (start .args .t .now)) (length (start .args .u .now))) (sym (tail-part (start .args .n) (start .args .s .now))) (start .pre .1 .1))
 
 same-length : tie.Need-same-length
 same-length c = search needs
@@ -40,7 +44,10 @@ same-length-3 : tie.Need-same-length-3
 same-length-3 c = search needs
 
 returns : tie.Need-returns
-returns c = begins-as (c .before .before .before .before .before .before .product .ensures) (ap (λ l. enc 0 (prodOf 0 (dec 0 (take (c .before .before .before .before .before .before .before .before .before .before .before .before .before .before .before .before .args .n) (c .before .before .before .before .before .before .before .before .before .before .before .before .before .before .before .before .args .s .now))) (dec 0 l))) (tail-part (c .before .before .before .before .before .before .before .before .before .before .before .before .before .before .before .before .args .n) (c .before .before .before .before .before .before .before .before .before .before .before .before .before .before .before .before .args .s .now)))
+returns c =
+    let product = c .before .before .before .before .before .before .product in
+    let start = c .before .before .before .before .before .before .before .before .before .before .before .before .before .before .before .before in
+    begins-as (product .ensures) (ap (λ l. enc 0 (prodOf 0 (dec 0 (take (start .args .n) (start .args .s .now))) (dec 0 l))) (tail-part (start .args .n) (start .args .s .now)))
 
 pub product-parts-spec : {M : Type 1} → statement M
 product-parts-spec =

@@ -35,7 +35,11 @@ same-length : tie.Need-same-length
 same-length c = c .before .before .miscounted .kept .1 .1 .0
 
 returns : tie.Need-returns
-returns c = wrote-as (c .before .before .miscounted .ensures) (counted-not 4 (now (c .before .before .before .before .before .before .before .before .before .before .before .before .args .line)) _ (c .before .before .before .before .before .count .ensures) (c .before .before .before .before .if1 .taken))
+returns c =
+    let if1 = c .before .before .before .before .if1 in
+    let count = c .before .before .before .before .before .count in
+    let start = c .before .before .before .before .before .before .before .before .before .before .before .before in
+    wrote-as (c .before .before .miscounted .ensures) (counted-not 4 (now (start .args .line)) _ (count .ensures) (if1 .taken))
 
 field-requires : tie.Need-field-requires
 field-requires c κs = tt
@@ -66,29 +70,40 @@ slice-aggregate-compared c =
 
 compared-requires : tie.Need-compared-requires
 compared-requires c κs =
-    let call = c .before .before .before .before .before .before .before .before .before .before .before in
+    let before = c .before .before .before .before .before .before .before .before .before .before .before in
+    let start = c .before .before .before .before .before .before .before .before .before .before .before .before .before .before .before .before .before .before .before .before .before .before .before .before .before .before .before .before .before in
+    let call = before in
     let e = call .before .before .before .before .before .before .at-most-four .result in
     let point = call .compare .last .1 .1 .1 .0 in
-    (omega (arith, call .before .before .before .before .before .before .at-most-four .ensures, length-take e point), c .before .before .before .before .before .before .before .before .before .before .before .before .before .before .before .before .before .before .before .before .before .before .before .before .before .before .before .before .before .pre)
+    (omega (arith, call .before .before .before .before .before .before .at-most-four .ensures, length-take e point), start .pre)
 
 same-length-2 : tie.Need-same-length-2
 same-length-2 c = c .before .before .compared .kept .1 .1 .0
 
 same-length-3 : tie.Need-same-length-3
-same-length-3 c = c .before .before .before .before .before .before .before .before .before .before .before .before .before .before .compare .kept .1 .1 .1 .1 .0
+same-length-3 c =
+    let compare = c .before .before .before .before .before .before .before .before .before .before .before .before .before .before .compare in
+    compare .kept .1 .1 .1 .1 .0
 
 same-length-4 : tie.Need-same-length-4
-same-length-4 c = c .before .before .before .before .before .before .before .before .before .before .before .before .before .before .compare .kept .1 .1 .1 .1 .1 .0
+same-length-4 c =
+    let compare = c .before .before .before .before .before .before .before .before .before .before .before .before .before .before .compare in
+    compare .kept .1 .1 .1 .1 .1 .0
 
 same-length-5 : tie.Need-same-length-5
-same-length-5 c = c .before .before .before .before .before .before .before .before .before .before .before .before .before .before .compare .kept .1 .1 .1 .1 .1 .1 .0
+same-length-5 c =
+    let compare = c .before .before .before .before .before .before .before .before .before .before .before .before .before .before .compare in
+    compare .kept .1 .1 .1 .1 .1 .1 .0
 
 same-length-6 : tie.Need-same-length-6
-same-length-6 c = c .before .before .before .before .before .before .before .before .before .before .before .before .before .before .compare .kept .1 .1 .1 .1 .1 .1 .1 .0
+same-length-6 c =
+    let compare = c .before .before .before .before .before .before .before .before .before .before .before .before .before .before .compare in
+    compare .kept .1 .1 .1 .1 .1 .1 .1 .0
 
 returns-2 : tie.Need-returns-2
 returns-2 c =
-    let call = c .before .before .before .before .before .before .before .before .before .before .before .before .before .before in
+    let before = c .before .before .before .before .before .before .before .before .before .before .before .before .before .before in
+    let call = before in
     let start = call .before .before .before .before .before .before .before .before .before .before .before .before .before .before .before .before .before .before in
     wrote-as (c .before .before .compared .ensures)
     (compare-fields (tables start) (now (start .args .line)) _ (call .before .before .before .before .before .before .before .before .before .before .before .count .ensures) (call .before .before .before .before .before .before .before .before .before .before .if1 .left)

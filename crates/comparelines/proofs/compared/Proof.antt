@@ -37,19 +37,28 @@ same-length : tie.Need-same-length
 same-length c = search needs
 
 returns : tie.Need-returns
-returns c = wrote-as (c .before .before .put .ensures) (sym (ap (λ x. comparedLine x (now (c .before .before .before .before .before .before .before .before .before .args .point))) (c .before .before .before .before .before .enum-told .given .1)))
+returns c =
+    let at-enum-told = c .before .before .before .before .before .enum-told in
+    let start = c .before .before .before .before .before .before .before .before .before in
+    wrote-as (c .before .before .put .ensures) (sym (ap (λ x. comparedLine x (now (start .args .point))) (at-enum-told .given .1)))
 
 same-length-2 : tie.Need-same-length-2
 same-length-2 c = search needs
 
 returns-2 : tie.Need-returns-2
-returns-2 c = wrote-as (c .before .before .different .ensures) (sym (ap (λ x. comparedLine x (now (c .before .before .before .before .before .before .before .before .before .args .point))) (c .before .before .before .before .before .answer .given .1)))
+returns-2 c =
+    let answer = c .before .before .before .before .before .answer in
+    let start = c .before .before .before .before .before .before .before .before .before in
+    wrote-as (c .before .before .different .ensures) (sym (ap (λ x. comparedLine x (now (start .args .point))) (answer .given .1)))
 
 same-length-3 : tie.Need-same-length-3
 same-length-3 c = search needs
 
 returns-3 : tie.Need-returns-3
-returns-3 c = wrote-as (c .before .before .refused .ensures) (sym (ap (λ x. comparedLine x (now (c .before .before .before .before .before .before .before .before .before .args .point))) (c .before .before .before .before .before .answer2 .given .1)))
+returns-3 c =
+    let answer2 = c .before .before .before .before .before .answer2 in
+    let start = c .before .before .before .before .before .before .before .before .before in
+    wrote-as (c .before .before .refused .ensures) (sym (ap (λ x. comparedLine x (now (start .args .point))) (answer2 .given .1)))
 
 pub compared-spec : {M : Type 1} → statement M
 compared-spec =

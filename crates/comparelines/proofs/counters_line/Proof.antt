@@ -37,9 +37,12 @@ same-length c = c .before .before .wrong .kept .1 .0
 
 returns : tie.Need-returns
 returns c =
-    let start = c .before .before .before .before .before .before .before .before .before .before .before .before in
+    let if1 = c .before .before .before .before .if1 in
+    let count = c .before .before .before .before .before .count in
+    let before = c .before .before .before .before .before .before .before .before .before .before .before .before in
+    let start = before in
     let line = now (start .args .line) in
-    wrote-as (c .before .before .wrong .ensures) (numbered-missing 2 line (countersBy (tables start) line) (c .before .before .before .before .before .count .ensures) (c .before .before .before .before .if1 .taken))
+    wrote-as (c .before .before .wrong .ensures) (numbered-missing 2 line (countersBy (tables start) line) (count .ensures) (if1 .taken))
 
 field-requires : tie.Need-field-requires
 field-requires c κs = tt
@@ -61,10 +64,16 @@ same-length-2 c = c .before .before .wrong2 .kept .1 .0
 
 returns-2 : tie.Need-returns-2
 returns-2 c =
-    let start = c .before .before .before .before .before .before .before .before .before .before .before .before .before .before .before .before in
+    let at-enum-told = c .before .before .before .before .enum-told in
+    let natural = c .before .before .before .before .before .before .natural in
+    let field = c .before .before .before .before .before .before .before .field in
+    let if1 = c .before .before .before .before .before .before .before .before .if1 in
+    let count = c .before .before .before .before .before .before .before .before .before .count in
+    let before = c .before .before .before .before .before .before .before .before .before .before .before .before .before .before .before .before in
+    let start = before in
     let line = now (start .args .line) in
     wrote-as (c .before .before .wrong2 .ensures)
-    (numbered-wrong 2 line (countersBy (tables start) line) (c .before .before .before .before .before .before .before .before .before .count .ensures) (c .before .before .before .before .before .before .before .before .if1 .left) (c .before .before .before .before .before .before .natural .ensures) (c .before .before .before .before .before .before .before .field .ensures) (c .before .before .before .before .enum-told .given .1))
+    (numbered-wrong 2 line (countersBy (tables start) line) (count .ensures) (if1 .left) (natural .ensures) (field .ensures) (at-enum-told .given .1))
 
 miscounted-requires : tie.Need-miscounted-requires
 miscounted-requires c κs = c .before .before .before .before .before .before .before .before .before .before .before .before .before .before .before .pre
@@ -74,9 +83,16 @@ same-length-3 c = c .before .before .miscounted .kept .1 .1 .0
 
 returns-3 : tie.Need-returns-3
 returns-3 c =
-    let start = c .before .before .before .before .before .before .before .before .before .before .before .before .before .before .before .before .before .before in
+    let if2 = c .before .before .before .before .if2 in
+    let width = c .before .before .before .before .before .before .width in
+    let natural = c .before .before .before .before .before .before .before .before .natural in
+    let field = c .before .before .before .before .before .before .before .before .before .field in
+    let if1 = c .before .before .before .before .before .before .before .before .before .before .if1 in
+    let count = c .before .before .before .before .before .before .before .before .before .before .before .count in
+    let before = c .before .before .before .before .before .before .before .before .before .before .before .before .before .before .before .before .before .before in
+    let start = before in
     wrote-as (c .before .before .miscounted .ensures)
-    (counters-miscounted (tables start) (now (start .args .line)) (c .before .before .before .before .before .before .before .before .before .before .before .count .ensures) (c .before .before .before .before .before .before .before .before .before .before .if1 .left) (c .before .before .before .before .before .before .before .before .natural .ensures) (c .before .before .before .before .before .before .before .before .before .field .ensures) (c .before .before .before .before .before .before .width .given .1) (c .before .before .before .before .if2 .taken))
+    (counters-miscounted (tables start) (now (start .args .line)) (count .ensures) (if1 .left) (natural .ensures) (field .ensures) (width .given .1) (if2 .taken))
 
 field-requires-2 : tie.Need-field-requires-2
 field-requires-2 c κs = tt
@@ -91,7 +107,9 @@ counters-requires : tie.Need-counters-requires
 counters-requires c κs = tt
 
 counted-requires : tie.Need-counted-requires
-counted-requires c κs = c .before .before .before .before .before .before .before .before .before .before .before .before .before .before .before .before .before .before .before .before .before .before .before .before .before .before .before .before .before .before .before .pre
+counted-requires c κs =
+    let start = c .before .before .before .before .before .before .before .before .before .before .before .before .before .before .before .before .before .before .before .before .before .before .before .before .before .before .before .before .before .before .before in
+    start .pre
 
 same-length-4 : tie.Need-same-length-4
 same-length-4 c = c .before .before .counted .kept .1 .0
@@ -110,7 +128,8 @@ same-length-8 c = c .before .before .before .before .before .before .before .bef
 
 returns-4 : tie.Need-returns-4
 returns-4 c =
-    let call = c .before .before .before .before .before .before .before .before .before .before .before .before in
+    let before = c .before .before .before .before .before .before .before .before .before .before .before .before in
+    let call = before in
     let start = call .before .before .before .before .before .before .before .before .before .before .before .before .before .before .before .before .before .before .before .before .before .before in
     wrote-as (c .before .before .counted .ensures)
     (counters-fields (tables start) (now (start .args .line)) (call .before .before .before .before .before .before .before .before .before .before .before .before .before .before .before .count .ensures) (call .before .before .before .before .before .before .before .before .before .before .before .before .before .before .if1 .left) (call .before .before .before .before .before .before .before .before .before .before .before .before .natural .ensures) (call .before .before .before .before .before .before .before .before .before .before .before .before .before .field .ensures)

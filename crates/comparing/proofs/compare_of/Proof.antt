@@ -51,28 +51,44 @@ same-length-4 c = search needs
 
 -- src/lib.rt:116:9
 returns : tie.Need-returns
-returns c = let A = text-refused (c .before .before .before .before .before .before .before .before .before .before .before .before .before .before .before .before .before .before .before .before .before .before .before .before .args .point .now) (c .before .enum-told .given .1) (c .before .before .before .before .before .before .before .before .before .before .before .read-pair .ensures) in
+returns c =
+    let read-pair = c .before .before .before .before .before .before .before .before .before .before .before .read-pair in
+    let start = c .before .before .before .before .before .before .before .before .before .before .before .before .before .before .before .before .before .before .before .before .before .before .before .before in
+    let A = text-refused (start .args .point .now) (c .before .enum-told .given .1) (read-pair .ensures) in
     (c .refused .ensures ∙ A .0, A .1)
 
 -- src/lib.rt:118:13
 add-e : tie.Need-add-e
-add-e c = omega (arith, pair-words (c .before .before .before .before .before .before .before .before .before .before .before .before .before .before .before .before .before .before .before .before .before .before .before .before .pre .0) (pair-forms (c .before .pair .given .1) (c .before .before .before .before .before .before .before .before .before .before .before .read-pair .ensures)))
+add-e c =
+    let read-pair = c .before .before .before .before .before .before .before .before .before .before .before .read-pair in
+    let start = c .before .before .before .before .before .before .before .before .before .before .before .before .before .before .before .before .before .before .before .before .before .before .before .before in
+    omega (arith, pair-words (start .pre .0) (pair-forms (c .before .pair .given .1) (read-pair .ensures)))
 
 -- src/lib.rt:119:24
 slice-reshare-prefix-verdict : tie.Need-slice-reshare-prefix-verdict
-slice-reshare-prefix-verdict c = pair-inside (c .before .before .before .before .before .before .before .before .before .before .before .before .before .before .before .before .before .before .before .before .before .before .before .before .pre .0) (pair-forms (c .before .pair .given .1) (c .before .before .before .before .before .before .before .before .before .before .before .read-pair .ensures))
+slice-reshare-prefix-verdict c =
+    let read-pair = c .before .before .before .before .before .before .before .before .before .before .before .read-pair in
+    let start = c .before .before .before .before .before .before .before .before .before .before .before .before .before .before .before .before .before .before .before .before .before .before .before .before in
+    pair-inside (start .pre .0) (pair-forms (c .before .pair .given .1) (read-pair .ensures))
 
 -- src/lib.rt:119:24
 slice-aggregate-verdict : tie.Need-slice-aggregate-verdict
-slice-aggregate-verdict c = sym (length-take-le (c .before .before .pair .given .0 .0 + c .before .before .pair .given .0 .1 .0) (c .before .before .before .before .before .before .before .before .before .before .before .before .read-pair .last .1 .1 .1 .1 .1 .1 .0) (pair-inside (c .before .before .before .before .before .before .before .before .before .before .before .before .before .before .before .before .before .before .before .before .before .before .before .before .before .pre .0) (pair-forms (c .before .before .pair .given .1) (c .before .before .before .before .before .before .before .before .before .before .before .before .read-pair .ensures))))
+slice-aggregate-verdict c =
+    let read-pair = c .before .before .before .before .before .before .before .before .before .before .before .before .read-pair in
+    let start = c .before .before .before .before .before .before .before .before .before .before .before .before .before .before .before .before .before .before .before .before .before .before .before .before .before in
+    sym (length-take-le (c .before .before .pair .given .0 .0 + c .before .before .pair .given .0 .1 .0) (read-pair .last .1 .1 .1 .1 .1 .1 .0) (pair-inside (start .pre .0) (pair-forms (c .before .before .pair .given .1) (read-pair .ensures))))
 
 -- src/lib.rt:119:5
 verdict-requires : tie.Need-verdict-requires
-verdict-requires c κs = let Q = pair-forms (c .before .before .before .before .before .before .pair .given .1) (c .before .before .before .before .before .before .before .before .before .before .before .before .before .before .before .before .read-pair .ensures) in
-    let r = c .before .before .before .before .before .before .before .before .before .before .before .before .before .before .before .before .before .before .before .before .before .before .before .before .before .before .before .before .before .pre .0 in
-    let z = length-take-le (c .before .before .before .before .before .before .pair .given .0 .0 + c .before .before .before .before .before .before .pair .given .0 .1 .0) (c .before .before .before .before .before .before .before .before .before .before .before .before .before .before .before .before .read-pair .last .1 .1 .1 .1 .1 .1 .0) (pair-inside r Q) in
-    let f = c .before .before .before .before .before .before .before .before .before .before .before .before .before .before .before .before .read-pair .kept in
-    ((pair-sides r Q, pair-apart r Q), (omega (arith, z, pair-words r Q, c .before .before .before .before .before .before .before .before .before .before .before .before .before .before .before .before .before .before .before .before .before .before .before .before .before .before .before .before .before .pre .1 .0 .0, f .1 .1 .1 .0, f .1 .1 .1 .1 .0, f .1 .1 .1 .1 .1 .0), c .before .before .before .before .before .before .before .before .before .before .before .before .before .before .before .before .before .before .before .before .before .before .before .before .before .before .before .before .before .pre .1 .1))
+verdict-requires c κs =
+    let pair = c .before .before .before .before .before .before .pair in
+    let read-pair = c .before .before .before .before .before .before .before .before .before .before .before .before .before .before .before .before .read-pair in
+    let start = c .before .before .before .before .before .before .before .before .before .before .before .before .before .before .before .before .before .before .before .before .before .before .before .before .before .before .before .before .before in
+    let Q = pair-forms (pair .given .1) (read-pair .ensures) in
+    let r = start .pre .0 in
+    let z = length-take-le (pair .given .0 .0 + pair .given .0 .1 .0) (read-pair .last .1 .1 .1 .1 .1 .1 .0) (pair-inside r Q) in
+    let f = read-pair .kept in
+    ((pair-sides r Q, pair-apart r Q), (omega (arith, z, pair-words r Q, start .pre .1 .0 .0, f .1 .1 .1 .0, f .1 .1 .1 .1 .0, f .1 .1 .1 .1 .1 .0), start .pre .1 .1))
 
 -- src/lib.rt:98:1
 same-length-5 : tie.Need-same-length-5
@@ -96,7 +112,12 @@ same-length-9 c = search needs
 
 -- src/lib.rt:98:1
 returns-2 : tie.Need-returns-2
-returns-2 c = pair-told (c .before .before .before .before .before .before .before .before .before .before .before .before .before .before .before .before .before .before .before .before .before .before .before .before .before .before .before .before .before .before .before .before .before .before .before .before .before .before .pre .0) (pair-forms (c .before .before .before .before .before .before .before .before .before .before .before .before .before .before .before .pair .given .1) (c .before .before .before .before .before .before .before .before .before .before .before .before .before .before .before .before .before .before .before .before .before .before .before .before .before .read-pair .ensures)) (c .before .before .before .before .before .before .before .before .before .before .before .before .before .before .before .before .before .before .before .before .before .before .before .before .before .before .before .before .before .before .before .before .before .before .before .before .before .before .args .point .now) (c .before .before .before .before .before .before .before .before .verdict .ensures)
+returns-2 c =
+    let verdict = c .before .before .before .before .before .before .before .before .verdict in
+    let pair = c .before .before .before .before .before .before .before .before .before .before .before .before .before .before .before .pair in
+    let read-pair = c .before .before .before .before .before .before .before .before .before .before .before .before .before .before .before .before .before .before .before .before .before .before .before .before .before .read-pair in
+    let start = c .before .before .before .before .before .before .before .before .before .before .before .before .before .before .before .before .before .before .before .before .before .before .before .before .before .before .before .before .before .before .before .before .before .before .before .before .before .before in
+    pair-told (start .pre .0) (pair-forms (pair .given .1) (read-pair .ensures)) (start .args .point .now) (verdict .ensures)
 
 pub compare-of-spec : {M : Type 1} → statement M
 compare-of-spec =

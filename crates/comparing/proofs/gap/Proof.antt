@@ -37,11 +37,15 @@ part-negate-end c = search needs
 
 -- src/lib.rt:31:9
 negate-requires : tie.Need-negate-requires
-negate-requires c κs = (right-part (c .before .before .before .before .before .pre .0), omega (arith, length-tail-part (c .before .before .before .before .before .args .k) (c .before .before .before .before .before .args .l .now), c .before .before .before .before .before .pre .1 .first))
+negate-requires c κs =
+    let start = c .before .before .before .before .before in
+    (right-part (start .pre .0), omega (arith, length-tail-part (start .args .k) (start .args .l .now), start .pre .1 .first))
 
 -- src/lib.rt:32:18
 slice-aggregate-sum : tie.Need-slice-aggregate-sum
-slice-aggregate-sum c = sym (length-take-le (c .before .before .before .before .before .before .before .before .before .args .k) (c .before .before .before .before .before .before .before .before .before .args .l .now) (c .before .before .before .before .before .before .before .before .before .pre .0 .inside))
+slice-aggregate-sum c =
+    let start = c .before .before .before .before .before .before .before .before .before in
+    sym (length-take-le (start .args .k) (start .args .l .now) (start .pre .0 .inside))
 
 -- src/lib.rt:32:27
 slice-reshare-prefix-sum : tie.Need-slice-reshare-prefix-sum
@@ -49,11 +53,16 @@ slice-reshare-prefix-sum c = begins-le (c .before .before .before .negate .ensur
 
 -- src/lib.rt:32:27
 slice-aggregate-sum-2 : tie.Need-slice-aggregate-sum-2
-slice-aggregate-sum-2 c = sym (length-take-le (c .before .before .before .before .negate .result) (c .before .before .before .before .negate .last .1 .1 .0) (begins-le (c .before .before .before .before .negate .ensures)))
+slice-aggregate-sum-2 c =
+    let negate = c .before .before .before .before .negate in
+    sym (length-take-le (negate .result) (negate .last .1 .1 .0) (begins-le (negate .ensures)))
 
 -- src/lib.rt:32:5
 sum-requires : tie.Need-sum-requires
-sum-requires c κs = ((c .before .before .before .before .before .before .before .before .before .before .before .pre .0 .left, gap-negated (c .before .before .before .before .before .before .before .before .before .before .before .pre .0) (c .before .before .before .before .before .negate .ensures)), gap-room (c .before .before .before .before .before .before .before .before .before .before .before .pre .0) _ (c .before .before .before .before .before .before .before .before .before .before .before .pre .1) (c .before .before .before .before .before .negate .ensures))
+sum-requires c κs =
+    let negate = c .before .before .before .before .before .negate in
+    let start = c .before .before .before .before .before .before .before .before .before .before .before in
+    ((start .pre .0 .left, gap-negated (start .pre .0) (negate .ensures)), gap-room (start .pre .0) _ (start .pre .1) (negate .ensures))
 
 -- src/lib.rt:26:1
 same-length : tie.Need-same-length
@@ -65,7 +74,10 @@ same-length-2 c = search needs
 
 -- src/lib.rt:26:1
 returns : tie.Need-returns
-returns c = gap-made (c .before .before .before .before .before .before .before .before .before .before .before .before .before .before .pre .0) (c .before .before .before .before .before .before .before .before .negate .ensures) (c .before .before .sum .ensures)
+returns c =
+    let negate = c .before .before .before .before .before .before .before .before .negate in
+    let start = c .before .before .before .before .before .before .before .before .before .before .before .before .before .before in
+    gap-made (start .pre .0) (negate .ensures) (c .before .before .sum .ensures)
 
 pub gap-spec : {M : Type 1} → statement M
 gap-spec =

@@ -27,14 +27,19 @@ gap-requires c κs = search needs
 
 -- src/lib.rt:52:5
 first-point-requires : tie.Need-first-point-requires
-first-point-requires c κs = let S = c .before .before .before .before .before .before .before .before .before .before .before .before .before .before .before .before .pre .0 .0 in
-    let h = c .before .before .before .before .before .before .before .before .gap .ensures in
+first-point-requires c κs =
+    let gap = c .before .before .before .before .before .before .before .before .gap in
+    let start = c .before .before .before .before .before .before .before .before .before .before .before .before .before .before .before .before in
+    let S = start .pre .0 .0 in
+    let h = gap .ensures in
     let z = gap-size S h in
-    ((begins-le h, c .before .before .before .before .before .before .before .before .before .before .before .before .before .before .before .before .pre .1 .1), (gap-coded S h, ((omega (arith, z, c .before .before .before .before .before .before .before .before .before .before .before .before .before .before .before .before .pre .1 .0 .1), omega (arith, z, c .before .before .before .before .before .before .before .before .before .before .before .before .before .before .before .before .pre .1 .0 .1, c .before .before .before .before .before .before .before .before .gap .kept .1 .1 .0)), gap-ready S h (c .before .before .before .before .before .before .before .before .before .before .before .before .before .before .before .before .args .n) (c .before .before .before .before .before .before .before .before .before .before .before .before .before .before .before .before .pre .0 .1))))
+    ((begins-le h, start .pre .1 .1), (gap-coded S h, ((omega (arith, z, start .pre .1 .0 .1), omega (arith, z, start .pre .1 .0 .1, gap .kept .1 .1 .0)), gap-ready S h (start .args .n) (start .pre .0 .1))))
 
 -- src/lib.rt:53:29
 slice-aggregate-value : tie.Need-slice-aggregate-value
-slice-aggregate-value c = sym (length-take-le (c .before .before .before .before .before .before .before .before .before .before .before .before .before .before .before .before .before .before .before .before .before .before .before .before .before .before .args .k) (c .before .before .before .before .before .before .before .before .before .before .before .before .before .before .before .before .before .before .before .before .before .before .before .before .before .before .args .l .now) (c .before .before .before .before .before .before .before .before .before .before .before .before .before .before .before .before .before .before .before .before .before .before .before .before .before .before .pre .0 .0 .inside))
+slice-aggregate-value c =
+    let start = c .before .before .before .before .before .before .before .before .before .before .before .before .before .before .before .before .before .before .before .before .before .before .before .before .before .before in
+    sym (length-take-le (start .args .k) (start .args .l .now) (start .pre .0 .0 .inside))
 
 -- src/lib.rt:53:38
 slice-reshare-prefix-value : tie.Need-slice-reshare-prefix-value
@@ -42,11 +47,19 @@ slice-reshare-prefix-value c = search needs
 
 -- src/lib.rt:53:38
 slice-aggregate-value-2 : tie.Need-slice-aggregate-value-2
-slice-aggregate-value-2 c = sym (ap length (point-front (c .before .before .before .before .before .before .before .before .before .before .before .before .before .before .before .before .before .before .before .before .before .before .before .before .before .before .before .args .n) (gapOf (c .before .before .before .before .before .before .before .before .before .before .before .before .before .before .before .before .before .before .before .before .before .before .before .before .before .before .before .args .k) (c .before .before .before .before .before .before .before .before .before .before .before .before .before .before .before .before .before .before .before .before .before .before .before .before .before .before .before .args .l .now)) (c .before .before .before .before .before .before .before .before .before .before .before .before .before .before .before .before .before .before .before .before .before .before .before .before .before .before .before .args .point .now) (gap-point (c .before .before .before .before .before .before .before .before .before .before .before .before .before .before .before .before .before .before .before .before .before .before .before .before .before .before .before .pre .0 .0) (c .before .before .before .before .before .before .before .before .before .before .before .before .before .before .before .before .before .before .before .gap .ensures) (c .before .before .before .before .before .before .before .before .before .before .before .before .before .before .before .before .before .before .before .before .before .before .before .before .before .before .before .args .n) (c .before .before .before .before .before .before .before .before .before .before .before .before .before .before .before .before .before .before .before .before .before .before .before .before .before .before .before .args .point .now) (c .before .before .before .before .before .before .before .before .before .before .first-point .ensures))) ∙ length-point (c .before .before .before .before .before .before .before .before .before .before .before .before .before .before .before .before .before .before .before .before .before .before .before .before .before .before .before .args .n) (gapOf (c .before .before .before .before .before .before .before .before .before .before .before .before .before .before .before .before .before .before .before .before .before .before .before .before .before .before .before .args .k) (c .before .before .before .before .before .before .before .before .before .before .before .before .before .before .before .before .before .before .before .before .before .before .before .before .before .before .before .args .l .now)))
+slice-aggregate-value-2 c =
+    let first-point = c .before .before .before .before .before .before .before .before .before .before .first-point in
+    let gap = c .before .before .before .before .before .before .before .before .before .before .before .before .before .before .before .before .before .before .before .gap in
+    let start = c .before .before .before .before .before .before .before .before .before .before .before .before .before .before .before .before .before .before .before .before .before .before .before .before .before .before .before in
+    sym (ap length (point-front (start .args .n) (gapOf (start .args .k) (start .args .l .now)) (start .args .point .now) (gap-point (start .pre .0 .0) (gap .ensures) (start .args .n) (start .args .point .now) (first-point .ensures))) ∙ length-point (start .args .n) (gapOf (start .args .k) (start .args .l .now)))
 
 -- src/lib.rt:53:9
 value-requires : tie.Need-value-requires
-value-requires c κs = (c .before .before .before .before .before .before .before .before .before .before .before .before .before .before .before .before .before .before .before .before .before .before .before .before .before .before .before .pre .0 .0 .left, point-leaves (c .before .before .before .before .before .before .before .before .before .before .before .before .before .before .before .before .before .before .before .before .before .before .before .before .before .before .before .args .n) (gapOf (c .before .before .before .before .before .before .before .before .before .before .before .before .before .before .before .before .before .before .before .before .before .before .before .before .before .before .before .args .k) (c .before .before .before .before .before .before .before .before .before .before .before .before .before .before .before .before .before .before .before .before .before .before .before .before .before .before .before .args .l .now)) (c .before .before .before .before .before .before .before .before .before .before .before .before .before .before .before .before .before .before .before .before .before .before .before .before .before .before .before .args .point .now) (gap-point (c .before .before .before .before .before .before .before .before .before .before .before .before .before .before .before .before .before .before .before .before .before .before .before .before .before .before .before .pre .0 .0) (c .before .before .before .before .before .before .before .before .before .before .before .before .before .before .before .before .before .before .before .gap .ensures) (c .before .before .before .before .before .before .before .before .before .before .before .before .before .before .before .before .before .before .before .before .before .before .before .before .before .before .before .args .n) (c .before .before .before .before .before .before .before .before .before .before .before .before .before .before .before .before .before .before .before .before .before .before .before .before .before .before .before .args .point .now) (c .before .before .before .before .before .before .before .before .before .before .first-point .ensures)))
+value-requires c κs =
+    let first-point = c .before .before .before .before .before .before .before .before .before .before .first-point in
+    let gap = c .before .before .before .before .before .before .before .before .before .before .before .before .before .before .before .before .before .before .before .gap in
+    let start = c .before .before .before .before .before .before .before .before .before .before .before .before .before .before .before .before .before .before .before .before .before .before .before .before .before .before .before in
+    (start .pre .0 .0 .left, point-leaves (start .args .n) (gapOf (start .args .k) (start .args .l .now)) (start .args .point .now) (gap-point (start .pre .0 .0) (gap .ensures) (start .args .n) (start .args .point .now) (first-point .ensures)))
 
 -- src/lib.rt:54:29
 mul-value : tie.Need-mul-value
@@ -70,11 +83,19 @@ slice-reshare-prefix-value-2 c = search needs
 
 -- src/lib.rt:54:38
 slice-aggregate-value-3 : tie.Need-slice-aggregate-value-3
-slice-aggregate-value-3 c = sym (ap length (point-front (c .before .before .before .before .before .before .before .before .before .before .before .before .before .before .before .before .before .before .before .before .before .before .before .before .before .before .before .before .before .before .args .n) (gapOf (c .before .before .before .before .before .before .before .before .before .before .before .before .before .before .before .before .before .before .before .before .before .before .before .before .before .before .before .before .before .before .args .k) (c .before .before .before .before .before .before .before .before .before .before .before .before .before .before .before .before .before .before .before .before .before .before .before .before .before .before .before .before .before .before .args .l .now)) (c .before .before .before .before .before .before .before .before .before .before .before .before .before .before .before .before .before .before .before .before .before .before .before .before .before .before .before .before .before .before .args .point .now) (gap-point (c .before .before .before .before .before .before .before .before .before .before .before .before .before .before .before .before .before .before .before .before .before .before .before .before .before .before .before .before .before .before .pre .0 .0) (c .before .before .before .before .before .before .before .before .before .before .before .before .before .before .before .before .before .before .before .before .before .before .gap .ensures) (c .before .before .before .before .before .before .before .before .before .before .before .before .before .before .before .before .before .before .before .before .before .before .before .before .before .before .before .before .before .before .args .n) (c .before .before .before .before .before .before .before .before .before .before .before .before .before .before .before .before .before .before .before .before .before .before .before .before .before .before .before .before .before .before .args .point .now) (c .before .before .before .before .before .before .before .before .before .before .before .before .before .first-point .ensures))) ∙ length-point (c .before .before .before .before .before .before .before .before .before .before .before .before .before .before .before .before .before .before .before .before .before .before .before .before .before .before .before .before .before .before .args .n) (gapOf (c .before .before .before .before .before .before .before .before .before .before .before .before .before .before .before .before .before .before .before .before .before .before .before .before .before .before .before .before .before .before .args .k) (c .before .before .before .before .before .before .before .before .before .before .before .before .before .before .before .before .before .before .before .before .before .before .before .before .before .before .before .before .before .before .args .l .now)))
+slice-aggregate-value-3 c =
+    let first-point = c .before .before .before .before .before .before .before .before .before .before .before .before .before .first-point in
+    let gap = c .before .before .before .before .before .before .before .before .before .before .before .before .before .before .before .before .before .before .before .before .before .before .gap in
+    let start = c .before .before .before .before .before .before .before .before .before .before .before .before .before .before .before .before .before .before .before .before .before .before .before .before .before .before .before .before .before .before in
+    sym (ap length (point-front (start .args .n) (gapOf (start .args .k) (start .args .l .now)) (start .args .point .now) (gap-point (start .pre .0 .0) (gap .ensures) (start .args .n) (start .args .point .now) (first-point .ensures))) ∙ length-point (start .args .n) (gapOf (start .args .k) (start .args .l .now)))
 
 -- src/lib.rt:54:9
 value-requires-2 : tie.Need-value-requires-2
-value-requires-2 c κs = (right-part (c .before .before .before .before .before .before .before .before .before .before .before .before .before .before .before .before .before .before .before .before .before .before .before .before .before .before .before .before .before .before .pre .0 .0), point-leaves (c .before .before .before .before .before .before .before .before .before .before .before .before .before .before .before .before .before .before .before .before .before .before .before .before .before .before .before .before .before .before .args .n) (gapOf (c .before .before .before .before .before .before .before .before .before .before .before .before .before .before .before .before .before .before .before .before .before .before .before .before .before .before .before .before .before .before .args .k) (c .before .before .before .before .before .before .before .before .before .before .before .before .before .before .before .before .before .before .before .before .before .before .before .before .before .before .before .before .before .before .args .l .now)) (c .before .before .before .before .before .before .before .before .before .before .before .before .before .before .before .before .before .before .before .before .before .before .before .before .before .before .before .before .before .before .args .point .now) (gap-point (c .before .before .before .before .before .before .before .before .before .before .before .before .before .before .before .before .before .before .before .before .before .before .before .before .before .before .before .before .before .before .pre .0 .0) (c .before .before .before .before .before .before .before .before .before .before .before .before .before .before .before .before .before .before .before .before .before .before .gap .ensures) (c .before .before .before .before .before .before .before .before .before .before .before .before .before .before .before .before .before .before .before .before .before .before .before .before .before .before .before .before .before .before .args .n) (c .before .before .before .before .before .before .before .before .before .before .before .before .before .before .before .before .before .before .before .before .before .before .before .before .before .before .before .before .before .before .args .point .now) (c .before .before .before .before .before .before .before .before .before .before .before .before .before .first-point .ensures)))
+value-requires-2 c κs =
+    let first-point = c .before .before .before .before .before .before .before .before .before .before .before .before .before .first-point in
+    let gap = c .before .before .before .before .before .before .before .before .before .before .before .before .before .before .before .before .before .before .before .before .before .before .gap in
+    let start = c .before .before .before .before .before .before .before .before .before .before .before .before .before .before .before .before .before .before .before .before .before .before .before .before .before .before .before .before .before .before in
+    (right-part (start .pre .0 .0), point-leaves (start .args .n) (gapOf (start .args .k) (start .args .l .now)) (start .args .point .now) (gap-point (start .pre .0 .0) (gap .ensures) (start .args .n) (start .args .point .now) (first-point .ensures)))
 
 -- src/lib.rt:36:1
 same-length : tie.Need-same-length
@@ -94,9 +115,13 @@ same-length-4 c = search needs
 
 -- src/lib.rt:36:1
 returns : tie.Need-returns
-returns c = let s = c .before .before .before .before .before .before .before .before .before .before .before .before .before .before .before .before .before .before .before .before .before .before .before .before .before .before .before .before .before .before .before .args in
-    let q = gap-point (c .before .before .before .before .before .before .before .before .before .before .before .before .before .before .before .before .before .before .before .before .before .before .before .before .before .before .before .before .before .before .before .pre .0 .0) (c .before .before .before .before .before .before .before .before .before .before .before .before .before .before .before .before .before .before .before .before .before .before .before .gap .ensures) (c .before .before .before .before .before .before .before .before .before .before .before .before .before .before .before .before .before .before .before .before .before .before .before .before .before .before .before .before .before .before .before .args .n) (c .before .before .before .before .before .before .before .before .before .before .before .before .before .before .before .before .before .before .before .before .before .before .before .before .before .before .before .before .before .before .before .args .point .now) (c .before .before .before .before .before .before .before .before .before .before .before .before .before .before .first-point .ensures) in
-    let f = point-front (s .n) (gapOf (c .before .before .before .before .before .before .before .before .before .before .before .before .before .before .before .before .before .before .before .before .before .before .before .before .before .before .before .before .before .before .before .args .k) (c .before .before .before .before .before .before .before .before .before .before .before .before .before .before .before .before .before .before .before .before .before .before .before .before .before .before .before .before .before .before .before .args .l .now)) (s .point .now) q in
+returns c =
+    let first-point = c .before .before .before .before .before .before .before .before .before .before .before .before .before .before .first-point in
+    let gap = c .before .before .before .before .before .before .before .before .before .before .before .before .before .before .before .before .before .before .before .before .before .before .before .gap in
+    let start = c .before .before .before .before .before .before .before .before .before .before .before .before .before .before .before .before .before .before .before .before .before .before .before .before .before .before .before .before .before .before .before in
+    let s = start .args in
+    let q = gap-point (start .pre .0 .0) (gap .ensures) (start .args .n) (start .args .point .now) (first-point .ensures) in
+    let f = point-front (s .n) (gapOf (start .args .k) (start .args .l .now)) (s .point .now) q in
     (ap₂ Different (c .before .before .before .value .ensures .0 ∙ ap (valueOf 0 (dec 0 (take (s .k) (s .l .now)))) f) (c .value2 .ensures .0 ∙ ap₂ (λ x N. valueOf 0 (dec 0 x) N) (tail-part (s .k) (s .l .now)) f), q)
 
 pub part-spec : {M : Type 1} → statement M

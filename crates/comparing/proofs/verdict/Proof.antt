@@ -14,7 +14,9 @@ use Rattle.walks.proofs.same.Reads as same-reads
 
 -- src/lib.rt:73:20
 slice-aggregate-same : tie.Need-slice-aggregate-same
-slice-aggregate-same c = sym (length-take-le (c .before .before .before .before .before .before .args .k) (c .before .before .before .before .before .before .args .l .now) (c .before .before .before .before .before .before .pre .0 .0 .inside))
+slice-aggregate-same c =
+    let start = c .before .before .before .before .before .before in
+    sym (length-take-le (start .args .k) (start .args .l .now) (start .pre .0 .0 .inside))
 
 -- src/lib.rt:73:29
 mul-same : tie.Need-mul-same
@@ -38,7 +40,9 @@ same-requires c κs = search needs
 
 -- src/lib.rt:74:9
 returns : tie.Need-returns
-returns c = told-same (c .before .before .before .before .before .before .before .before .before .args .n) (c .before .before .before .before .before .before .before .before .before .args .k) (c .before .before .before .before .before .before .before .before .before .args .l .now) (c .before .before .before .before .before .before .before .before .before .pre .0 .0) (c .before .before .before .before .before .before .before .before .before .args .point .now) (c .before .same .ensures .1) (c .if1 .taken)
+returns c =
+    let start = c .before .before .before .before .before .before .before .before .before in
+    told-same (start .args .n) (start .args .k) (start .args .l .now) (start .pre .0 .0) (start .args .point .now) (c .before .same .ensures .1) (c .if1 .taken)
 
 -- src/lib.rt:80:9
 slice-relend-prefix-part : tie.Need-slice-relend-prefix-part
@@ -46,7 +50,9 @@ slice-relend-prefix-part c = search needs
 
 -- src/lib.rt:80:9
 slice-aggregate-part : tie.Need-slice-aggregate-part
-slice-aggregate-part c = sym (length-take-le 16384 (c .before .before .before .before .before .before .before .before .before .before .args .a .now) (c .before .before .before .before .before .before .before .before .before .before .pre .1 .0 .first))
+slice-aggregate-part c =
+    let start = c .before .before .before .before .before .before .before .before .before .before in
+    sym (length-take-le 16384 (start .args .a .now) (start .pre .1 .0 .first))
 
 -- src/lib.rt:81:9
 slice-relend-prefix-part-2 : tie.Need-slice-relend-prefix-part-2
@@ -54,7 +60,9 @@ slice-relend-prefix-part-2 c = search needs
 
 -- src/lib.rt:81:9
 slice-aggregate-part-2 : tie.Need-slice-aggregate-part-2
-slice-aggregate-part-2 c = sym (length-take-le 16384 (c .before .before .before .before .before .before .before .before .before .before .before .args .b .now) (c .before .before .before .before .before .before .before .before .before .before .before .pre .1 .0 .second))
+slice-aggregate-part-2 c =
+    let start = c .before .before .before .before .before .before .before .before .before .before .before in
+    sym (length-take-le 16384 (start .args .b .now) (start .pre .1 .0 .second))
 
 -- src/lib.rt:82:9
 slice-relend-prefix-part-3 : tie.Need-slice-relend-prefix-part-3
@@ -62,17 +70,23 @@ slice-relend-prefix-part-3 c = search needs
 
 -- src/lib.rt:82:9
 slice-aggregate-part-3 : tie.Need-slice-aggregate-part-3
-slice-aggregate-part-3 c = sym (length-take-le 16384 (c .before .before .before .before .before .before .before .before .before .before .before .before .args .c .now) (c .before .before .before .before .before .before .before .before .before .before .before .before .pre .1 .0 .third))
+slice-aggregate-part-3 c =
+    let start = c .before .before .before .before .before .before .before .before .before .before .before .before in
+    sym (length-take-le 16384 (start .args .c .now) (start .pre .1 .0 .third))
 
 -- src/lib.rt:76:5
 part-requires : tie.Need-part-requires
-part-requires c κs = let s = c .before .before .before .before .before .before .before .before .before .before .before .before .before .args in
-    let w = c .before .before .before .before .before .before .before .before .before .before .before .before .before .pre .1 .0 in
+part-requires c κs =
+    let if1 = c .before .before .before .before .if1 in
+    let same = c .before .before .before .before .before .same in
+    let start = c .before .before .before .before .before .before .before .before .before .before .before .before .before in
+    let s = start .args in
+    let w = start .pre .1 .0 in
     let i = length-take-le 16384 (s .a .now) (w .first) in
     let j = length-take-le 16384 (s .b .now) (w .second) in
     let k = length-take-le 16384 (s .c .now) (w .third) in
-    let h = apart (s .n) (s .k) (s .l .now) (c .before .before .before .before .before .before .before .before .before .before .before .before .before .pre .0 .0) (c .before .before .before .before .before .same .ensures .1) (λ e. true≢false (sym e ∙ c .before .before .before .before .if1 .left)) in
-    ((c .before .before .before .before .before .before .before .before .before .before .before .before .before .pre .0 .0, c .before .before .before .before .before .before .before .before .before .before .before .before .before .pre .0 .1 .ready h), ((wide-rooms (w .forms) j k, wide-rooms (w .forms) i j), c .before .before .before .before .before .before .before .before .before .before .before .before .before .pre .1 .1))
+    let h = apart (s .n) (s .k) (s .l .now) (start .pre .0 .0) (same .ensures .1) (λ e. true≢false (sym e ∙ if1 .left)) in
+    ((start .pre .0 .0, start .pre .0 .1 .ready h), ((wide-rooms (w .forms) j k, wide-rooms (w .forms) i j), start .pre .1 .1))
 
 -- src/lib.rt:59:1
 same-length : tie.Need-same-length
@@ -92,8 +106,13 @@ same-length-4 c = search needs
 
 -- src/lib.rt:59:1
 returns-2 : tie.Need-returns-2
-returns-2 c = let s = c .before .before .before .before .before .before .before .before .before .before .before .before .before .before .before .before .before .before .before .before .before .before .args in
-    told-parted (s .n) (s .k) (s .l .now) (apart (s .n) (s .k) (s .l .now) (c .before .before .before .before .before .before .before .before .before .before .before .before .before .before .before .before .before .before .before .before .before .before .pre .0 .0) (c .before .before .before .before .before .before .before .before .before .before .before .before .before .before .same .ensures .1) (λ e. true≢false (sym e ∙ c .before .before .before .before .before .before .before .before .before .before .before .before .before .if1 .left))) (c .before .before .before .before .before .before .before .before .part .ensures)
+returns-2 c =
+    let part = c .before .before .before .before .before .before .before .before .part in
+    let if1 = c .before .before .before .before .before .before .before .before .before .before .before .before .before .if1 in
+    let same = c .before .before .before .before .before .before .before .before .before .before .before .before .before .before .same in
+    let start = c .before .before .before .before .before .before .before .before .before .before .before .before .before .before .before .before .before .before .before .before .before .before in
+    let s = start .args in
+    told-parted (s .n) (s .k) (s .l .now) (apart (s .n) (s .k) (s .l .now) (start .pre .0 .0) (same .ensures .1) (λ e. true≢false (sym e ∙ if1 .left))) (part .ensures)
 
 pub verdict-spec : {M : Type 1} → statement M
 verdict-spec =

@@ -24,7 +24,9 @@ ready-requires c κs = search needs
 
 -- src/lib.rt:124:9
 returns : tie.Need-returns
-returns c = let s = c .before .before .before .before .before .before .before .before .before .args in
+returns c =
+    let start = c .before .before .before .before .before .before .before .before .before in
+    let s = start .args in
     let ts = length (s .a .now) ∷ length (s .b .now) ∷ length (s .c .now) ∷ length (s .d .now) ∷ [] in
     refused-whole _ (s .a .now) (s .b .now) (s .c .now) (s .d .now) (c .before .ready .ensures) (ready-small (s .row .now) ts) (counters-not-open (s .row .now) ts (s .width) (s .s .now) (s .t .now) (λ z. c .if1 .taken (c .before .ready .ensures ∙ z)))
 
@@ -54,16 +56,27 @@ same-length-4 c = search needs
 
 -- src/lib.rt:128:9
 returns-2 : tie.Need-returns-2
-returns-2 c = let s = c .before .before .before .before .before .before .before .before .before .before .before .before .before .before .before .before .before .before .before .before .before .before .before .before .args in
+returns-2 c =
+    let clear-tables = c .before .before .before .before .before .before .before .before .clear-tables in
+    let if2 = c .before .before .before .before .before .before .before .before .before .before .before .before .before .if2 in
+    let is-width = c .before .before .before .before .before .before .before .before .before .before .before .before .before .before .is-width in
+    let if1 = c .before .before .before .before .before .before .before .before .before .before .before .before .before .before .before .if1 in
+    let ready = c .before .before .before .before .before .before .before .before .before .before .before .before .before .before .before .before .ready in
+    let start = c .before .before .before .before .before .before .before .before .before .before .before .before .before .before .before .before .before .before .before .before .before .before .before .before in
+    let s = start .args in
     let ts = length (s .a .now) ∷ length (s .b .now) ∷ length (s .c .now) ∷ length (s .d .now) ∷ [] in
-    let o = ready-open (s .row .now) ts (sym (c .before .before .before .before .before .before .before .before .before .before .before .before .before .before .before .before .ready .ensures) ∙ c .before .before .before .before .before .before .before .before .before .before .before .before .before .before .before .if1 .left) in
-    let z = c .before .before .before .before .before .before .before .before .clear-tables .ensures in
-    width-whole _ (s .a .now) (s .b .now) (s .c .now) (s .d .now) (counters-width (s .row .now) ts (s .width) (s .s .now) (s .t .now) o (sym (c .before .before .before .before .before .before .before .before .before .before .before .before .before .before .is-width .ensures) ∙ not-true _ (c .before .before .before .before .before .before .before .before .before .before .before .before .before .if2 .taken))) (zeros-of refl refl refl refl z)
+    let o = ready-open (s .row .now) ts (sym (ready .ensures) ∙ if1 .left) in
+    let z = clear-tables .ensures in
+    width-whole _ (s .a .now) (s .b .now) (s .c .now) (s .d .now) (counters-width (s .row .now) ts (s .width) (s .s .now) (s .t .now) o (sym (is-width .ensures) ∙ not-true _ (if2 .taken))) (zeros-of refl refl refl refl z)
 
 -- src/lib.rt:130:9
 counters-of-requires : tie.Need-counters-of-requires
-counters-of-requires c κs = let s = c .before .before .before .before .before .before .before .before .before .before .before .before .before .before .before .args in
-    let o = ready-open (s .row .now) (length (s .a .now) ∷ length (s .b .now) ∷ length (s .c .now) ∷ length (s .d .now) ∷ []) (sym (c .before .before .before .before .before .before .before .ready .ensures) ∙ c .before .before .before .before .before .before .if1 .left) in
+counters-of-requires c κs =
+    let if1 = c .before .before .before .before .before .before .if1 in
+    let ready = c .before .before .before .before .before .before .before .ready in
+    let start = c .before .before .before .before .before .before .before .before .before .before .before .before .before .before .before in
+    let s = start .args in
+    let o = ready-open (s .row .now) (length (s .a .now) ∷ length (s .b .now) ∷ length (s .c .now) ∷ length (s .d .now) ∷ []) (sym (ready .ensures) ∙ if1 .left) in
     (o .proper, (open-long (length (s .a .now)) (length (s .b .now)) (length (s .c .now)) (length (s .d .now)) o, open-fourth (length (s .a .now)) (length (s .b .now)) (length (s .c .now)) (length (s .d .now)) o))
 
 -- src/lib.rt:131:5
@@ -88,12 +101,20 @@ same-length-8 c = search needs
 
 -- src/lib.rt:109:1
 returns-3 : tie.Need-returns-3
-returns-3 c = let s = c .before .before .before .before .before .before .before .before .before .before .before .before .before .before .before .before .before .before .before .before .before .before .before .before .before .before .before .before .before .before .before .before .before .before .before .before .before .args in
-    let f = c .before .before .before .before .before .before .before .before .before .before .before .before .before .before .before .before .before .before .before .before .before .counters-of in
+returns-3 c =
+    let clear-tables2 = c .before .before .before .before .before .before .before .before .clear-tables2 in
+    let counters-of = c .before .before .before .before .before .before .before .before .before .before .before .before .before .before .before .before .before .before .before .before .before .counters-of in
+    let if2 = c .before .before .before .before .before .before .before .before .before .before .before .before .before .before .before .before .before .before .before .before .before .before .before .before .before .before .if2 in
+    let is-width = c .before .before .before .before .before .before .before .before .before .before .before .before .before .before .before .before .before .before .before .before .before .before .before .before .before .before .before .is-width in
+    let if1 = c .before .before .before .before .before .before .before .before .before .before .before .before .before .before .before .before .before .before .before .before .before .before .before .before .before .before .before .before .if1 in
+    let ready = c .before .before .before .before .before .before .before .before .before .before .before .before .before .before .before .before .before .before .before .before .before .before .before .before .before .before .before .before .before .ready in
+    let start = c .before .before .before .before .before .before .before .before .before .before .before .before .before .before .before .before .before .before .before .before .before .before .before .before .before .before .before .before .before .before .before .before .before .before .before .before .before in
+    let s = start .args in
+    let f = counters-of in
     let ts = length (s .a .now) ∷ length (s .b .now) ∷ length (s .c .now) ∷ length (s .d .now) ∷ [] in
-    let o = ready-open (s .row .now) ts (sym (c .before .before .before .before .before .before .before .before .before .before .before .before .before .before .before .before .before .before .before .before .before .before .before .before .before .before .before .before .before .ready .ensures) ∙ c .before .before .before .before .before .before .before .before .before .before .before .before .before .before .before .before .before .before .before .before .before .before .before .before .before .before .before .before .if1 .left) in
-    answered-whole _ _ (s .a .now) (s .b .now) (s .c .now) (s .d .now) (counters-open (s .row .now) ts (s .width) (s .s .now) (s .t .now) o (sym (c .before .before .before .before .before .before .before .before .before .before .before .before .before .before .before .before .before .before .before .before .before .before .before .before .before .before .before .is-width .ensures) ∙ not-false _ (c .before .before .before .before .before .before .before .before .before .before .before .before .before .before .before .before .before .before .before .before .before .before .before .before .before .before .if2 .left))) (counters-clears (s .row .now) ts (s .width) (s .s .now) (s .t .now)) (f .ensures)
-    (zeros-of (f .kept .1 .1 .1 .1 .0) (f .kept .1 .1 .1 .1 .1 .0) (f .kept .1 .1 .1 .1 .1 .1 .0) (f .kept .1 .1 .1 .1 .1 .1 .1 .0) (c .before .before .before .before .before .before .before .before .clear-tables2 .ensures))
+    let o = ready-open (s .row .now) ts (sym (ready .ensures) ∙ if1 .left) in
+    answered-whole _ _ (s .a .now) (s .b .now) (s .c .now) (s .d .now) (counters-open (s .row .now) ts (s .width) (s .s .now) (s .t .now) o (sym (is-width .ensures) ∙ not-false _ (if2 .left))) (counters-clears (s .row .now) ts (s .width) (s .s .now) (s .t .now)) (f .ensures)
+    (zeros-of (f .kept .1 .1 .1 .1 .0) (f .kept .1 .1 .1 .1 .1 .0) (f .kept .1 .1 .1 .1 .1 .1 .0) (f .kept .1 .1 .1 .1 .1 .1 .1 .0) (clear-tables2 .ensures))
 
 pub counters-spec : {M : Type 1} → statement M
 counters-spec =

@@ -55,11 +55,17 @@ same-length-4 c = search needs
 
 -- src/lib.rt:102:9
 returns : tie.Need-returns
-returns c = c .refused .ensures ∙ text-refused (c .before .before .before .before .before .before .before .before .before .before .before .before .before .before .before .before .before .before .before .before .before .before .before .args .width) (c .before .enum-told .given .1) (c .before .before .before .before .before .before .before .before .before .before .before .read-pair .ensures)
+returns c =
+    let read-pair = c .before .before .before .before .before .before .before .before .before .before .before .read-pair in
+    let start = c .before .before .before .before .before .before .before .before .before .before .before .before .before .before .before .before .before .before .before .before .before .before .before in
+    c .refused .ensures ∙ text-refused (start .args .width) (c .before .enum-told .given .1) (read-pair .ensures)
 
 -- src/lib.rt:104:13
 add-e : tie.Need-add-e
-add-e c = omega (arith, pair-words (c .before .before .before .before .before .before .before .before .before .before .before .before .before .before .before .before .before .before .before .before .before .before .before .pre .0) (pair-forms (c .before .pair .given .1) (c .before .before .before .before .before .before .before .before .before .before .before .read-pair .ensures)))
+add-e c =
+    let read-pair = c .before .before .before .before .before .before .before .before .before .before .before .read-pair in
+    let start = c .before .before .before .before .before .before .before .before .before .before .before .before .before .before .before .before .before .before .before .before .before .before .before in
+    omega (arith, pair-words (start .pre .0) (pair-forms (c .before .pair .given .1) (read-pair .ensures)))
 
 -- src/lib.rt:105:13
 bits-of-requires : tie.Need-bits-of-requires
@@ -67,19 +73,29 @@ bits-of-requires c κs = search needs
 
 -- src/lib.rt:105:29
 slice-reshare-prefix-verdict : tie.Need-slice-reshare-prefix-verdict
-slice-reshare-prefix-verdict c = pair-inside (c .before .before .before .before .before .before .before .before .before .before .before .before .before .before .before .before .before .before .before .before .before .before .before .before .pre .0) (pair-forms (c .before .before .pair .given .1) (c .before .before .before .before .before .before .before .before .before .before .before .before .read-pair .ensures))
+slice-reshare-prefix-verdict c =
+    let read-pair = c .before .before .before .before .before .before .before .before .before .before .before .before .read-pair in
+    let start = c .before .before .before .before .before .before .before .before .before .before .before .before .before .before .before .before .before .before .before .before .before .before .before .before in
+    pair-inside (start .pre .0) (pair-forms (c .before .before .pair .given .1) (read-pair .ensures))
 
 -- src/lib.rt:105:29
 slice-aggregate-verdict : tie.Need-slice-aggregate-verdict
-slice-aggregate-verdict c = sym (length-take-le (c .before .before .before .pair .given .0 .0 + c .before .before .before .pair .given .0 .1 .0) (c .before .before .before .before .before .before .before .before .before .before .before .before .before .read-pair .last .1 .1 .1 .1 .1 .1 .0) (pair-inside (c .before .before .before .before .before .before .before .before .before .before .before .before .before .before .before .before .before .before .before .before .before .before .before .before .before .pre .0) (pair-forms (c .before .before .before .pair .given .1) (c .before .before .before .before .before .before .before .before .before .before .before .before .before .read-pair .ensures))))
+slice-aggregate-verdict c =
+    let read-pair = c .before .before .before .before .before .before .before .before .before .before .before .before .before .read-pair in
+    let start = c .before .before .before .before .before .before .before .before .before .before .before .before .before .before .before .before .before .before .before .before .before .before .before .before .before in
+    sym (length-take-le (c .before .before .before .pair .given .0 .0 + c .before .before .before .pair .given .0 .1 .0) (read-pair .last .1 .1 .1 .1 .1 .1 .0) (pair-inside (start .pre .0) (pair-forms (c .before .before .before .pair .given .1) (read-pair .ensures))))
 
 -- src/lib.rt:105:5
 verdict-requires : tie.Need-verdict-requires
-verdict-requires c κs = let Q = pair-forms (c .before .before .before .before .before .before .pair .given .1) (c .before .before .before .before .before .before .before .before .before .before .before .before .before .before .before .before .read-pair .ensures) in
-    let r = c .before .before .before .before .before .before .before .before .before .before .before .before .before .before .before .before .before .before .before .before .before .before .before .before .before .before .before .before .pre .0 in
-    let z = length-take-le (c .before .before .before .before .before .before .pair .given .0 .0 + c .before .before .before .before .before .before .pair .given .0 .1 .0) (c .before .before .before .before .before .before .before .before .before .before .before .before .before .before .before .before .read-pair .last .1 .1 .1 .1 .1 .1 .0) (pair-inside r Q) in
-    let f = c .before .before .before .before .before .before .before .before .before .before .before .before .before .before .before .before .read-pair .kept in
-    (pair-sides r Q, omega (arith, z, pair-words r Q, c .before .before .before .before .before .before .before .before .before .before .before .before .before .before .before .before .before .before .before .before .before .before .before .before .before .before .before .before .pre .1 .0, f .1 .1 .1 .0, f .1 .1 .1 .1 .0, f .1 .1 .1 .1 .1 .0))
+verdict-requires c κs =
+    let pair = c .before .before .before .before .before .before .pair in
+    let read-pair = c .before .before .before .before .before .before .before .before .before .before .before .before .before .before .before .before .read-pair in
+    let start = c .before .before .before .before .before .before .before .before .before .before .before .before .before .before .before .before .before .before .before .before .before .before .before .before .before .before .before .before in
+    let Q = pair-forms (pair .given .1) (read-pair .ensures) in
+    let r = start .pre .0 in
+    let z = length-take-le (pair .given .0 .0 + pair .given .0 .1 .0) (read-pair .last .1 .1 .1 .1 .1 .1 .0) (pair-inside r Q) in
+    let f = read-pair .kept in
+    (pair-sides r Q, omega (arith, z, pair-words r Q, start .pre .1 .0, f .1 .1 .1 .0, f .1 .1 .1 .1 .0, f .1 .1 .1 .1 .1 .0))
 
 -- src/lib.rt:86:1
 same-length-5 : tie.Need-same-length-5
@@ -99,9 +115,15 @@ same-length-8 c = search needs
 
 -- src/lib.rt:86:1
 returns-2 : tie.Need-returns-2
-returns-2 c = let l = take (c .before .before .before .before .before .before .before .before .before .before .before .before .before .pair .given .0 .0 + c .before .before .before .before .before .before .before .before .before .before .before .before .before .pair .given .0 .1 .0) (c .before .before .before .before .before .before .before .before .before .before .before .before .before .before .before .before .before .before .before .before .before .before .before .read-pair .last .1 .1 .1 .1 .1 .1 .0) in
-    c .before .before .before .before .before .before .verdict .ensures ∙ ap (λ w. answerOf (sameOf w (dec 0 (take (c .before .before .before .before .before .before .before .before .before .before .before .before .before .pair .given .0 .0) l)) (dec 0 (drop (c .before .before .before .before .before .before .before .before .before .before .before .before .before .pair .given .0 .0) l)))) (c .before .before .before .before .before .before .before .before .before .before .before .bits-of .ensures)
-    ∙ pair-counted (c .before .before .before .before .before .before .before .before .before .before .before .before .before .before .before .before .before .before .before .before .before .before .before .before .before .before .before .before .before .before .before .before .before .before .before .args .width) (c .before .before .before .before .before .before .before .before .before .before .before .before .before .before .before .before .before .before .before .before .before .before .before .before .before .before .before .before .before .before .before .before .before .before .before .pre .0) (pair-forms (c .before .before .before .before .before .before .before .before .before .before .before .before .before .pair .given .1) (c .before .before .before .before .before .before .before .before .before .before .before .before .before .before .before .before .before .before .before .before .before .before .before .read-pair .ensures))
+returns-2 c =
+    let verdict = c .before .before .before .before .before .before .verdict in
+    let bits-of = c .before .before .before .before .before .before .before .before .before .before .before .bits-of in
+    let pair = c .before .before .before .before .before .before .before .before .before .before .before .before .before .pair in
+    let read-pair = c .before .before .before .before .before .before .before .before .before .before .before .before .before .before .before .before .before .before .before .before .before .before .before .read-pair in
+    let start = c .before .before .before .before .before .before .before .before .before .before .before .before .before .before .before .before .before .before .before .before .before .before .before .before .before .before .before .before .before .before .before .before .before .before .before in
+    let l = take (pair .given .0 .0 + pair .given .0 .1 .0) (read-pair .last .1 .1 .1 .1 .1 .1 .0) in
+    verdict .ensures ∙ ap (λ w. answerOf (sameOf w (dec 0 (take (pair .given .0 .0) l)) (dec 0 (drop (pair .given .0 .0) l)))) (bits-of .ensures)
+    ∙ pair-counted (start .args .width) (start .pre .0) (pair-forms (pair .given .1) (read-pair .ensures))
 
 pub counters-of-spec : {M : Type 1} → statement M
 counters-of-spec =

@@ -19,7 +19,9 @@ use Rattle.counting.proofs.same_counters.Reads as same-counters-reads
 
 -- src/lib.rt:63:9
 slice-aggregate-same-counters : tie.Need-slice-aggregate-same-counters
-slice-aggregate-same-counters c = sym (length-take-le (c .before .before .before .before .before .args .k) (c .before .before .before .before .before .args .l .now) (c .before .before .before .before .before .pre .0 .inside))
+slice-aggregate-same-counters c =
+    let start = c .before .before .before .before .before in
+    sym (length-take-le (start .args .k) (start .args .l .now) (start .pre .0 .inside))
 
 -- src/lib.rt:64:9
 mul-same-counters : tie.Need-mul-same-counters
@@ -43,7 +45,9 @@ slice-relend-prefix-same-counters c = search needs
 
 -- src/lib.rt:65:9
 slice-aggregate-same-counters-2 : tie.Need-slice-aggregate-same-counters-2
-slice-aggregate-same-counters-2 c = sym (length-take-le 16384 (c .before .before .before .before .before .before .before .args .a .now) (c .before .before .before .before .before .before .before .pre .1 .first))
+slice-aggregate-same-counters-2 c =
+    let start = c .before .before .before .before .before .before .before in
+    sym (length-take-le 16384 (start .args .a .now) (start .pre .1 .first))
 
 -- src/lib.rt:66:9
 slice-relend-prefix-same-counters-2 : tie.Need-slice-relend-prefix-same-counters-2
@@ -51,17 +55,21 @@ slice-relend-prefix-same-counters-2 c = search needs
 
 -- src/lib.rt:66:9
 slice-aggregate-same-counters-3 : tie.Need-slice-aggregate-same-counters-3
-slice-aggregate-same-counters-3 c = sym (length-take-le 16384 (c .before .before .before .before .before .before .before .before .args .b .now) (c .before .before .before .before .before .before .before .before .pre .1 .second))
+slice-aggregate-same-counters-3 c =
+    let start = c .before .before .before .before .before .before .before .before in
+    sym (length-take-le 16384 (start .args .b .now) (start .pre .1 .second))
 
 -- src/lib.rt:61:9
 same-counters-requires : tie.Need-same-counters-requires
-same-counters-requires c κs = let s = c .before .before .before .before .before .before .before .before .before .args in
-    let w = c .before .before .before .before .before .before .before .before .before .pre .1 in
-    let i = length-take-le (s .k) (s .l .now) (c .before .before .before .before .before .before .before .before .before .pre .0 .inside) in
+same-counters-requires c κs =
+    let start = c .before .before .before .before .before .before .before .before .before in
+    let s = start .args in
+    let w = start .pre .1 in
+    let i = length-take-le (s .k) (s .l .now) (start .pre .0 .inside) in
     let t = length-tail-part (s .k) (s .l .now) in
     let j = length-take-le 16384 (s .a .now) (w .first) in
     let k = length-take-le 16384 (s .b .now) (w .second) in
-    ((c .before .before .before .before .before .before .before .before .before .pre .0 .left, right-part (c .before .before .before .before .before .before .before .before .before .pre .0)), (omega (arith, i, j, w .forms, c .before .before .before .before .before .before .before .before .before .pre .0 .inside), (omega (arith, i, t, k, w .forms, c .before .before .before .before .before .before .before .before .before .pre .0 .inside), omega (arith, t, w .forms, w .third))))
+    ((start .pre .0 .left, right-part (start .pre .0)), (omega (arith, i, j, w .forms, start .pre .0 .inside), (omega (arith, i, t, k, w .forms, start .pre .0 .inside), omega (arith, t, w .forms, w .third))))
 
 -- src/lib.rt:70:9
 same-length : tie.Need-same-length
@@ -77,7 +85,10 @@ same-length-3 c = search needs
 
 -- src/lib.rt:70:9
 returns : tie.Need-returns
-returns c = sym (ap answerOf (sym (ap (λ z. sameOf (c .before .before .before .before .before .before .before .before .before .before .before .before .before .before .before .before .before .args .width) (dec 0 (take (c .before .before .before .before .before .before .before .before .before .before .before .before .before .before .before .before .before .args .k) (c .before .before .before .before .before .before .before .before .before .before .before .before .before .before .before .before .before .args .l .now))) (dec 0 z)) (tail-part (c .before .before .before .before .before .before .before .before .before .before .before .before .before .before .before .before .before .args .k) (c .before .before .before .before .before .before .before .before .before .before .before .before .before .before .before .before .before .args .l .now))) ∙ sym (c .before .before .before .before .before .before .before .same-counters .ensures) ∙ c .if1 .taken))
+returns c =
+    let same-counters = c .before .before .before .before .before .before .before .same-counters in
+    let start = c .before .before .before .before .before .before .before .before .before .before .before .before .before .before .before .before .before in
+    sym (ap answerOf (sym (ap (λ z. sameOf (start .args .width) (dec 0 (take (start .args .k) (start .args .l .now))) (dec 0 z)) (tail-part (start .args .k) (start .args .l .now))) ∙ sym (same-counters .ensures) ∙ c .if1 .taken))
 
 -- src/lib.rt:49:1
 same-length-4 : tie.Need-same-length-4
@@ -93,7 +104,10 @@ same-length-6 c = search needs
 
 -- src/lib.rt:49:1
 returns-2 : tie.Need-returns-2
-returns-2 c = sym (ap answerOf (sym (ap (λ z. sameOf (c .before .before .before .before .before .before .before .before .before .before .before .before .before .before .before .before .before .args .width) (dec 0 (take (c .before .before .before .before .before .before .before .before .before .before .before .before .before .before .before .before .before .args .k) (c .before .before .before .before .before .before .before .before .before .before .before .before .before .before .before .before .before .args .l .now))) (dec 0 z)) (tail-part (c .before .before .before .before .before .before .before .before .before .before .before .before .before .before .before .before .before .args .k) (c .before .before .before .before .before .before .before .before .before .before .before .before .before .before .before .before .before .args .l .now))) ∙ sym (c .before .before .before .before .before .before .before .same-counters .ensures) ∙ c .if1 .left))
+returns-2 c =
+    let same-counters = c .before .before .before .before .before .before .before .same-counters in
+    let start = c .before .before .before .before .before .before .before .before .before .before .before .before .before .before .before .before .before in
+    sym (ap answerOf (sym (ap (λ z. sameOf (start .args .width) (dec 0 (take (start .args .k) (start .args .l .now))) (dec 0 z)) (tail-part (start .args .k) (start .args .l .now))) ∙ sym (same-counters .ensures) ∙ c .if1 .left))
 
 pub verdict-spec : {M : Type 1} → statement M
 verdict-spec =

@@ -89,7 +89,9 @@ field-returns-2 : (t : ℕ) → field-lts.Need-returns-2 (
   field-below t,
   field.Post,
 ) (field-at t) field.Post
-field-returns-2 t c = c .field .ensures ∙ ap (λ s. fieldOf s (c .before .before .before .before .args .k - 1)) (c .before .rest .ensures) ∙ field-more (now (c .before .before .before .before .args .line)) (c .before .before .before .before .args .k) (c .before .before .if1 .left)
+field-returns-2 t c =
+    let start = c .before .before .before .before in
+    c .field .ensures ∙ ap (λ s. fieldOf s (start .args .k - 1)) (c .before .rest .ensures) ∙ field-more (now (start .args .line)) (start .args .k) (c .before .before .if1 .left)
 
 pub +field-spec : {M : Type 1} → statement M
 +field-spec = close μ-field λ t. field-lts.spec (

@@ -30,11 +30,16 @@ cut-requires c κs = canonical-digits (now (c .before .before .before .args .w))
 
 -- src/lib.rt:122:9
 returns-2 : tie.Need-returns-2
-returns-2 c = below-zero (now (c .before .before .before .before .before .args .w)) (sym (c .before .before .before .is-natural .ensures) ∙ not-false _ (c .before .before .if1 .left)) (c .before .cut .result) (c .before .cut .ensures) (c .if2 .taken)
+returns-2 c =
+    let start = c .before .before .before .before .before in
+    below-zero (now (start .args .w)) (sym (c .before .before .before .is-natural .ensures) ∙ not-false _ (c .before .before .if1 .left)) (c .before .cut .result) (c .before .cut .ensures) (c .if2 .taken)
 
 -- src/lib.rt:125:9
 returns-3 : tie.Need-returns-3
-returns-3 c = below-large (now (c .before .before .before .before .before .before .args .w)) (sym (c .before .before .before .before .is-natural .ensures) ∙ not-false _ (c .before .before .before .if1 .left)) (c .before .before .cut .result) (c .before .before .cut .ensures) (c .if3 .taken)
+returns-3 c =
+    let is-natural = c .before .before .before .before .is-natural in
+    let start = c .before .before .before .before .before .before in
+    below-large (now (start .args .w)) (sym (is-natural .ensures) ∙ not-false _ (c .before .before .before .if1 .left)) (c .before .before .cut .result) (c .before .before .cut .ensures) (c .if3 .taken)
 
 -- src/lib.rt:127:27
 sub-t5 : tie.Need-sub-t5
@@ -50,8 +55,11 @@ sub-t7 c = minus-fits (c .before .before .cut .result - 1) (omega (arith, c .if3
 
 -- src/lib.rt:114:1
 returns-4 : tie.Need-returns-4
-returns-4 c = ap C.Is (minus-is (c .before .before .cut .result - 1) (omega (arith, c .if3 .left, c .before .if2 .left)))
-    ∙ below-is (now (c .before .before .before .before .before .before .args .w)) (sym (c .before .before .before .before .is-natural .ensures) ∙ not-false _ (c .before .before .before .if1 .left)) (c .before .before .cut .result) (c .before .before .cut .ensures) (c .before .if2 .left) (c .if3 .left)
+returns-4 c =
+    let is-natural = c .before .before .before .before .is-natural in
+    let start = c .before .before .before .before .before .before in
+    ap C.Is (minus-is (c .before .before .cut .result - 1) (omega (arith, c .if3 .left, c .before .if2 .left)))
+    ∙ below-is (now (start .args .w)) (sym (is-natural .ensures) ∙ not-false _ (c .before .before .before .if1 .left)) (c .before .before .cut .result) (c .before .before .cut .ensures) (c .before .if2 .left) (c .if3 .left)
 
 pub below-zero-spec : {M : Type 1} → statement M
 below-zero-spec =

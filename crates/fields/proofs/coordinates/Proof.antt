@@ -27,7 +27,9 @@ coordinates-in-requires c κs = search needs
 
 -- src/lib.rt:199:1
 returns : tie.Need-returns
-returns c = c .coordinates-in .ensures ∙ ap (coordinatesOf (c .before .before .before .before .before .args .n)) (c .before .rest3 .ensures ∙ ap restOf (c .before .before .rest2 .ensures ∙ ap restOf (c .before .before .before .rest .ensures)))
+returns c =
+    let start = c .before .before .before .before .before in
+    c .coordinates-in .ensures ∙ ap (coordinatesOf (start .args .n)) (c .before .rest3 .ensures ∙ ap restOf (c .before .before .rest2 .ensures ∙ ap restOf (c .before .before .before .rest .ensures)))
 
 pub coordinates-spec : {M : Type 1} → statement M
 coordinates-spec =

@@ -45,10 +45,13 @@ begins-coordinate-requires c κs = tt
 
 -- src/lib.rt:190:13
 returns : tie.Need-returns Inv-loop μ-loop
-returns c = let l = c .before .before .before .before .loop in
-    let s = now (c .before .before .before .before .before .before .args .s) in
+returns c =
+    let loop = c .before .before .before .before .loop in
+    let start = c .before .before .before .before .before .before in
+    let l = loop in
+    let s = now (start .args .s) in
     let w = take-all (length s - l .at) (drop (l .at) s) (omega (arith, length-drop (l .at) s)) in
-    sym (coordinates-stop (c .before .before .before .before .before .before .args .n) (l .k) (drop (l .at) s) (c .before .before .before .loop-test .taken) (ap (λ v. isCoordinate (signedOf (firstOf v))) (sym w) ∙ sym (c .before .begins-coordinate .ensures) ∙ not-true _ (c .if1 .taken))) ∙ l .inv .2
+    sym (coordinates-stop (start .args .n) (l .k) (drop (l .at) s) (c .before .before .before .loop-test .taken) (ap (λ v. isCoordinate (signedOf (firstOf v))) (sym w) ∙ sym (c .before .begins-coordinate .ensures) ∙ not-true _ (c .if1 .taken))) ∙ l .inv .2
 
 -- src/lib.rt:192:9
 place-behind-requires : tie.Need-place-behind-requires Inv-loop μ-loop
@@ -64,14 +67,18 @@ loop-less c = omega arith
 
 -- src/lib.rt:188:5
 loop-again : tie.Need-loop-again Inv-loop μ-loop
-loop-again c = let l = c .before .before .before .before .before .loop in
-    let s = now (c .before .before .before .before .before .before .before .args .s) in
-    let n = c .before .before .before .before .before .before .before .args .n in
+loop-again c =
+    let loop-test = c .before .before .before .before .loop-test in
+    let loop = c .before .before .before .before .before .loop in
+    let start = c .before .before .before .before .before .before .before in
+    let l = loop in
+    let s = now (start .args .s) in
+    let n = start .args .n in
     let w = take-all (length s - l .at) (drop (l .at) s) (omega (arith, length-drop (l .at) s)) in (
       c .place-behind .ensures .0,
       omega arith,
       ap (λ v. (l .k + 1) + coordinatesOf (n - (l .k + 1)) v) (c .place-behind .ensures .1)
-          ∙ sym (coordinates-on n (l .k) (drop (l .at) s) (c .before .before .before .before .loop-test .taken) (ap (λ v. isCoordinate (signedOf (firstOf v))) (sym w) ∙ sym (c .before .before .begins-coordinate .ensures) ∙ not-false _ (c .before .if1 .left)))
+          ∙ sym (coordinates-on n (l .k) (drop (l .at) s) (loop-test .taken) (ap (λ v. isCoordinate (signedOf (firstOf v))) (sym w) ∙ sym (c .before .before .begins-coordinate .ensures) ∙ not-false _ (c .before .if1 .left)))
           ∙ l .inv .2,
     )
 

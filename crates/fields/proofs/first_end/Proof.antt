@@ -28,7 +28,9 @@ shared-slice-read-if1 c = omega arith
 
 -- src/lib.rt:30:13
 returns : tie.Need-returns Inv-loop μ-loop
-returns c = let l = c .before .before .before .loop in ends-tab (now (c .before .before .before .before .args .s)) (l .i) (l .inv .1 .0) (l .inv .1 .1) (c .before .before .loop-test .taken) (c .if1 .taken)
+returns c =
+    let start = c .before .before .before .before in
+    let l = c .before .before .before .loop in ends-tab (now (start .args .s)) (l .i) (l .inv .1 .0) (l .inv .1 .1) (c .before .before .loop-test .taken) (c .if1 .taken)
 
 -- src/lib.rt:32:9
 add-i : tie.Need-add-i Inv-loop μ-loop

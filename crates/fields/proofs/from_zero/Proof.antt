@@ -33,11 +33,15 @@ cast-t5 c = search needs
 
 -- src/lib.rt:139:9
 returns-2 : tie.Need-returns-2
-returns-2 c = ap C.Is (toZ-pos w32 (c .if2 .taken)) ∙ from-is (now (c .before .before .before .before .before .args .w)) (sym (c .before .before .before .is-natural .ensures) ∙ not-false _ (c .before .before .if1 .left)) (c .before .cut .result) (c .before .cut .ensures) (c .if2 .taken)
+returns-2 c =
+    let start = c .before .before .before .before .before in
+    ap C.Is (toZ-pos w32 (c .if2 .taken)) ∙ from-is (now (start .args .w)) (sym (c .before .before .before .is-natural .ensures) ∙ not-false _ (c .before .before .if1 .left)) (c .before .cut .result) (c .before .cut .ensures) (c .if2 .taken)
 
 -- src/lib.rt:131:1
 returns-3 : tie.Need-returns-3
-returns-3 c = from-large (now (c .before .before .before .before .before .args .w)) (sym (c .before .before .before .is-natural .ensures) ∙ not-false _ (c .before .before .if1 .left)) (c .before .cut .result) (c .before .cut .ensures) (c .if2 .left)
+returns-3 c =
+    let start = c .before .before .before .before .before in
+    from-large (now (start .args .w)) (sym (c .before .before .before .is-natural .ensures) ∙ not-false _ (c .before .before .if1 .left)) (c .before .cut .result) (c .before .cut .ensures) (c .if2 .left)
 
 pub from-zero-spec : {M : Type 1} → statement M
 from-zero-spec =

@@ -30,11 +30,15 @@ cast-t5 c = search needs
 
 -- src/lib.rt:108:9
 returns-2 : tie.Need-returns-2
-returns-2 c = natural-is (now (c .before .before .before .before .before .args .w)) (sym (c .before .before .before .is-natural .ensures) ∙ not-false _ (c .before .before .if1 .left)) (c .before .cut .result) (c .before .cut .ensures) (c .if2 .taken)
+returns-2 c =
+    let start = c .before .before .before .before .before in
+    natural-is (now (start .args .w)) (sym (c .before .before .before .is-natural .ensures) ∙ not-false _ (c .before .before .if1 .left)) (c .before .cut .result) (c .before .cut .ensures) (c .if2 .taken)
 
 -- src/lib.rt:100:1
 returns-3 : tie.Need-returns-3
-returns-3 c = natural-large (now (c .before .before .before .before .before .args .w)) (sym (c .before .before .before .is-natural .ensures) ∙ not-false _ (c .before .before .if1 .left)) (c .before .cut .result) (c .before .cut .ensures) (c .if2 .left)
+returns-3 c =
+    let start = c .before .before .before .before .before in
+    natural-large (now (start .args .w)) (sym (c .before .before .before .is-natural .ensures) ∙ not-false _ (c .before .before .if1 .left)) (c .before .cut .result) (c .before .cut .ensures) (c .if2 .left)
 
 pub natural-spec : {M : Type 1} → statement M
 natural-spec =

@@ -34,11 +34,15 @@ add-result c = search needs
 
 -- src/lib.rt:177:9
 returns : tie.Need-returns
-returns c = place-next (now (c .before .before .before .before .args .s)) (c .before .before .before .before .args .at) (c .before .first-end .result) (c .before .before .before .before .pre) (c .before .first-end .ensures) (c .if1 .taken)
+returns c =
+    let start = c .before .before .before .before in
+    place-next (now (start .args .s)) (start .args .at) (c .before .first-end .result) (start .pre) (c .before .first-end .ensures) (c .if1 .taken)
 
 -- src/lib.rt:170:1
 returns-2 : tie.Need-returns-2
-returns-2 c = place-end (now (c .before .before .before .before .args .s)) (c .before .before .before .before .args .at) (c .before .first-end .result) (c .before .before .before .before .pre) (c .before .first-end .ensures) (c .if1 .left)
+returns-2 c =
+    let start = c .before .before .before .before in
+    place-end (now (start .args .s)) (start .args .at) (c .before .first-end .result) (start .pre) (c .before .first-end .ensures) (c .if1 .left)
 
 pub place-behind-spec : {M : Type 1} → statement M
 place-behind-spec =

@@ -29,7 +29,9 @@ part-result-end c = search needs
 
 -- src/lib.rt:66:9
 returns : tie.Need-returns
-returns c = let s = c .before .before .before .before .args .s .now in
+returns c =
+    let start = c .before .before .before .before in
+    let s = start .args .s .now in
     let e = c .before .before .first-end .result in
     take-all (length s - e) (drop e s) (omega (arith, length-drop e s)) ∙ drop-of-length-le s {i = e} (omega arith) ∙ sym (drop-of-length-le s {i = e + 1} (omega arith)) ∙ c .before .before .first-end .ensures .rest
 

@@ -53,7 +53,9 @@ from-zero-requires c κs = search needs
 
 -- src/lib.rt:145:1
 returns-3 : tie.Need-returns-3
-returns-3 c = c .from-zero .ensures ∙ signed-plain (now (c .before .before .before .before .before .args .w)) (c .before .before .before .if1 .left) (c .before .if2 .left)
+returns-3 c =
+    let start = c .before .before .before .before .before in
+    c .from-zero .ensures ∙ signed-plain (now (start .args .w)) (c .before .before .before .if1 .left) (c .before .if2 .left)
 
 pub signed-spec : {M : Type 1} → statement M
 signed-spec =

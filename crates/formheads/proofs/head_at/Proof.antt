@@ -31,7 +31,9 @@ number-at-requires-3 : tie.Need-number-at-requires-3
 number-at-requires-3 c κs = omega (arith, node-inside (c .before .before .before .before .pre) (c .if2 .left) .0)
 
 add-next : tie.Need-add-next
-add-next c = omega (arith, node-inside (c .before .before .before .before .before .before .pre) (c .before .before .if2 .left) .1 _ _ (c .before .number-at3 .ensures))
+add-next c =
+    let start = c .before .before .before .before .before .before in
+    omega (arith, node-inside (start .pre) (c .before .before .if2 .left) .1 _ _ (c .before .number-at3 .ensures))
 
 add-if3 : tie.Need-add-if3
 add-if3 c = search needs

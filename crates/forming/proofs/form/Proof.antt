@@ -26,14 +26,20 @@ ready-requires c κs = search needs
 
 -- src/lib.rt:53:9
 returns : tie.Need-returns
-returns c = let s = c .before .before .before .before .before .before .before .before .before .args in
+returns c =
+    let start = c .before .before .before .before .before .before .before .before .before in
+    let s = start .args in
     let ts = length (s .a .now) ∷ length (s .b .now) ∷ length (s .c .now) ∷ length (s .d .now) ∷ [] in
     refused-whole (s .row .now) ts _ (s .result .now) (s .a .now) (s .b .now) (s .c .now) (s .d .now) (c .before .ready .ensures) (form-not-open (s .row .now) ts (s .s .now) (length (s .result .now)) (λ z. c .if1 .taken (c .before .ready .ensures ∙ z)))
 
 -- src/lib.rt:55:9
 form-of-requires : tie.Need-form-of-requires
-form-of-requires c κs = let s = c .before .before .before .before .before .before .before .before .before .before .before .before .before .before .args in
-    let o = ready-open (s .row .now) (length (s .a .now) ∷ length (s .b .now) ∷ length (s .c .now) ∷ length (s .d .now) ∷ []) (sym (c .before .before .before .before .before .before .ready .ensures) ∙ c .before .before .before .before .before .if1 .left) in
+form-of-requires c κs =
+    let if1 = c .before .before .before .before .before .if1 in
+    let ready = c .before .before .before .before .before .before .ready in
+    let start = c .before .before .before .before .before .before .before .before .before .before .before .before .before .before in
+    let s = start .args in
+    let o = ready-open (s .row .now) (length (s .a .now) ∷ length (s .b .now) ∷ length (s .c .now) ∷ length (s .d .now) ∷ []) (sym (ready .ensures) ∙ if1 .left) in
     (o .proper, open-long (length (s .a .now)) (length (s .b .now)) (length (s .c .now)) (length (s .d .now)) o)
 
 -- src/lib.rt:56:5
@@ -62,12 +68,18 @@ same-length-5 c = search needs
 
 -- src/lib.rt:38:1
 returns-2 : tie.Need-returns-2
-returns-2 c = let s = c .before .before .before .before .before .before .before .before .before .before .before .before .before .before .before .before .before .before .before .before .before .before .before .before .before .before .before .before .before .before .before .before .before .before .before .before .before .before .args in
-    let f = c .before .before .before .before .before .before .before .before .before .before .before .before .before .before .before .before .before .before .before .before .before .before .before .form-of in
+returns-2 c =
+    let clear-tables = c .before .before .before .before .before .before .before .before .clear-tables in
+    let form-of = c .before .before .before .before .before .before .before .before .before .before .before .before .before .before .before .before .before .before .before .before .before .before .before .form-of in
+    let if1 = c .before .before .before .before .before .before .before .before .before .before .before .before .before .before .before .before .before .before .before .before .before .before .before .before .before .before .before .before .before .if1 in
+    let ready = c .before .before .before .before .before .before .before .before .before .before .before .before .before .before .before .before .before .before .before .before .before .before .before .before .before .before .before .before .before .before .ready in
+    let start = c .before .before .before .before .before .before .before .before .before .before .before .before .before .before .before .before .before .before .before .before .before .before .before .before .before .before .before .before .before .before .before .before .before .before .before .before .before .before in
+    let s = start .args in
+    let f = form-of in
     let ts = length (s .a .now) ∷ length (s .b .now) ∷ length (s .c .now) ∷ length (s .d .now) ∷ [] in
-    let o = ready-open (s .row .now) ts (sym (c .before .before .before .before .before .before .before .before .before .before .before .before .before .before .before .before .before .before .before .before .before .before .before .before .before .before .before .before .before .before .ready .ensures) ∙ c .before .before .before .before .before .before .before .before .before .before .before .before .before .before .before .before .before .before .before .before .before .before .before .before .before .before .before .before .before .if1 .left) in
+    let o = ready-open (s .row .now) ts (sym (ready .ensures) ∙ if1 .left) in
     answered-whole _ _ (s .result .now) (s .a .now) (s .b .now) (s .c .now) (s .d .now) (form-open (s .row .now) ts (s .s .now) (length (s .result .now)) o) (form-clears (s .row .now) ts (s .s .now) (length (s .result .now))) (f .ensures .0) (f .ensures .1)
-    (zeros-of (f .kept .1 .1 .1 .0) (f .kept .1 .1 .1 .1 .0) (f .kept .1 .1 .1 .1 .1 .0) (f .kept .1 .1 .1 .1 .1 .1 .0) (c .before .before .before .before .before .before .before .before .clear-tables .ensures))
+    (zeros-of (f .kept .1 .1 .1 .0) (f .kept .1 .1 .1 .1 .0) (f .kept .1 .1 .1 .1 .1 .0) (f .kept .1 .1 .1 .1 .1 .1 .0) (clear-tables .ensures))
 
 pub form-spec : {M : Type 1} → statement M
 form-spec =

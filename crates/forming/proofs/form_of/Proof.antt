@@ -54,21 +54,31 @@ same-length-4 c = search needs
 
 -- src/lib.rt:32:9
 returns : tie.Need-returns
-returns c = let A = form-refused (length (now (c .before .before .before .before .before .before .before .before .before .before .before .before .before .before .before .before .before .before .before .before .before .before .before .args .result))) (now (c .before .before .before .before .before .before .before .before .before .before .before .before .before .before .before .before .before .before .before .before .before .before .before .args .result)) (c .before .enum-told .given .1) (c .before .before .before .before .before .before .before .before .before .before .before .read-term .ensures) in
+returns c =
+    let read-term = c .before .before .before .before .before .before .before .before .before .before .before .read-term in
+    let start = c .before .before .before .before .before .before .before .before .before .before .before .before .before .before .before .before .before .before .before .before .before .before .before in
+    let A = form-refused (length (now (start .args .result))) (now (start .args .result)) (c .before .enum-told .given .1) (read-term .ensures) in
     (c .refused .ensures ∙ A .answer, A .buffer)
 
 -- src/lib.rt:34:29
 slice-reshare-prefix-write-result : tie.Need-slice-reshare-prefix-write-result
-slice-reshare-prefix-write-result c = begins-le (read-form (c .before .reading .given .1) (c .before .before .before .before .before .before .before .before .before .before .before .read-term .ensures) .made)
+slice-reshare-prefix-write-result c =
+    let read-term = c .before .before .before .before .before .before .before .before .before .before .before .read-term in
+    begins-le (read-form (c .before .reading .given .1) (read-term .ensures) .made)
 
 -- src/lib.rt:34:29
 slice-aggregate-write-result : tie.Need-slice-aggregate-write-result
-slice-aggregate-write-result c = sym (length-take-le (c .before .before .reading .given .0 .0) (c .before .before .before .before .before .before .before .before .before .before .before .before .read-term .last .1 .1 .0) (begins-le (read-form (c .before .before .reading .given .1) (c .before .before .before .before .before .before .before .before .before .before .before .before .read-term .ensures) .made)))
+slice-aggregate-write-result c =
+    let read-term = c .before .before .before .before .before .before .before .before .before .before .before .before .read-term in
+    sym (length-take-le (c .before .before .reading .given .0 .0) (read-term .last .1 .1 .0) (begins-le (read-form (c .before .before .reading .given .1) (read-term .ensures) .made)))
 
 -- src/lib.rt:34:5
 write-result-requires : tie.Need-write-result-requires
-write-result-requires c κs = let T = read-form (c .before .before .before .reading .given .1) (c .before .before .before .before .before .before .before .before .before .before .before .before .before .read-term .ensures) in
-    (coded (term-codes (c .before .before .before .before .before .before .before .before .before .before .before .before .before .before .before .before .before .before .before .before .before .before .before .before .before .pre .0) T), omega (arith, length-take-le (c .before .before .before .reading .given .0 .0) (c .before .before .before .before .before .before .before .before .before .before .before .before .before .read-term .last .1 .1 .0) (begins-le (T .made)), term-words (c .before .before .before .before .before .before .before .before .before .before .before .before .before .before .before .before .before .before .before .before .before .before .before .before .before .pre .0) T))
+write-result-requires c κs =
+    let read-term = c .before .before .before .before .before .before .before .before .before .before .before .before .before .read-term in
+    let start = c .before .before .before .before .before .before .before .before .before .before .before .before .before .before .before .before .before .before .before .before .before .before .before .before .before in
+    let T = read-form (c .before .before .before .reading .given .1) (read-term .ensures) in
+    (coded (term-codes (start .pre .0) T), omega (arith, length-take-le (c .before .before .before .reading .given .0 .0) (read-term .last .1 .1 .0) (begins-le (T .made)), term-words (start .pre .0) T))
 
 -- src/lib.rt:16:1
 same-length-5 : tie.Need-same-length-5
@@ -92,8 +102,12 @@ same-length-9 c = search needs
 
 -- src/lib.rt:16:1
 returns-2 : tie.Need-returns-2
-returns-2 c = let e = form-is (length (now (c .before .before .before .before .before .before .before .before .before .before .before .before .before .before .before .before .before .before .before .before .before .before .before .before .before .before .before .before .args .result))) (c .before .before .before .before .before .before .before .before .before .before .before .before .before .before .before .before .before .before .before .before .before .before .before .before .before .before .before .before .pre .0) (read-form (c .before .before .before .before .before .before .reading .given .1) (c .before .before .before .before .before .before .before .before .before .before .before .before .before .before .before .before .read-term .ensures)) in
-    (c .before .before .write-result .ensures .0 ∙ ap writtenOf e, c .before .before .write-result .ensures .1 ∙ ap (λ x. resultAfter x (now (c .before .before .before .before .before .before .before .before .before .before .before .before .before .before .before .before .before .before .before .before .before .before .before .before .before .before .before .before .args .result))) e)
+returns-2 c =
+    let reading = c .before .before .before .before .before .before .reading in
+    let read-term = c .before .before .before .before .before .before .before .before .before .before .before .before .before .before .before .before .read-term in
+    let start = c .before .before .before .before .before .before .before .before .before .before .before .before .before .before .before .before .before .before .before .before .before .before .before .before .before .before .before .before in
+    let e = form-is (length (now (start .args .result))) (start .pre .0) (read-form (reading .given .1) (read-term .ensures)) in
+    (c .before .before .write-result .ensures .0 ∙ ap writtenOf e, c .before .before .write-result .ensures .1 ∙ ap (λ x. resultAfter x (now (start .args .result))) e)
 
 pub form-of-spec : {M : Type 1} → statement M
 form-of-spec =

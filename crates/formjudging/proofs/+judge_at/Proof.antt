@@ -49,7 +49,10 @@ left : (t : ℕ) (c : judge-at-lts.After-x2 (claims t) (judge-at-at t) judge-at.
 left t c = seen-as _ _ refl (c .x2 .given .1) (c .before .before .judge-at2 .ensures)
 
 second : (t : ℕ) (c : judge-at-lts.After-x2 (claims t) (judge-at-at t) judge-at.Post) → Standing (now (c .before .before .before .before .before .before .before .args .s)) (c .x2 .given .0 .1 .0 + 1)
-second t c = second-standing (c .before .before .before .before .before .head-at .ensures) _ (seen-ends _ _ (left t c)) (is-pow t (c .before .before .before)) (c .before .before .before .before .before .before .before .pre .1 .1)
+second t c =
+    let head-at = c .before .before .before .before .before .head-at in
+    let start = c .before .before .before .before .before .before .before in
+    second-standing (head-at .ensures) _ (seen-ends _ _ (left t c)) (is-pow t (c .before .before .before)) (start .pre .1 .1)
 
 right : (t : ℕ) (c : judge-at-lts.After-y (claims t) (judge-at-at t) judge-at.Post) → SeenAt (c .before .before .before .before .before .before .before .before .before .before .before .before .args .left - 1) (now (c .before .before .before .before .before .before .before .before .before .before .before .before .args .s)) (c .before .before .before .before .before .x2 .given .0 .1 .0 + 1) (Fine (c .y .given .0 .0) (c .y .given .0 .1 .0))
 right t c = seen-as _ _ (c .before .before .before .less2 .ensures) (c .y .given .1) (c .before .before .judge-at3 .ensures)

@@ -25,8 +25,10 @@ if-zero-requires c κs = search needs
 
 returns-5 : tie.Need-returns-5
 returns-5 c =
-    ap (λ z. Fine z (c .before .before .before .before .before .args .next)) (c .if-zero .ensures)
-    ∙ sym (pick-no _ _ (ne-eqb _ _ (c .before .before .before .before .if1 .left)) ∙ pick-no _ _ (ne-eqb _ _ (c .before .before .before .if2 .left)) ∙ pick-no _ _ (ne-eqb _ _ (c .before .before .if3 .left)) ∙ pick-no _ _ (ne-eqb _ _ (c .before .if4 .left)))
+    let if1 = c .before .before .before .before .if1 in
+    let start = c .before .before .before .before .before in
+    ap (λ z. Fine z (start .args .next)) (c .if-zero .ensures)
+    ∙ sym (pick-no _ _ (ne-eqb _ _ (if1 .left)) ∙ pick-no _ _ (ne-eqb _ _ (c .before .before .before .if2 .left)) ∙ pick-no _ _ (ne-eqb _ _ (c .before .before .if3 .left)) ∙ pick-no _ _ (ne-eqb _ _ (c .before .if4 .left)))
 
 pub judge-pow-spec : {M : Type 1} → statement M
 judge-pow-spec = tie.close (tie.spec returns returns-2 returns-3 returns-4 if-zero-requires returns-5)

@@ -24,7 +24,11 @@ same-length : tie.Need-same-length
 same-length c = c .before .before .miscounted .kept .1 .1 .0
 
 returns : tie.Need-returns
-returns c = wrote-as (c .before .before .miscounted .ensures) (counted-not 3 (now (c .before .before .before .before .before .before .before .before .args .line)) _ (c .before .before .before .before .before .count .ensures) (c .before .before .before .before .if1 .taken))
+returns c =
+    let if1 = c .before .before .before .before .if1 in
+    let count = c .before .before .before .before .before .count in
+    let start = c .before .before .before .before .before .before .before .before in
+    wrote-as (c .before .before .miscounted .ensures) (counted-not 3 (now (start .args .line)) _ (count .ensures) (if1 .taken))
 
 field-requires : tie.Need-field-requires
 field-requires c κs = tt

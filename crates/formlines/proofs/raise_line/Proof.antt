@@ -32,7 +32,8 @@ tables s = length (now (s .args .a)) ∷ length (now (s .args .b)) ∷ length (n
 -- the call's text behind the first 5 bytes, and the line of its answer
 line-is : tie.Need-returns-4
 line-is c =
-    let call = c .before .before .before .before .before .before .before .before .before .before .before .before .before .before in
+    let before = c .before .before .before .before .before .before .before .before .before .before .before .before .before .before in
+    let call = before in
     let start = call .before .before .before .before .before .before .before .before .before .before .before .before .before .before .before .before .before .before .before .before .before .before in
     let row = now (call .before .before .before .before .before .before .before .field2 .result) in
     let x = now (call .before .before .before .before .before .before .field3 .result) in
@@ -53,9 +54,12 @@ same-length c = c .before .before .wrong .kept .1 .0
 
 returns : tie.Need-returns
 returns c =
-    let start = c .before .before .before .before .before .before .before .before .before .before .before .before in
+    let if1 = c .before .before .before .before .if1 in
+    let count = c .before .before .before .before .before .count in
+    let before = c .before .before .before .before .before .before .before .before .before .before .before .before in
+    let start = before in
     let line = now (start .args .line) in
-    wrote-as (c .before .before .wrong .ensures) (numbered-missing 3 line (raiseBy (tables start) line) (c .before .before .before .before .before .count .ensures) (c .before .before .before .before .if1 .taken))
+    wrote-as (c .before .before .wrong .ensures) (numbered-missing 3 line (raiseBy (tables start) line) (count .ensures) (if1 .taken))
 
 field-requires : tie.Need-field-requires
 field-requires c κs = tt
@@ -77,10 +81,16 @@ same-length-2 c = c .before .before .wrong2 .kept .1 .0
 
 returns-2 : tie.Need-returns-2
 returns-2 c =
-    let start = c .before .before .before .before .before .before .before .before .before .before .before .before .before .before .before .before in
+    let at-enum-told = c .before .before .before .before .enum-told in
+    let natural = c .before .before .before .before .before .before .natural in
+    let field = c .before .before .before .before .before .before .before .field in
+    let if1 = c .before .before .before .before .before .before .before .before .if1 in
+    let count = c .before .before .before .before .before .before .before .before .before .count in
+    let before = c .before .before .before .before .before .before .before .before .before .before .before .before .before .before .before .before in
+    let start = before in
     let line = now (start .args .line) in
     wrote-as (c .before .before .wrong2 .ensures)
-    (numbered-wrong 3 line (raiseBy (tables start) line) (c .before .before .before .before .before .before .before .before .before .count .ensures) (c .before .before .before .before .before .before .before .before .if1 .left) (c .before .before .before .before .before .before .natural .ensures) (c .before .before .before .before .before .before .before .field .ensures) (c .before .before .before .before .enum-told .given .1))
+    (numbered-wrong 3 line (raiseBy (tables start) line) (count .ensures) (if1 .left) (natural .ensures) (field .ensures) (at-enum-told .given .1))
 
 miscounted-requires : tie.Need-miscounted-requires
 miscounted-requires c κs = c .before .before .before .before .before .before .before .before .before .before .before .before .before .before .before .pre
@@ -90,9 +100,16 @@ same-length-3 c = c .before .before .miscounted .kept .1 .1 .0
 
 returns-3 : tie.Need-returns-3
 returns-3 c =
-    let start = c .before .before .before .before .before .before .before .before .before .before .before .before .before .before .before .before .before .before in
+    let if2 = c .before .before .before .before .if2 in
+    let power = c .before .before .before .before .before .before .power in
+    let natural = c .before .before .before .before .before .before .before .before .natural in
+    let field = c .before .before .before .before .before .before .before .before .before .field in
+    let if1 = c .before .before .before .before .before .before .before .before .before .before .if1 in
+    let count = c .before .before .before .before .before .before .before .before .before .before .before .count in
+    let before = c .before .before .before .before .before .before .before .before .before .before .before .before .before .before .before .before .before .before in
+    let start = before in
     wrote-as (c .before .before .miscounted .ensures)
-    (raise-miscounted (tables start) (now (start .args .line)) (c .before .before .before .before .before .before .before .before .before .before .before .count .ensures) (c .before .before .before .before .before .before .before .before .before .before .if1 .left) (c .before .before .before .before .before .before .before .before .natural .ensures) (c .before .before .before .before .before .before .before .before .before .field .ensures) (c .before .before .before .before .before .before .power .given .1) (c .before .before .before .before .if2 .taken))
+    (raise-miscounted (tables start) (now (start .args .line)) (count .ensures) (if1 .left) (natural .ensures) (field .ensures) (power .given .1) (if2 .taken))
 
 field-requires-2 : tie.Need-field-requires-2
 field-requires-2 c κs = tt
@@ -114,7 +131,8 @@ raise-requires c κs = tt
 
 written-requires : tie.Need-written-requires
 written-requires c κs =
-    let call = c .before .before .before .before .before .before .before .before .before .before .before in
+    let before = c .before .before .before .before .before .before .before .before .before .before .before in
+    let call = before in
     let start = call .before .before .before .before .before .before .before .before .before .before .before .before .before .before .before .before .before .before .before .before .before .before in
     let old = now (start .args .out) in
     let row = now (call .before .before .before .before .before .before .before .field2 .result) in
@@ -129,13 +147,19 @@ same-length-5 : tie.Need-same-length-5
 same-length-5 c = c .before .before .before .before .before .before .before .before .before .before .before .before .before .before .raise .kept .1 .1 .1 .1 .0
 
 same-length-6 : tie.Need-same-length-6
-same-length-6 c = c .before .before .before .before .before .before .before .before .before .before .before .before .before .before .raise .kept .1 .1 .1 .1 .1 .0
+same-length-6 c =
+    let raise = c .before .before .before .before .before .before .before .before .before .before .before .before .before .before .raise in
+    raise .kept .1 .1 .1 .1 .1 .0
 
 same-length-7 : tie.Need-same-length-7
-same-length-7 c = c .before .before .before .before .before .before .before .before .before .before .before .before .before .before .raise .kept .1 .1 .1 .1 .1 .1 .0
+same-length-7 c =
+    let raise = c .before .before .before .before .before .before .before .before .before .before .before .before .before .before .raise in
+    raise .kept .1 .1 .1 .1 .1 .1 .0
 
 same-length-8 : tie.Need-same-length-8
-same-length-8 c = c .before .before .before .before .before .before .before .before .before .before .before .before .before .before .raise .kept .1 .1 .1 .1 .1 .1 .1 .0
+same-length-8 c =
+    let raise = c .before .before .before .before .before .before .before .before .before .before .before .before .before .before .raise in
+    raise .kept .1 .1 .1 .1 .1 .1 .1 .0
 
 returns-4 : tie.Need-returns-4
 returns-4 c = line-is c

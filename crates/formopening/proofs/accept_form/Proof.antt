@@ -24,11 +24,15 @@ enum-told c = search needs
 
 -- src/lib.rt:26:25
 judge-text-requires : tie.Need-judge-text-requires
-judge-text-requires c κs = (c .before .before .before .before .pre, syntax-read (now (c .before .before .before .before .args .s)) (sym (c .before .before .judge-form .ensures) ∙ c .enum-told .given .1))
+judge-text-requires c κs =
+    let start = c .before .before .before .before in
+    (start .pre, syntax-read (now (start .args .s)) (sym (c .before .before .judge-form .ensures) ∙ c .enum-told .given .1))
 
 -- src/lib.rt:19:1
 returns : tie.Need-returns
-returns c = syntax-refused (c .before .before .before .before .before .args .m) (now (c .before .before .before .before .before .args .s)) _ _ (sym (c .before .before .before .judge-form .ensures) ∙ c .before .syntax .given .1)
+returns c =
+    let start = c .before .before .before .before .before in
+    syntax-refused (start .args .m) (now (start .args .s)) _ _ (sym (c .before .before .before .judge-form .ensures) ∙ c .before .syntax .given .1)
 
 -- src/lib.rt:19:1
 returns-2 : tie.Need-returns-2

@@ -30,11 +30,16 @@ slice-relend-prefix-build-form c = search needs
 
 -- src/lib.rt:39:51
 slice-aggregate-build-form : tie.Need-slice-aggregate-build-form
-slice-aggregate-build-form c = sym (length-take-le 3073 (c .before .before .before .before .before .before .before .args .out .now) (c .before .before .before .before .before .before .before .pre .1))
+slice-aggregate-build-form c =
+    let start = c .before .before .before .before .before .before .before in
+    sym (length-take-le 3073 (start .args .out .now) (start .pre .1))
 
 -- src/lib.rt:39:17
 build-form-requires : tie.Need-build-form-requires
-build-form-requires c κs = ((c .before .before .before .before .before .before .before .pre .0, judged-accepted _ _ _ (sym (c .before .before .before .before .accept-form .ensures) ∙ c .before .before .judged2 .given .1)), omega (arith, length-take-le 3073 (c .before .before .before .before .before .before .before .args .out .now) (c .before .before .before .before .before .before .before .pre .1)))
+build-form-requires c κs =
+    let accept-form = c .before .before .before .before .accept-form in
+    let start = c .before .before .before .before .before .before .before in
+    ((start .pre .0, judged-accepted _ _ _ (sym (accept-form .ensures) ∙ c .before .before .judged2 .given .1)), omega (arith, length-take-le 3073 (start .args .out .now) (start .pre .1)))
 
 -- src/lib.rt:31:1
 returns : tie.Need-returns
@@ -46,7 +51,11 @@ same-length c = search needs
 
 -- src/lib.rt:31:1
 returns-2 : tie.Need-returns-2
-returns-2 c = built _ _ _ (c .before .before .build-form .last .1 .1 .0) (drop 3073 (c .before .before .before .before .before .before .before .before .before .before .args .out .now)) (sym (c .before .before .before .before .before .before .before .accept-form .ensures) ∙ c .before .before .before .before .before .judged2 .given .1) (c .before .before .build-form .ensures)
+returns-2 c =
+    let judged2 = c .before .before .before .before .before .judged2 in
+    let accept-form = c .before .before .before .before .before .before .before .accept-form in
+    let start = c .before .before .before .before .before .before .before .before .before .before in
+    built _ _ _ (c .before .before .build-form .last .1 .1 .0) (drop 3073 (start .args .out .now)) (sym (accept-form .ensures) ∙ judged2 .given .1) (c .before .before .build-form .ensures)
 
 pub read-form-spec : {M : Type 1} → statement M
 read-form-spec =

@@ -36,14 +36,24 @@ claims t = (head-at-reads.Asked, head-at-reads.Learnt, leaf-word-reads.Asked, le
 
 -- behind p: the head and p's code are not too long
 fits : (t : ℕ) (c : build-at-lts.After-build-at (claims t) (build-at-at t) build-at.Post) → NodeFits (length (c .before .before .before .before .before .before .args .out .now)) (c .build-at .result .words) (c .before .before .before .head-at .result .number)
-fits t c = node-fits (c .before .before .before .head-at .ensures) (c .build-at .ensures) (c .before .before .if1 .left) (c .before .before .before .before .before .before .pre .1)
+fits t c =
+    let start = c .before .before .before .before .before .before in
+    node-fits (c .before .before .before .head-at .ensures) (c .build-at .ensures) (c .before .before .if1 .left) (start .pre .1)
 
 is-pow : (t : ℕ) (c : build-at-lts.Else2 (claims t) (build-at-at t) build-at.Post) → c .before .before .before .before .before .before .before .head-at .result .kind ≡ 3
-is-pow t c = kind-pow (c .before .before .before .before .before .before .before .head-at .ensures) (ready-standing (c .before .before .before .before .before .before .before .before .before .before .pre .1)) (c .before .before .before .before .before .before .if1 .left) (c .if2 .left)
+is-pow t c =
+    let if1 = c .before .before .before .before .before .before .if1 in
+    let head-at = c .before .before .before .before .before .before .before .head-at in
+    let start = c .before .before .before .before .before .before .before .before .before .before in
+    kind-pow (head-at .ensures) (ready-standing (start .pre .1)) (if1 .left) (c .if2 .left)
 
 -- the head and p's code stand in it
 abbrev table : (t : ℕ) → build-at-lts.Else2 (claims t) (build-at-at t) build-at.Post → List ℕ
-table t c = set (putMid 1 (length (c .before .before .before .before .before .before .before .before .before .before .args .out .now) - 1) (c .before .before .before .before .before .before .before .before .before .before .args .out .now) (c .before .before .before .before .build-at .last .1 .1 .0)) 0 (2147483648 + 64 * (c .before .before .before .before .build-at .result .words) + (c .before .before .before .before .before .before .before .head-at .result .number))
+table t c =
+    let at-build-at = c .before .before .before .before .build-at in
+    let head-at = c .before .before .before .before .before .before .before .head-at in
+    let start = c .before .before .before .before .before .before .before .before .before .before in
+    set (putMid 1 (length (start .args .out .now) - 1) (start .args .out .now) (at-build-at .last .1 .1 .0)) 0 (2147483648 + 64 * (at-build-at .result .words) + (head-at .result .number))
 
 table-length : (t : ℕ) (c : build-at-lts.Else2 (claims t) (build-at-at t) build-at.Post) → length (table t c) ≡ length (c .before .before .before .before .before .before .before .before .before .before .args .out .now)
 table-length t c = simp length-set (c .before .before .before .out .given .1)

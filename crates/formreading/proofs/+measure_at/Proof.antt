@@ -32,7 +32,11 @@ abbrev claims : ℕ → measure-at-lts.Claims
 claims t = (head-at-reads.Asked, head-at-reads.Learnt, leaf-measures-reads.Asked, leaf-measures-reads.Learnt, measure-at-below t, measure-at.Post, popped-reads.Asked, popped-reads.Learnt, joined-reads.Asked, joined-reads.Learnt)
 
 is-pow : (t : ℕ) (c : measure-at-lts.Else2 (claims t) (measure-at-at t) measure-at.Post) → c .before .before .before .before .before .head-at .result .kind ≡ 3
-is-pow t c = kind-pow (c .before .before .before .before .before .head-at .ensures) (c .before .before .before .before .before .before .before .pre .1) (c .before .before .before .before .if1 .left) (c .if2 .left)
+is-pow t c =
+    let if1 = c .before .before .before .before .if1 in
+    let head-at = c .before .before .before .before .before .head-at in
+    let start = c .before .before .before .before .before .before .before in
+    kind-pow (head-at .ensures) (start .pre .1) (if1 .left) (c .if2 .left)
 
 pub +measure-at-spec : {M : Type 1} → statement M
 +measure-at-spec = close μ-measure-at λ t.

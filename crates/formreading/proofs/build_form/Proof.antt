@@ -14,7 +14,9 @@ same-length : tie.Need-same-length
 same-length c = search needs
 
 returns : tie.Need-returns
-returns c = λ f e. c .before .before .build-at .ensures .made f _ (accepted-stands _ _ (c .before .before .before .before .before .before .pre .0 .0) f e) (accepted-fit _ _ (c .before .before .before .before .before .before .pre .0 .0) f e)
+returns c =
+    let start = c .before .before .before .before .before .before in
+    λ f e. c .before .before .build-at .ensures .made f _ (accepted-stands _ _ (start .pre .0 .0) f e) (accepted-fit _ _ (start .pre .0 .0) f e)
 
 pub build-form-spec : {M : Type 1} → statement M
 build-form-spec = tie.close (tie.spec build-at-requires same-length returns)

@@ -27,12 +27,17 @@ limited-requires : tie.Need-limited-requires
 limited-requires c κs = search needs
 
 returns : tie.Need-returns
-returns c = answer-wrong _ (c .before .before .before .before .before .pre .0) (now (c .before .before .before .before .before .args .s)) (c .before .before .before .before .before .pre .1) _ (seen-as _ _ refl (c .before .seen .given .1) (c .before .before .before .judge-at .ensures))
+returns c =
+    let start = c .before .before .before .before .before in
+    answer-wrong _ (start .pre .0) (now (start .args .s)) (start .pre .1) _ (seen-as _ _ refl (c .before .seen .given .1) (c .before .before .before .judge-at .ensures))
 
 returns-2 : tie.Need-returns-2
 returns-2 c =
+    let at-enum-told = c .before .before .before .before .enum-told in
+    let judge-at = c .before .before .before .before .before .before .judge-at in
+    let start = c .before .before .before .before .before .before .before .before in
     c .limited .ensures
-    ∙ answer-fine _ (c .before .before .before .before .before .before .before .before .pre .0) (now (c .before .before .before .before .before .before .before .before .args .s)) (c .before .before .before .before .before .before .before .before .pre .1) _ _ (seen-as _ _ refl (c .before .before .before .before .enum-told .given .1) (c .before .before .before .before .before .before .judge-at .ensures)) (c .before .before .before .measure-at .ensures) (c .before .at-least-one .ensures)
+    ∙ answer-fine _ (start .pre .0) (now (start .args .s)) (start .pre .1) _ _ (seen-as _ _ refl (at-enum-told .given .1) (judge-at .ensures)) (c .before .before .before .measure-at .ensures) (c .before .at-least-one .ensures)
 
 pub judge-text-spec : {M : Type 1} → statement M
 judge-text-spec =

@@ -22,7 +22,9 @@ ready-requires c κs = search needs
 
 -- src/lib.rt:65:9
 returns : tie.Need-returns
-returns c = let s = c .before .before .before .before .before .before .before .before .args in
+returns c =
+    let start = c .before .before .before .before .before .before .before .before in
+    let s = start .args in
     let ts = length (s .a .now) ∷ length (s .b .now) ∷ length (s .c .now) ∷ length (s .d .now) ∷ [] in
     refused-whole (s .row .now) ts (s .point .now) _ _ (remainder-pointed (s .row .now) ts (s .s .now) (s .point .now)) (s .a .now) (s .b .now) (s .c .now) (s .d .now) (c .before .ready .ensures) (c .if1 .taken)
 
@@ -48,15 +50,24 @@ same-length-4 c = search needs
 
 -- src/lib.rt:71:9
 returns-2 : tie.Need-returns-2
-returns-2 c = let s = c .before .before .before .before .before .before .before .before .before .before .before .before .before .before .before .before .before .before .before .before .before .before .args in
+returns-2 c =
+    let clear-tables = c .before .before .before .before .before .before .before .before .clear-tables in
+    let if2 = c .before .before .before .before .before .before .before .before .before .before .before .before .before .if2 in
+    let if1 = c .before .before .before .before .before .before .before .before .before .before .before .before .before .before .if1 in
+    let ready = c .before .before .before .before .before .before .before .before .before .before .before .before .before .before .before .ready in
+    let start = c .before .before .before .before .before .before .before .before .before .before .before .before .before .before .before .before .before .before .before .before .before .before in
+    let s = start .args in
     let ts = length (s .a .now) ∷ length (s .b .now) ∷ length (s .c .now) ∷ length (s .d .now) ∷ [] in
-    let o = ready-open (s .row .now) ts (sym (c .before .before .before .before .before .before .before .before .before .before .before .before .before .before .before .ready .ensures) ∙ c .before .before .before .before .before .before .before .before .before .before .before .before .before .before .if1 .left) in
-    other-length (s .row .now) ts (s .point .now) _ _ (remainder-pointed (s .row .now) ts (s .s .now) (s .point .now)) (s .a .now) (s .b .now) (s .c .now) (s .d .now) o (c .before .before .before .before .before .before .before .before .before .before .before .before .before .if2 .taken) (zeros-of refl refl refl refl (c .before .before .before .before .before .before .before .before .clear-tables .ensures))
+    let o = ready-open (s .row .now) ts (sym (ready .ensures) ∙ if1 .left) in
+    other-length (s .row .now) ts (s .point .now) _ _ (remainder-pointed (s .row .now) ts (s .s .now) (s .point .now)) (s .a .now) (s .b .now) (s .c .now) (s .d .now) o (if2 .taken) (zeros-of refl refl refl refl (clear-tables .ensures))
 
 -- src/lib.rt:73:9
 form-remainder-of-requires : tie.Need-form-remainder-of-requires
-form-remainder-of-requires c κs = let s = c .before .before .before .before .before .before .before .before .before .before .before .args in
-    let o = ready-open (s .row .now) (length (s .a .now) ∷ length (s .b .now) ∷ length (s .c .now) ∷ length (s .d .now) ∷ []) (sym (c .before .before .before .before .ready .ensures) ∙ c .before .before .before .if1 .left) in
+form-remainder-of-requires c κs =
+    let ready = c .before .before .before .before .ready in
+    let start = c .before .before .before .before .before .before .before .before .before .before .before in
+    let s = start .args in
+    let o = ready-open (s .row .now) (length (s .a .now) ∷ length (s .b .now) ∷ length (s .c .now) ∷ length (s .d .now) ∷ []) (sym (ready .ensures) ∙ c .before .before .before .if1 .left) in
     let l = open-long (length (s .a .now)) (length (s .b .now)) (length (s .c .now)) (length (s .d .now)) o in
     (o .proper, ((l .first, l .second), c .before .before .if2 .left))
 
@@ -82,12 +93,19 @@ same-length-8 c = search needs
 
 -- src/lib.rt:51:1
 returns-3 : tie.Need-returns-3
-returns-3 c = let s = c .before .before .before .before .before .before .before .before .before .before .before .before .before .before .before .before .before .before .before .before .before .before .before .before .before .before .before .before .before .args in
-    let f = c .before .before .before .before .before .before .before .before .before .before .before .before .before .before .before .before .before .form-remainder-of in
+returns-3 c =
+    let clear-tables2 = c .before .before .before .before .before .before .before .before .clear-tables2 in
+    let form-remainder-of = c .before .before .before .before .before .before .before .before .before .before .before .before .before .before .before .before .before .form-remainder-of in
+    let if2 = c .before .before .before .before .before .before .before .before .before .before .before .before .before .before .before .before .before .before .before .before .if2 in
+    let if1 = c .before .before .before .before .before .before .before .before .before .before .before .before .before .before .before .before .before .before .before .before .before .if1 in
+    let ready = c .before .before .before .before .before .before .before .before .before .before .before .before .before .before .before .before .before .before .before .before .before .before .ready in
+    let start = c .before .before .before .before .before .before .before .before .before .before .before .before .before .before .before .before .before .before .before .before .before .before .before .before .before .before .before .before .before in
+    let s = start .args in
+    let f = form-remainder-of in
     let ts = length (s .a .now) ∷ length (s .b .now) ∷ length (s .c .now) ∷ length (s .d .now) ∷ [] in
-    let o = ready-open (s .row .now) ts (sym (c .before .before .before .before .before .before .before .before .before .before .before .before .before .before .before .before .before .before .before .before .before .before .ready .ensures) ∙ c .before .before .before .before .before .before .before .before .before .before .before .before .before .before .before .before .before .before .before .before .before .if1 .left) in
-    answered-whole (s .row .now) ts (s .point .now) _ _ (remainder-pointed (s .row .now) ts (s .s .now) (s .point .now)) (s .a .now) (s .b .now) (s .c .now) (s .d .now) o (c .before .before .before .before .before .before .before .before .before .before .before .before .before .before .before .before .before .before .before .before .if2 .left) (remainder-clears (s .row .now) ts (s .s .now) (s .point .now)) (f .ensures)
-    (zeros-of (f .kept .1 .1 .1 .0) (f .kept .1 .1 .1 .1 .0) refl refl (c .before .before .before .before .before .before .before .before .clear-tables2 .ensures))
+    let o = ready-open (s .row .now) ts (sym (ready .ensures) ∙ if1 .left) in
+    answered-whole (s .row .now) ts (s .point .now) _ _ (remainder-pointed (s .row .now) ts (s .s .now) (s .point .now)) (s .a .now) (s .b .now) (s .c .now) (s .d .now) o (if2 .left) (remainder-clears (s .row .now) ts (s .s .now) (s .point .now)) (f .ensures)
+    (zeros-of (f .kept .1 .1 .1 .0) (f .kept .1 .1 .1 .1 .0) refl refl (clear-tables2 .ensures))
 
 pub form-remainder-spec : {M : Type 1} → statement M
 form-remainder-spec =

@@ -20,7 +20,9 @@ use Rattle.walks.proofs.value.Reads as value-reads
 
 -- src/lib.rt:39:9
 read-form-requires : tie.Need-read-form-requires
-read-form-requires c κs = (row-length (c .before .before .before .before .before .args .row .now) (c .before .before .before .before .before .pre .0) .1, omega (arith, c .before .before .before .before .before .pre .1 .0 .0))
+read-form-requires c κs =
+    let start = c .before .before .before .before .before in
+    (row-length (start .args .row .now) (start .pre .0) .1, omega (arith, start .pre .1 .0 .0))
 
 -- src/lib.rt:40:23
 enum-known-reading : tie.Need-enum-known-reading
@@ -40,32 +42,53 @@ same-length c = search needs
 
 -- src/lib.rt:41:9
 returns : tie.Need-returns
-returns c = c .refused .ensures ∙ remainder-refused (c .before .before .before .before .before .before .before .before .before .before .before .args .row .now) (c .before .before .before .before .before .before .before .before .before .before .before .args .point .now) (c .before .enum-told .given .1) (c .before .before .before .before .before .read-form .ensures)
+returns c =
+    let at-read-form = c .before .before .before .before .before .read-form in
+    let start = c .before .before .before .before .before .before .before .before .before .before .before in
+    c .refused .ensures ∙ remainder-refused (start .args .row .now) (start .args .point .now) (c .before .enum-told .given .1) (at-read-form .ensures)
 
 -- src/lib.rt:43:5
 put-point-requires : tie.Need-put-point-requires
-put-point-requires c κs = omega (arith, row-length (c .before .before .before .before .before .before .before .before .before .before .before .before .args .row .now) (c .before .before .before .before .before .before .before .before .before .before .before .before .pre .0) .1, c .before .before .before .before .before .before .before .before .before .before .before .before .pre .1 .1, c .before .before .before .before .before .before .before .before .before .before .before .before .pre .1 .0 .1)
+put-point-requires c κs =
+    let start = c .before .before .before .before .before .before .before .before .before .before .before .before in
+    omega (arith, row-length (start .args .row .now) (start .pre .0) .1, start .pre .1 .1, start .pre .1 .0 .1)
 
 -- src/lib.rt:45:29
 slice-reshare-prefix-value : tie.Need-slice-reshare-prefix-value
-slice-reshare-prefix-value c = begins-le (read-form (c .before .before .before .before .before .reading .given .1) (c .before .before .before .before .before .before .before .before .before .read-form .ensures) .made)
+slice-reshare-prefix-value c =
+    let reading = c .before .before .before .before .before .reading in
+    let at-read-form = c .before .before .before .before .before .before .before .before .before .read-form in
+    begins-le (read-form (reading .given .1) (at-read-form .ensures) .made)
 
 -- src/lib.rt:45:29
 slice-aggregate-value : tie.Need-slice-aggregate-value
-slice-aggregate-value c = sym (length-take-le (c .before .before .before .before .before .before .reading .given .0 .1 .0) (c .before .before .before .before .before .before .before .before .before .before .read-form .last .1 .1 .0) (begins-le (read-form (c .before .before .before .before .before .before .reading .given .1) (c .before .before .before .before .before .before .before .before .before .before .read-form .ensures) .made)))
+slice-aggregate-value c =
+    let reading = c .before .before .before .before .before .before .reading in
+    let at-read-form = c .before .before .before .before .before .before .before .before .before .before .read-form in
+    sym (length-take-le (reading .given .0 .1 .0) (at-read-form .last .1 .1 .0) (begins-le (read-form (reading .given .1) (at-read-form .ensures) .made)))
 
 -- src/lib.rt:45:38
 slice-reshare-prefix-value-2 : tie.Need-slice-reshare-prefix-value-2
-slice-reshare-prefix-value-2 c = omega (arith, row-length (c .before .before .before .before .before .before .before .before .before .before .before .before .before .before .before .before .args .row .now) (c .before .before .before .before .before .before .before .before .before .before .before .before .before .before .before .before .pre .0) .1, c .before .before .before .before .before .before .before .before .before .before .before .before .before .before .before .before .pre .1 .1, c .before .before .before .before .before .before .before .before .before .before .before .before .before .before .before .before .pre .1 .0 .1, c .before .before .before .put-point .kept .1 .0)
+slice-reshare-prefix-value-2 c =
+    let start = c .before .before .before .before .before .before .before .before .before .before .before .before .before .before .before .before in
+    omega (arith, row-length (start .args .row .now) (start .pre .0) .1, start .pre .1 .1, start .pre .1 .0 .1, c .before .before .before .put-point .kept .1 .0)
 
 -- src/lib.rt:45:38
 slice-aggregate-value-2 : tie.Need-slice-aggregate-value-2
-slice-aggregate-value-2 c = sym (length-take-le (length (c .before .before .before .before .before .before .before .before .before .before .before .before .before .before .before .before .before .args .point .now)) (c .before .before .before .before .put-point .last .1 .0) (omega (arith, row-length (c .before .before .before .before .before .before .before .before .before .before .before .before .before .before .before .before .before .args .row .now) (c .before .before .before .before .before .before .before .before .before .before .before .before .before .before .before .before .before .pre .0) .1, c .before .before .before .before .before .before .before .before .before .before .before .before .before .before .before .before .before .pre .1 .1, c .before .before .before .before .before .before .before .before .before .before .before .before .before .before .before .before .before .pre .1 .0 .1, c .before .before .before .before .put-point .kept .1 .0)))
+slice-aggregate-value-2 c =
+    let put-point = c .before .before .before .before .put-point in
+    let start = c .before .before .before .before .before .before .before .before .before .before .before .before .before .before .before .before .before in
+    sym (length-take-le (length (start .args .point .now)) (put-point .last .1 .0) (omega (arith, row-length (start .args .row .now) (start .pre .0) .1, start .pre .1 .1, start .pre .1 .0 .1, put-point .kept .1 .0)))
 
 -- src/lib.rt:45:9
 value-requires : tie.Need-value-requires
-value-requires c κs = let N = c .before .before .before .before .before .before .before .before .before .before .before .before .before .before .before .before .before .args .point .now in
-    (form-coded (row-length (c .before .before .before .before .before .before .before .before .before .before .before .before .before .before .before .before .before .args .row .now) (c .before .before .before .before .before .before .before .before .before .before .before .before .before .before .before .before .before .pre .0) .1) (read-form (c .before .before .before .before .before .before .before .reading .given .1) (c .before .before .before .before .before .before .before .before .before .before .before .read-form .ensures)), front-leaves N (length N) (drop (length N) (c .before .before .before .before .before .before .before .before .before .before .before .before .before .before .before .before .before .args .b .now)) refl (c .before .before .before .before .put-point .ensures))
+value-requires c κs =
+    let put-point = c .before .before .before .before .put-point in
+    let reading = c .before .before .before .before .before .before .before .reading in
+    let at-read-form = c .before .before .before .before .before .before .before .before .before .before .before .read-form in
+    let start = c .before .before .before .before .before .before .before .before .before .before .before .before .before .before .before .before .before in
+    let N = start .args .point .now in
+    (form-coded (row-length (start .args .row .now) (start .pre .0) .1) (read-form (reading .given .1) (at-read-form .ensures)), front-leaves N (length N) (drop (length N) (start .args .b .now)) refl (put-point .ensures))
 
 -- src/lib.rt:27:1
 same-length-2 : tie.Need-same-length-2
@@ -77,8 +100,13 @@ same-length-3 c = search needs
 
 -- src/lib.rt:27:1
 returns-2 : tie.Need-returns-2
-returns-2 c = let N = c .before .before .before .before .before .before .before .before .before .before .before .before .before .before .before .before .before .before .args .point .now in
-    remainder-is (c .before .before .before .before .before .before .before .before .before .before .before .before .before .before .before .before .before .before .args .row .now) N (length N) (drop (length N) (c .before .before .before .before .before .before .before .before .before .before .before .before .before .before .before .before .before .before .args .b .now)) (row-length (c .before .before .before .before .before .before .before .before .before .before .before .before .before .before .before .before .before .before .args .row .now) (c .before .before .before .before .before .before .before .before .before .before .before .before .before .before .before .before .before .before .pre .0) .1) (read-form (c .before .before .before .before .before .before .before .before .reading .given .1) (c .before .before .before .before .before .before .before .before .before .before .before .before .read-form .ensures)) refl (c .before .before .before .before .before .put-point .ensures) (c .value .ensures .0)
+returns-2 c =
+    let put-point = c .before .before .before .before .before .put-point in
+    let reading = c .before .before .before .before .before .before .before .before .reading in
+    let at-read-form = c .before .before .before .before .before .before .before .before .before .before .before .before .read-form in
+    let start = c .before .before .before .before .before .before .before .before .before .before .before .before .before .before .before .before .before .before in
+    let N = start .args .point .now in
+    remainder-is (start .args .row .now) N (length N) (drop (length N) (start .args .b .now)) (row-length (start .args .row .now) (start .pre .0) .1) (read-form (reading .given .1) (at-read-form .ensures)) refl (put-point .ensures) (c .value .ensures .0)
 
 pub form-remainder-of-spec : {M : Type 1} → statement M
 form-remainder-of-spec =

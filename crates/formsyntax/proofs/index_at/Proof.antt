@@ -27,13 +27,22 @@ enum-told-2 : tie.Need-enum-told-2
 enum-told-2 c = search needs
 
 returns-2 : tie.Need-returns-2
-returns-2 c = index-none (now (c .before .before .before .before .before .before .before .before .args .s)) _ _ (c .before .before .before .before .before .before .expect .ensures) _ (c .before .before .before .before .space .given .1) _ (c .before .before .natural-at .ensures) (c .enum-told2 .given .1)
+returns-2 c =
+    let space = c .before .before .before .before .space in
+    let expect = c .before .before .before .before .before .before .expect in
+    let start = c .before .before .before .before .before .before .before .before in
+    index-none (now (start .args .s)) _ _ (expect .ensures) _ (space .given .1) _ (c .before .before .natural-at .ensures) (c .enum-told2 .given .1)
 
 expect-requires-2 : tie.Need-expect-requires-2
 expect-requires-2 c κs = search needs
 
 returns-3 : tie.Need-returns-3
-returns-3 c = index-all (now (c .before .before .before .before .before .before .before .before .before .before .args .s)) _ _ (c .before .before .before .before .before .before .before .before .expect .ensures) _ (c .before .before .before .before .before .before .space .given .1) _ (c .before .before .before .before .natural-at .ensures) (c .before .before .index .given .1) _ (c .expect2 .ensures)
+returns-3 c =
+    let natural-at = c .before .before .before .before .natural-at in
+    let space = c .before .before .before .before .before .before .space in
+    let expect = c .before .before .before .before .before .before .before .before .expect in
+    let start = c .before .before .before .before .before .before .before .before .before .before in
+    index-all (now (start .args .s)) _ _ (expect .ensures) _ (space .given .1) _ (natural-at .ensures) (c .before .before .index .given .1) _ (c .expect2 .ensures)
 
 pub index-at-spec : {M : Type 1} → statement M
 index-at-spec =

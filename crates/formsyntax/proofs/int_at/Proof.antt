@@ -16,7 +16,9 @@ natural-at-requires : tie.Need-natural-at-requires
 natural-at-requires c κs = search needs
 
 returns : tie.Need-returns
-returns c = int-natural (now (c .before .before .before .before .args .s)) _ _ (c .before .before .before .before .pre) (sym (c .before .before .is-at .ensures) ∙ not-true _ (c .before .if1 .taken)) (c .natural-at .ensures)
+returns c =
+    let start = c .before .before .before .before in
+    int-natural (now (start .args .s)) _ _ (start .pre) (sym (c .before .before .is-at .ensures) ∙ not-true _ (c .before .if1 .taken)) (c .natural-at .ensures)
 
 add-i : tie.Need-add-i
 add-i c = omega (arith, at-inside (now (c .before .before .before .args .s)) _ _ (sym (c .before .is-at .ensures) ∙ not-false _ (c .if1 .left)))
@@ -25,13 +27,18 @@ is-at-requires-2 : tie.Need-is-at-requires-2
 is-at-requires-2 c κs = search needs
 
 returns-2 : tie.Need-returns-2
-returns-2 c = int-zero (now (c .before .before .before .before .before .args .s)) _ (sym (c .before .before .before .is-at .ensures) ∙ not-false _ (c .before .before .if1 .left)) (sym (c .before .is-at2 .ensures) ∙ c .if2 .taken)
+returns-2 c =
+    let start = c .before .before .before .before .before in
+    int-zero (now (start .args .s)) _ (sym (c .before .before .before .is-at .ensures) ∙ not-false _ (c .before .before .if1 .left)) (sym (c .before .is-at2 .ensures) ∙ c .if2 .taken)
 
 natural-at-requires-2 : tie.Need-natural-at-requires-2
 natural-at-requires-2 c κs = search needs
 
 returns-3 : tie.Need-returns-3
-returns-3 c = int-signed (now (c .before .before .before .before .before .before .args .s)) _ (sym (c .before .before .before .before .is-at .ensures) ∙ not-false _ (c .before .before .before .if1 .left)) _ (sym (c .before .before .is-at2 .ensures) ∙ c .before .if2 .left) (c .natural-at2 .ensures)
+returns-3 c =
+    let is-at = c .before .before .before .before .is-at in
+    let start = c .before .before .before .before .before .before in
+    int-signed (now (start .args .s)) _ (sym (is-at .ensures) ∙ not-false _ (c .before .before .before .if1 .left)) _ (sym (c .before .before .is-at2 .ensures) ∙ c .before .if2 .left) (c .natural-at2 .ensures)
 
 pub int-at-spec : {M : Type 1} → statement M
 int-at-spec =

@@ -19,13 +19,24 @@ enum-known-part-2 : tie.Need-enum-known-part-2
 enum-known-part-2 c = search needs
 
 returns-2 : tie.Need-returns-2
-returns-2 c = judge-whole (now (c .before .before .before .before .before .before .before .args .s)) (c .before .before .before .before .before .if1 .left) _ (c .before .before .before .before .form-at .ensures) (c .before .before .part2 .given .1) (c .if2 .taken)
+returns-2 c =
+    let form-at = c .before .before .before .before .form-at in
+    let if1 = c .before .before .before .before .before .if1 in
+    let start = c .before .before .before .before .before .before .before in
+    judge-whole (now (start .args .s)) (if1 .left) _ (form-at .ensures) (c .before .before .part2 .given .1) (c .if2 .taken)
 
 returns-3 : tie.Need-returns-3
-returns-3 c = judge-off (now (c .before .before .before .before .before .before .args .s)) (c .before .before .before .before .if1 .left) _ (c .before .before .before .form-at .ensures) (c .before .part .given .1)
+returns-3 c =
+    let if1 = c .before .before .before .before .if1 in
+    let start = c .before .before .before .before .before .before in
+    judge-off (now (start .args .s)) (if1 .left) _ (c .before .before .before .form-at .ensures) (c .before .part .given .1)
 
 returns-4 : tie.Need-returns-4
-returns-4 c = judge-more (now (c .before .before .before .before .before .before .before .args .s)) (c .before .before .before .before .before .if1 .left) _ (c .before .before .before .before .form-at .ensures) (c .before .before .part2 .given .1) (c .if2 .left)
+returns-4 c =
+    let form-at = c .before .before .before .before .form-at in
+    let if1 = c .before .before .before .before .before .if1 in
+    let start = c .before .before .before .before .before .before .before in
+    judge-more (now (start .args .s)) (if1 .left) _ (form-at .ensures) (c .before .before .part2 .given .1) (c .if2 .left)
 
 pub judge-form-spec : {M : Type 1} → statement M
 judge-form-spec =

@@ -21,7 +21,10 @@ expect-requires-2 : tie.Need-expect-requires-2
 expect-requires-2 c κs = search needs
 
 returns-2 : tie.Need-returns-2
-returns-2 c = letters (now (c .before .before .before .before .before .before .args .s)) _ _ (c .before .before .before .before .expect .ensures) (c .before .before .p .given .1) _ (c .expect2 .ensures)
+returns-2 c =
+    let expect = c .before .before .before .before .expect in
+    let start = c .before .before .before .before .before .before in
+    letters (now (start .args .s)) _ _ (expect .ensures) (c .before .before .p .given .1) _ (c .expect2 .ensures)
 
 pub letters-at-spec : {M : Type 1} → statement M
 letters-at-spec =

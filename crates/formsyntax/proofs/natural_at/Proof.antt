@@ -23,13 +23,19 @@ is-digit-requires : tie.Need-is-digit-requires
 is-digit-requires c κs = search needs
 
 returns-3 : tie.Need-returns-3
-returns-3 c = natural-none (now (c .before .before .before .before .before .before .args .s)) _ (c .before .before .before .before .if1 .left) (c .before .before .if2 .left) (sym (c .before .is-digit .ensures) ∙ not-true _ (c .if3 .taken))
+returns-3 c =
+    let if1 = c .before .before .before .before .if1 in
+    let start = c .before .before .before .before .before .before in
+    natural-none (now (start .args .s)) _ (if1 .left) (c .before .before .if2 .left) (sym (c .before .is-digit .ensures) ∙ not-true _ (c .if3 .taken))
 
 digits-at-requires : tie.Need-digits-at-requires
 digits-at-requires c κs = search needs
 
 returns-4 : tie.Need-returns-4
-returns-4 c = natural-more (now (c .before .before .before .before .before .before .before .args .s)) _ (c .before .before .before .before .before .if1 .left) (c .before .before .before .if2 .left) _ (sym (c .before .before .is-digit .ensures) ∙ not-false _ (c .before .if3 .left)) (c .digits-at .ensures)
+returns-4 c =
+    let if1 = c .before .before .before .before .before .if1 in
+    let start = c .before .before .before .before .before .before .before in
+    natural-more (now (start .args .s)) _ (if1 .left) (c .before .before .before .if2 .left) _ (sym (c .before .before .is-digit .ensures) ∙ not-false _ (c .before .if3 .left)) (c .digits-at .ensures)
 
 pub natural-at-spec : {M : Type 1} → statement M
 natural-at-spec =

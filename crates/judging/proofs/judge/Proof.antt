@@ -18,7 +18,9 @@ is-row-requires c κs = search needs
 
 -- src/lib.rt:19:9
 returns : tie.Need-returns
-returns c = row-refused (now (c .before .before .before .before .args .row)) (now (c .before .before .before .before .args .s)) (sym (c .before .is-row .ensures) ∙ not-true _ (c .if1 .taken))
+returns c =
+    let start = c .before .before .before .before in
+    row-refused (now (start .args .row)) (now (start .args .s)) (sym (c .before .is-row .ensures) ∙ not-true _ (c .if1 .taken))
 
 -- src/lib.rt:21:9
 accept-form-requires : tie.Need-accept-form-requires
@@ -34,11 +36,18 @@ enum-told c = search needs
 
 -- src/lib.rt:15:1
 returns-2 : tie.Need-returns-2
-returns-2 c = text-refused (now (c .before .before .before .before .before .before .before .before .args .row)) (now (c .before .before .before .before .before .before .before .before .args .s)) (sym (c .before .before .before .before .before .is-row .ensures) ∙ not-false _ (c .before .before .before .before .if1 .left)) (sym (c .before .before .before .accept-form .ensures) ∙ c .before .judged .given .1)
+returns-2 c =
+    let if1 = c .before .before .before .before .if1 in
+    let is-row = c .before .before .before .before .before .is-row in
+    let start = c .before .before .before .before .before .before .before .before in
+    text-refused (now (start .args .row)) (now (start .args .s)) (sym (is-row .ensures) ∙ not-false _ (if1 .left)) (sym (c .before .before .before .accept-form .ensures) ∙ c .before .judged .given .1)
 
 -- src/lib.rt:15:1
 returns-3 : tie.Need-returns-3
-returns-3 c = text-stands (now (c .before .before .before .before .before .before .before .args .row)) (now (c .before .before .before .before .before .before .before .args .s)) (sym (c .before .before .before .before .is-row .ensures) ∙ not-false _ (c .before .before .before .if1 .left)) (sym (c .before .before .accept-form .ensures) ∙ c .enum-told .given .1)
+returns-3 c =
+    let is-row = c .before .before .before .before .is-row in
+    let start = c .before .before .before .before .before .before .before in
+    text-stands (now (start .args .row)) (now (start .args .s)) (sym (is-row .ensures) ∙ not-false _ (c .before .before .before .if1 .left)) (sym (c .before .before .accept-form .ensures) ∙ c .enum-told .given .1)
 
 pub judge-spec : {M : Type 1} → statement M
 judge-spec =

@@ -31,7 +31,13 @@ lesser-requires : tie.Need-lesser-requires
 lesser-requires c κs = search needs
 
 returns : tie.Need-returns
-returns c = made (min (c .before .before .before .before .before .before .before .before .before .before .args .a .terms + c .before .before .before .before .before .before .before .before .before .before .args .b .terms)) refl (c .before .before .before .before .before .before .before .before .before .larger .ensures) (c .before .before .before .before .before .before .before .before .larger2 .ensures) (c .before .before .before .before .before .before .before .larger3 .ensures) (c .before .before .before .before .before .before .larger4 .ensures) (c .before .box-of .ensures) (c .lesser .ensures)
+returns c =
+    let larger4 = c .before .before .before .before .before .before .larger4 in
+    let larger3 = c .before .before .before .before .before .before .before .larger3 in
+    let larger2 = c .before .before .before .before .before .before .before .before .larger2 in
+    let larger = c .before .before .before .before .before .before .before .before .before .larger in
+    let start = c .before .before .before .before .before .before .before .before .before .before in
+    made (min (start .args .a .terms + start .args .b .terms)) refl (larger .ensures) (larger2 .ensures) (larger3 .ensures) (larger4 .ensures) (c .before .box-of .ensures) (c .lesser .ensures)
 
 pub add-spec : {M : Type 1} → statement M
 add-spec =

@@ -25,9 +25,10 @@ cut-product-requires c κs = search needs
 
 mul-lesser : tie.Need-mul-lesser
 mul-lesser c =
-    let a = c .before .before .before .before .before .before .before .before .before .before .before .args .a .terms in
-    let d = c .before .before .before .before .before .before .before .before .before .before .before .args .b .terms in
-    let e : a * d ≤ 256 * 256 = mul-le-mul (c .before .before .before .before .before .before .before .before .before .before .before .pre .0 .terms-small) (c .before .before .before .before .before .before .before .before .before .before .before .pre .1 .terms-small) in
+    let start = c .before .before .before .before .before .before .before .before .before .before .before in
+    let a = start .args .a .terms in
+    let d = start .args .b .terms in
+    let e : a * d ≤ 256 * 256 = mul-le-mul (start .pre .0 .terms-small) (start .pre .1 .terms-small) in
     omega arith
 
 box-of-requires : tie.Need-box-of-requires
@@ -37,7 +38,10 @@ lesser-requires : tie.Need-lesser-requires
 lesser-requires c κs = search needs
 
 returns : tie.Need-returns
-returns c = made (min (c .before .before .before .before .before .before .before .before .before .before .before .before .before .args .a .terms * c .before .before .before .before .before .before .before .before .before .before .before .before .before .args .b .terms)) (c .before .before .before .before .cut-product .ensures) refl refl refl refl (c .before .box-of .ensures) (c .lesser .ensures)
+returns c =
+    let cut-product = c .before .before .before .before .cut-product in
+    let start = c .before .before .before .before .before .before .before .before .before .before .before .before .before in
+    made (min (start .args .a .terms * start .args .b .terms)) (cut-product .ensures) refl refl refl refl (c .before .box-of .ensures) (c .lesser .ensures)
 
 pub multiply-spec : {M : Type 1} → statement M
 multiply-spec =

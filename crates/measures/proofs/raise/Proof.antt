@@ -27,13 +27,17 @@ cut-power-requires-2 : tie.Need-cut-power-requires-2
 cut-power-requires-2 c κs = search needs
 
 box-of-requires : tie.Need-box-of-requires
-box-of-requires c κs = (omega (arith, times-63 (c .before .before .before .before .before .before .pre .1) (c .before .before .before .before .before .before .pre .0 .small-0)), (omega (arith, times-63 (c .before .before .before .before .before .before .pre .1) (c .before .before .before .before .before .before .pre .0 .small-1)), (omega (arith, times-63 (c .before .before .before .before .before .before .pre .1) (c .before .before .before .before .before .before .pre .0 .small-2)), omega (arith, times-63 (c .before .before .before .before .before .before .pre .1) (c .before .before .before .before .before .before .pre .0 .small-3)))))
+box-of-requires c κs =
+    let start = c .before .before .before .before .before .before in
+    (omega (arith, times-63 (start .pre .1) (start .pre .0 .small-0)), (omega (arith, times-63 (start .pre .1) (start .pre .0 .small-1)), (omega (arith, times-63 (start .pre .1) (start .pre .0 .small-2)), omega (arith, times-63 (start .pre .1) (start .pre .0 .small-3)))))
 
 lesser-requires : tie.Need-lesser-requires
 lesser-requires c κs = search needs
 
 returns : tie.Need-returns
-returns c = made (λ x. min (min (c .before .before .before .before .before .before .before .before .args .a .terms ^ c .before .before .before .before .before .before .before .before .args .k) 16777216) x) (c .before .before .before .cut-power .ensures) refl refl refl refl (c .before .box-of .ensures) (c .lesser .ensures ∙ ap (λ m. min m (c .before .box-of .result)) (c .before .before .cut-power2 .ensures))
+returns c =
+    let start = c .before .before .before .before .before .before .before .before in
+    made (λ x. min (min (start .args .a .terms ^ start .args .k) 16777216) x) (c .before .before .before .cut-power .ensures) refl refl refl refl (c .before .box-of .ensures) (c .lesser .ensures ∙ ap (λ m. min m (c .before .box-of .result)) (c .before .before .cut-power2 .ensures))
 
 pub raise-spec : {M : Type 1} → statement M
 raise-spec =

@@ -29,7 +29,9 @@ use Rattle.measures.proofs.multiply.Reads as multiply-reads′
 
 -- src/lib.rt:40:32
 multiply-requires : tie.Need-multiply-requires
-multiply-requires c κs = (form-small (c .before .before .before .before .before .before .before .before .pre .0 .0) (c .before .before .before .before .before .before .before .before .pre .1 .of-left), form-small (c .before .before .before .before .before .before .before .before .pre .0 .0) (c .before .before .before .before .before .before .before .before .pre .1 .of-right))
+multiply-requires c κs =
+    let start = c .before .before .before .before .before .before .before .before in
+    (form-small (start .pre .0 .0) (start .pre .1 .of-left), form-small (start .pre .0 .0) (start .pre .1 .of-right))
 
 -- src/lib.rt:40:9
 limit-of-requires : tie.Need-limit-of-requires
@@ -37,7 +39,9 @@ limit-of-requires c κs = search needs
 
 -- src/lib.rt:42:9
 returns : tie.Need-returns
-returns c = two-stopped (ofProduct (length (now (c .before .before .before .before .before .before .before .before .before .before .before .args .row)))) (prod ℤ-ring) (now (c .before .before .before .before .before .before .before .before .before .before .before .args .row)) (now (c .before .before .before .before .before .before .before .before .before .before .before .args .s)) (now (c .before .before .before .before .before .before .before .before .before .before .before .args .t)) (length (now (c .before .before .before .before .before .before .before .before .before .before .before .args .result))) (c .before .before .before .before .before .before .before .before .before .before .before .pre .1) (meets (c .before .before .before .before .before .before .before .before .before .before .before .pre .0 .0) (c .before .before .before .before .before .before .before .before .before .before .before .pre .1)) (now (c .before .before .before .before .before .before .before .before .before .before .before .args .result)) (c .before .limit-of .ensures ∙ ap limitM (c .before .before .multiply .ensures)) (c .if1 .taken)
+returns c =
+    let start = c .before .before .before .before .before .before .before .before .before .before .before in
+    two-stopped (ofProduct (length (now (start .args .row)))) (prod ℤ-ring) (now (start .args .row)) (now (start .args .s)) (now (start .args .t)) (length (now (start .args .result))) (start .pre .1) (meets (start .pre .0 .0) (start .pre .1)) (now (start .args .result)) (c .before .limit-of .ensures ∙ ap limitM (c .before .before .multiply .ensures)) (c .if1 .taken)
 
 -- src/lib.rt:44:45
 slice-relend-prefix-multiply : tie.Need-slice-relend-prefix-multiply
@@ -45,7 +49,9 @@ slice-relend-prefix-multiply c = search needs
 
 -- src/lib.rt:44:45
 slice-aggregate-multiply : tie.Need-slice-aggregate-multiply
-slice-aggregate-multiply c = sym (length-take-le 16384 (c .before .before .before .before .before .before .before .before .before .before .before .before .before .args .b .now) (c .before .before .before .before .before .before .before .before .before .before .before .before .before .pre .0 .1 .second))
+slice-aggregate-multiply c =
+    let start = c .before .before .before .before .before .before .before .before .before .before .before .before .before in
+    sym (length-take-le 16384 (start .args .b .now) (start .pre .0 .1 .second))
 
 -- src/lib.rt:44:62
 slice-relend-prefix-multiply-2 : tie.Need-slice-relend-prefix-multiply-2
@@ -53,7 +59,9 @@ slice-relend-prefix-multiply-2 c = search needs
 
 -- src/lib.rt:44:62
 slice-aggregate-multiply-2 : tie.Need-slice-aggregate-multiply-2
-slice-aggregate-multiply-2 c = sym (length-take-le 16384 (c .before .before .before .before .before .before .before .before .before .before .before .before .before .before .args .c .now) (c .before .before .before .before .before .before .before .before .before .before .before .before .before .before .pre .0 .1 .third))
+slice-aggregate-multiply-2 c =
+    let start = c .before .before .before .before .before .before .before .before .before .before .before .before .before .before in
+    sym (length-take-le 16384 (start .args .c .now) (start .pre .0 .1 .third))
 
 -- src/lib.rt:44:79
 slice-relend-prefix-multiply-3 : tie.Need-slice-relend-prefix-multiply-3
@@ -61,13 +69,20 @@ slice-relend-prefix-multiply-3 c = search needs
 
 -- src/lib.rt:44:79
 slice-aggregate-multiply-3 : tie.Need-slice-aggregate-multiply-3
-slice-aggregate-multiply-3 c = sym (length-take-le 6146 (c .before .before .before .before .before .before .before .before .before .before .before .before .before .before .before .args .d .now) (c .before .before .before .before .before .before .before .before .before .before .before .before .before .before .before .pre .0 .1 .fourth))
+slice-aggregate-multiply-3 c =
+    let start = c .before .before .before .before .before .before .before .before .before .before .before .before .before .before .before in
+    sym (length-take-le 6146 (start .args .d .now) (start .pre .0 .1 .fourth))
 
 -- src/lib.rt:44:9
 multiply-requires-2 : tie.Need-multiply-requires-2
-multiply-requires-2 c κs = let z = sym (c .before .before .before .before .before .limit-of .ensures ∙ ap limitM (c .before .before .before .before .before .before .multiply .ensures)) ∙ c .before .before .before .before .if1 .left in
-    let T = lengths (length-take-le 16384 (c .before .before .before .before .before .before .before .before .before .before .before .before .before .before .before .args .b .now) (c .before .before .before .before .before .before .before .before .before .before .before .before .before .before .before .pre .0 .1 .second)) (length-take-le 16384 (c .before .before .before .before .before .before .before .before .before .before .before .before .before .before .before .args .c .now) (c .before .before .before .before .before .before .before .before .before .before .before .before .before .before .before .pre .0 .1 .third)) (length-take-le 6146 (c .before .before .before .before .before .before .before .before .before .before .before .before .before .before .before .args .d .now) (c .before .before .before .before .before .before .before .before .before .before .before .before .before .before .before .pre .0 .1 .fourth)) in
-    (side-by-side (c .before .before .before .before .before .before .before .before .before .before .before .before .before .before .before .pre .0 .0) (c .before .before .before .before .before .before .before .before .before .before .before .before .before .before .before .pre .1), (space (c .before .before .before .before .before .before .before .before .before .before .before .before .before .before .before .pre .0 .0) (c .before .before .before .before .before .before .before .before .before .before .before .before .before .before .before .pre .1) z T, omega (arith, product-room (c .before .before .before .before .before .before .before .before .before .before .before .before .before .before .before .pre .0 .0) (c .before .before .before .before .before .before .before .before .before .before .before .before .before .before .before .pre .1) z, c .before .before .before .before .before .before .before .before .before .before .before .before .before .before .before .pre .0 .1 .first)))
+multiply-requires-2 c κs =
+    let if1 = c .before .before .before .before .if1 in
+    let limit-of = c .before .before .before .before .before .limit-of in
+    let multiply = c .before .before .before .before .before .before .multiply in
+    let start = c .before .before .before .before .before .before .before .before .before .before .before .before .before .before .before in
+    let z = sym (limit-of .ensures ∙ ap limitM (multiply .ensures)) ∙ if1 .left in
+    let T = lengths (length-take-le 16384 (start .args .b .now) (start .pre .0 .1 .second)) (length-take-le 16384 (start .args .c .now) (start .pre .0 .1 .third)) (length-take-le 6146 (start .args .d .now) (start .pre .0 .1 .fourth)) in
+    (side-by-side (start .pre .0 .0) (start .pre .1), (space (start .pre .0 .0) (start .pre .1) z T, omega (arith, product-room (start .pre .0 .0) (start .pre .1) z, start .pre .0 .1 .first)))
 
 -- src/lib.rt:45:29
 slice-reshare-prefix-write-result : tie.Need-slice-reshare-prefix-write-result
@@ -75,12 +90,20 @@ slice-reshare-prefix-write-result c = begins-le (c .before .before .before .befo
 
 -- src/lib.rt:45:29
 slice-aggregate-write-result : tie.Need-slice-aggregate-write-result
-slice-aggregate-write-result c = sym (length-take-le (c .before .before .before .before .before .before .before .before .before .multiply2 .result) (c .before .before .before .before .before .before .before .before .before .multiply2 .last .0) (begins-le (c .before .before .before .before .before .before .before .before .before .multiply2 .ensures)))
+slice-aggregate-write-result c =
+    let multiply2 = c .before .before .before .before .before .before .before .before .before .multiply2 in
+    sym (length-take-le (multiply2 .result) (multiply2 .last .0) (begins-le (multiply2 .ensures)))
 
 -- src/lib.rt:45:5
 write-result-requires : tie.Need-write-result-requires
-write-result-requires c κs = let z = sym (c .before .before .before .before .before .before .before .before .before .before .before .before .before .before .before .before .limit-of .ensures ∙ ap limitM (c .before .before .before .before .before .before .before .before .before .before .before .before .before .before .before .before .before .multiply .ensures)) ∙ c .before .before .before .before .before .before .before .before .before .before .before .before .before .before .before .if1 .left in
-    (coded (product-codes (c .before .before .before .before .before .before .before .before .before .before .before .before .before .before .before .before .before .before .before .before .before .before .before .before .before .before .pre .0 .0) (c .before .before .before .before .before .before .before .before .before .before .before .before .before .before .before .before .before .before .before .before .before .before .before .before .before .before .pre .1) z (c .before .before .before .before .before .before .before .before .before .before .multiply2 .ensures)), omega (arith, length-take-le (c .before .before .before .before .before .before .before .before .before .before .multiply2 .result) (c .before .before .before .before .before .before .before .before .before .before .multiply2 .last .0) (begins-le (c .before .before .before .before .before .before .before .before .before .before .multiply2 .ensures)), product-words (c .before .before .before .before .before .before .before .before .before .before .before .before .before .before .before .before .before .before .before .before .before .before .before .before .before .before .pre .0 .0) (c .before .before .before .before .before .before .before .before .before .before .before .before .before .before .before .before .before .before .before .before .before .before .before .before .before .before .pre .1) z (c .before .before .before .before .before .before .before .before .before .before .multiply2 .ensures)))
+write-result-requires c κs =
+    let multiply2 = c .before .before .before .before .before .before .before .before .before .before .multiply2 in
+    let if1 = c .before .before .before .before .before .before .before .before .before .before .before .before .before .before .before .if1 in
+    let limit-of = c .before .before .before .before .before .before .before .before .before .before .before .before .before .before .before .before .limit-of in
+    let multiply = c .before .before .before .before .before .before .before .before .before .before .before .before .before .before .before .before .before .multiply in
+    let start = c .before .before .before .before .before .before .before .before .before .before .before .before .before .before .before .before .before .before .before .before .before .before .before .before .before .before in
+    let z = sym (limit-of .ensures ∙ ap limitM (multiply .ensures)) ∙ if1 .left in
+    (coded (product-codes (start .pre .0 .0) (start .pre .1) z (multiply2 .ensures)), omega (arith, length-take-le (multiply2 .result) (multiply2 .last .0) (begins-le (multiply2 .ensures)), product-words (start .pre .0 .0) (start .pre .1) z (multiply2 .ensures)))
 
 -- src/lib.rt:21:1
 same-length : tie.Need-same-length
@@ -104,9 +127,15 @@ same-length-5 c = search needs
 
 -- src/lib.rt:21:1
 returns-2 : tie.Need-returns-2
-returns-2 c = let z = sym (c .before .before .before .before .before .before .before .before .before .before .before .before .before .before .before .before .before .before .before .limit-of .ensures ∙ ap limitM (c .before .before .before .before .before .before .before .before .before .before .before .before .before .before .before .before .before .before .before .before .multiply .ensures)) ∙ c .before .before .before .before .before .before .before .before .before .before .before .before .before .before .before .before .before .before .if1 .left in
-    let e = ap (fitted (length (now (c .before .before .before .before .before .before .before .before .before .before .before .before .before .before .before .before .before .before .before .before .before .before .before .before .before .before .before .before .before .args .result)))) (product-text (c .before .before .before .before .before .before .before .before .before .before .before .before .before .before .before .before .before .before .before .before .before .before .before .before .before .before .before .before .before .pre .0 .0) (c .before .before .before .before .before .before .before .before .before .before .before .before .before .before .before .before .before .before .before .before .before .before .before .before .before .before .before .before .before .pre .1) z (c .before .before .before .before .before .before .before .before .before .before .before .before .before .multiply2 .ensures)) ∙ sym (two-goes (ofProduct (length (now (c .before .before .before .before .before .before .before .before .before .before .before .before .before .before .before .before .before .before .before .before .before .before .before .before .before .before .before .before .before .args .row)))) (prod ℤ-ring) (now (c .before .before .before .before .before .before .before .before .before .before .before .before .before .before .before .before .before .before .before .before .before .before .before .before .before .before .before .before .before .args .row)) (now (c .before .before .before .before .before .before .before .before .before .before .before .before .before .before .before .before .before .before .before .before .before .before .before .before .before .before .before .before .before .args .s)) (now (c .before .before .before .before .before .before .before .before .before .before .before .before .before .before .before .before .before .before .before .before .before .before .before .before .before .before .before .before .before .args .t)) (length (now (c .before .before .before .before .before .before .before .before .before .before .before .before .before .before .before .before .before .before .before .before .before .before .before .before .before .before .before .before .before .args .result))) (c .before .before .before .before .before .before .before .before .before .before .before .before .before .before .before .before .before .before .before .before .before .before .before .before .before .before .before .before .before .pre .1) (meets (c .before .before .before .before .before .before .before .before .before .before .before .before .before .before .before .before .before .before .before .before .before .before .before .before .before .before .before .before .before .pre .0 .0) (c .before .before .before .before .before .before .before .before .before .before .before .before .before .before .before .before .before .before .before .before .before .before .before .before .before .before .before .before .before .pre .1)) z) in
-    (c .before .before .write-result .ensures .0 ∙ ap writtenOf e, c .before .before .write-result .ensures .1 ∙ ap (λ x. resultAfter x (now (c .before .before .before .before .before .before .before .before .before .before .before .before .before .before .before .before .before .before .before .before .before .before .before .before .before .before .before .before .before .args .result))) e)
+returns-2 c =
+    let multiply2 = c .before .before .before .before .before .before .before .before .before .before .before .before .before .multiply2 in
+    let if1 = c .before .before .before .before .before .before .before .before .before .before .before .before .before .before .before .before .before .before .if1 in
+    let limit-of = c .before .before .before .before .before .before .before .before .before .before .before .before .before .before .before .before .before .before .before .limit-of in
+    let multiply = c .before .before .before .before .before .before .before .before .before .before .before .before .before .before .before .before .before .before .before .before .multiply in
+    let start = c .before .before .before .before .before .before .before .before .before .before .before .before .before .before .before .before .before .before .before .before .before .before .before .before .before .before .before .before .before in
+    let z = sym (limit-of .ensures ∙ ap limitM (multiply .ensures)) ∙ if1 .left in
+    let e = ap (fitted (length (now (start .args .result)))) (product-text (start .pre .0 .0) (start .pre .1) z (multiply2 .ensures)) ∙ sym (two-goes (ofProduct (length (now (start .args .row)))) (prod ℤ-ring) (now (start .args .row)) (now (start .args .s)) (now (start .args .t)) (length (now (start .args .result))) (start .pre .1) (meets (start .pre .0 .0) (start .pre .1)) z) in
+    (c .before .before .write-result .ensures .0 ∙ ap writtenOf e, c .before .before .write-result .ensures .1 ∙ ap (λ x. resultAfter x (now (start .args .result))) e)
 
 pub write-product-spec : {M : Type 1} → statement M
 write-product-spec =

@@ -21,14 +21,19 @@ ready-requires c κs = search needs
 
 -- src/lib.rt:48:9
 returns : tie.Need-returns
-returns c = let s = c .before .before .before .before .before .before .before .before .before .args in
+returns c =
+    let start = c .before .before .before .before .before .before .before .before .before in
+    let s = start .args in
     let ts = length (s .a .now) ∷ length (s .b .now) ∷ length (s .c .now) ∷ length (s .d .now) ∷ [] in
     refused-whole (s .row .now) ts _ (s .result .now) (s .a .now) (s .b .now) (s .c .now) (s .d .now) (c .before .ready .ensures) (negate-not-open (s .row .now) ts (s .s .now) (length (s .result .now)) (λ z. c .if1 .taken (c .before .ready .ensures ∙ z)))
 
 -- src/lib.rt:50:9
 negate-of-requires : tie.Need-negate-of-requires
-negate-of-requires c κs = let s = c .before .before .before .before .before .before .before .before .before .before .before .before .args in
-    let o = ready-open (s .row .now) (length (s .a .now) ∷ length (s .b .now) ∷ length (s .c .now) ∷ length (s .d .now) ∷ []) (sym (c .before .before .before .before .ready .ensures) ∙ c .before .before .before .if1 .left) in
+negate-of-requires c κs =
+    let ready = c .before .before .before .before .ready in
+    let start = c .before .before .before .before .before .before .before .before .before .before .before .before in
+    let s = start .args in
+    let o = ready-open (s .row .now) (length (s .a .now) ∷ length (s .b .now) ∷ length (s .c .now) ∷ length (s .d .now) ∷ []) (sym (ready .ensures) ∙ c .before .before .before .if1 .left) in
     let l = open-long (length (s .a .now)) (length (s .b .now)) (length (s .c .now)) (length (s .d .now)) o in
     (o .proper, (l .first, l .second))
 
@@ -58,12 +63,18 @@ same-length-5 c = search needs
 
 -- src/lib.rt:33:1
 returns-2 : tie.Need-returns-2
-returns-2 c = let s = c .before .before .before .before .before .before .before .before .before .before .before .before .before .before .before .before .before .before .before .before .before .before .before .before .before .before .before .before .before .before .before .before .args in
-    let f = c .before .before .before .before .before .before .before .before .before .before .before .before .before .before .before .before .before .before .before .negate-of in
+returns-2 c =
+    let clear-tables = c .before .before .before .before .before .before .before .before .clear-tables in
+    let negate-of = c .before .before .before .before .before .before .before .before .before .before .before .before .before .before .before .before .before .before .before .negate-of in
+    let if1 = c .before .before .before .before .before .before .before .before .before .before .before .before .before .before .before .before .before .before .before .before .before .before .before .if1 in
+    let ready = c .before .before .before .before .before .before .before .before .before .before .before .before .before .before .before .before .before .before .before .before .before .before .before .before .ready in
+    let start = c .before .before .before .before .before .before .before .before .before .before .before .before .before .before .before .before .before .before .before .before .before .before .before .before .before .before .before .before .before .before .before .before in
+    let s = start .args in
+    let f = negate-of in
     let ts = length (s .a .now) ∷ length (s .b .now) ∷ length (s .c .now) ∷ length (s .d .now) ∷ [] in
-    let o = ready-open (s .row .now) ts (sym (c .before .before .before .before .before .before .before .before .before .before .before .before .before .before .before .before .before .before .before .before .before .before .before .before .ready .ensures) ∙ c .before .before .before .before .before .before .before .before .before .before .before .before .before .before .before .before .before .before .before .before .before .before .before .if1 .left) in
+    let o = ready-open (s .row .now) ts (sym (ready .ensures) ∙ if1 .left) in
     answered-whole _ _ (s .result .now) (s .a .now) (s .b .now) (s .c .now) (s .d .now) (negate-open (s .row .now) ts (s .s .now) (length (s .result .now)) o) (negate-clears (s .row .now) ts (s .s .now) (length (s .result .now))) (f .ensures .0) (f .ensures .1)
-    (zeros-of (f .kept .1 .1 .1 .0) (f .kept .1 .1 .1 .1 .0) refl refl (c .before .before .before .before .before .before .before .before .clear-tables .ensures))
+    (zeros-of (f .kept .1 .1 .1 .0) (f .kept .1 .1 .1 .1 .0) refl refl (clear-tables .ensures))
 
 pub negate-spec : {M : Type 1} → statement M
 negate-spec =

@@ -22,7 +22,9 @@ use Rattle.walks.proofs.negate.Reads as negate-reads
 
 -- src/lib.rt:22:9
 read-form-requires : tie.Need-read-form-requires
-read-form-requires c κs = omega (arith, row-length (now (c .before .before .before .before .before .before .args .row)) (c .before .before .before .before .before .before .pre .0) .1, c .before .before .before .before .before .before .pre .1 .0)
+read-form-requires c κs =
+    let start = c .before .before .before .before .before .before in
+    omega (arith, row-length (now (start .args .row)) (start .pre .0) .1, start .pre .1 .0)
 
 -- src/lib.rt:24:23
 enum-known-reading : tie.Need-enum-known-reading
@@ -38,13 +40,18 @@ slice-reshare-prefix-negate c = begins-le (read-form (c .before .reading2 .given
 
 -- src/lib.rt:26:38
 slice-aggregate-negate : tie.Need-slice-aggregate-negate
-slice-aggregate-negate c = sym (length-take-le (c .before .before .reading2 .given .0 .1 .0) (c .before .before .before .before .before .before .read-form .last .1 .1 .0) (begins-le (read-form (c .before .before .reading2 .given .1) (c .before .before .before .before .before .before .read-form .ensures) .made)))
+slice-aggregate-negate c =
+    let at-read-form = c .before .before .before .before .before .before .read-form in
+    sym (length-take-le (c .before .before .reading2 .given .0 .1 .0) (at-read-form .last .1 .1 .0) (begins-le (read-form (c .before .before .reading2 .given .1) (at-read-form .ensures) .made)))
 
 -- src/lib.rt:26:17
 negate-requires : tie.Need-negate-requires
-negate-requires c κs = let few = row-length (now (c .before .before .before .before .before .before .before .before .before .before .before .before .before .before .args .row)) (c .before .before .before .before .before .before .before .before .before .before .before .before .before .before .pre .0) .1 in
-    let F = read-form (c .before .before .before .reading2 .given .1) (c .before .before .before .before .before .before .before .read-form .ensures) in
-    (form-coded few F, omega (arith, length-take-le (c .before .before .before .reading2 .given .0 .1 .0) (c .before .before .before .before .before .before .before .read-form .last .1 .1 .0) (begins-le (F .made)), form-words few F, c .before .before .before .before .before .before .before .before .before .before .before .before .before .before .pre .1 .1))
+negate-requires c κs =
+    let at-read-form = c .before .before .before .before .before .before .before .read-form in
+    let start = c .before .before .before .before .before .before .before .before .before .before .before .before .before .before in
+    let few = row-length (now (start .args .row)) (start .pre .0) .1 in
+    let F = read-form (c .before .before .before .reading2 .given .1) (at-read-form .ensures) in
+    (form-coded few F, omega (arith, length-take-le (c .before .before .before .reading2 .given .0 .1 .0) (at-read-form .last .1 .1 .0) (begins-le (F .made)), form-words few F, start .pre .1 .1))
 
 -- src/lib.rt:27:37
 slice-reshare-prefix-write-result : tie.Need-slice-reshare-prefix-write-result
@@ -56,9 +63,14 @@ slice-aggregate-write-result c = sym (length-take-le (c .before .before .before 
 
 -- src/lib.rt:27:13
 write-result-requires : tie.Need-write-result-requires
-write-result-requires c κs = let few = row-length (now (c .before .before .before .before .before .before .before .before .before .before .before .before .before .before .before .before .before .before .before .args .row)) (c .before .before .before .before .before .before .before .before .before .before .before .before .before .before .before .before .before .before .before .pre .0) .1 in
-    let F = read-form (c .before .before .before .before .before .before .before .before .reading2 .given .1) (c .before .before .before .before .before .before .before .before .before .before .before .before .read-form .ensures) in
-    (coded (negative-codes few F (c .before .before .before .before .negate .ensures)), omega (arith, length-take-le (c .before .before .before .before .negate .result) (c .before .before .before .before .negate .last .1 .1 .0) (begins-le (c .before .before .before .before .negate .ensures)), negative-words few F (c .before .before .before .before .negate .ensures)))
+write-result-requires c κs =
+    let negate = c .before .before .before .before .negate in
+    let reading2 = c .before .before .before .before .before .before .before .before .reading2 in
+    let at-read-form = c .before .before .before .before .before .before .before .before .before .before .before .before .read-form in
+    let start = c .before .before .before .before .before .before .before .before .before .before .before .before .before .before .before .before .before .before .before in
+    let few = row-length (now (start .args .row)) (start .pre .0) .1 in
+    let F = read-form (reading2 .given .1) (at-read-form .ensures) in
+    (coded (negative-codes few F (negate .ensures)), omega (arith, length-take-le (negate .result) (negate .last .1 .1 .0) (begins-le (negate .ensures)), negative-words few F (negate .ensures)))
 
 -- src/lib.rt:16:1
 same-length : tie.Need-same-length
@@ -66,7 +78,10 @@ same-length c = search needs
 
 -- src/lib.rt:16:1
 returns : tie.Need-returns
-returns c = negate-refused (now (c .before .before .before .before .before .before .before .before .before .before .before .before .args .row)) (length (now (c .before .before .before .before .before .before .before .before .before .before .before .before .args .result))) (now (c .before .before .before .before .before .before .before .before .before .before .before .before .args .result)) (c .before .reading .given .1) (c .before .before .before .before .before .read-form .ensures)
+returns c =
+    let at-read-form = c .before .before .before .before .before .read-form in
+    let start = c .before .before .before .before .before .before .before .before .before .before .before .before in
+    negate-refused (now (start .args .row)) (length (now (start .args .result))) (now (start .args .result)) (c .before .reading .given .1) (at-read-form .ensures)
 
 -- src/lib.rt:16:1
 same-length-2 : tie.Need-same-length-2
@@ -82,9 +97,14 @@ same-length-4 c = search needs
 
 -- src/lib.rt:16:1
 returns-2 : tie.Need-returns-2
-returns-2 c = let F = read-form (c .before .before .before .before .before .before .before .before .before .before .before .reading2 .given .1) (c .before .before .before .before .before .before .before .before .before .before .before .before .before .before .before .read-form .ensures) in
-    let e = negate-is (now (c .before .before .before .before .before .before .before .before .before .before .before .before .before .before .before .before .before .before .before .before .before .before .args .row)) (row-length (now (c .before .before .before .before .before .before .before .before .before .before .before .before .before .before .before .before .before .before .before .before .before .before .args .row)) (c .before .before .before .before .before .before .before .before .before .before .before .before .before .before .before .before .before .before .before .before .before .before .pre .0) .1) F (length (now (c .before .before .before .before .before .before .before .before .before .before .before .before .before .before .before .before .before .before .before .before .before .before .args .result))) (c .before .before .before .before .before .before .before .negate .ensures) in
-    (c .before .before .write-result .ensures .0 ∙ ap writtenOf e, c .before .before .write-result .ensures .1 ∙ ap (λ x. resultAfter x (now (c .before .before .before .before .before .before .before .before .before .before .before .before .before .before .before .before .before .before .before .before .before .before .args .result))) e)
+returns-2 c =
+    let negate = c .before .before .before .before .before .before .before .negate in
+    let reading2 = c .before .before .before .before .before .before .before .before .before .before .before .reading2 in
+    let at-read-form = c .before .before .before .before .before .before .before .before .before .before .before .before .before .before .before .read-form in
+    let start = c .before .before .before .before .before .before .before .before .before .before .before .before .before .before .before .before .before .before .before .before .before .before in
+    let F = read-form (reading2 .given .1) (at-read-form .ensures) in
+    let e = negate-is (now (start .args .row)) (row-length (now (start .args .row)) (start .pre .0) .1) F (length (now (start .args .result))) (negate .ensures) in
+    (c .before .before .write-result .ensures .0 ∙ ap writtenOf e, c .before .before .write-result .ensures .1 ∙ ap (λ x. resultAfter x (now (start .args .result))) e)
 
 pub negate-of-spec : {M : Type 1} → statement M
 negate-of-spec =

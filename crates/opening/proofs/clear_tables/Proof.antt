@@ -40,7 +40,11 @@ same-length-4 c = search needs
 
 -- src/lib.rt:84:1
 returns : tie.Need-returns
-returns c = (c .before .before .before .before .before .before .before .before .before .before .before .before .before .before .clear .ensures, (c .before .before .before .before .before .before .before .before .before .before .clear2 .ensures, (c .before .before .before .before .before .before .clear3 .ensures, c .before .before .clear4 .ensures)))
+returns c =
+    let clear3 = c .before .before .before .before .before .before .clear3 in
+    let clear2 = c .before .before .before .before .before .before .before .before .before .before .clear2 in
+    let clear = c .before .before .before .before .before .before .before .before .before .before .before .before .before .before .clear in
+    (clear .ensures, (clear2 .ensures, (clear3 .ensures, c .before .before .clear4 .ensures)))
 
 pub clear-tables-spec : {M : Type 1} → statement M
 clear-tables-spec =

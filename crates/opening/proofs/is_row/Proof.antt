@@ -48,7 +48,10 @@ is-capital-requires c κs = search needs
 
 -- src/lib.rt:51:13
 returns-3 : tie.Need-returns-3 Inv-loop μ-loop
-returns-3 c = sym (c .before .before .before .before .loop .inv .1 ∙ letters-low (now (c .before .before .before .before .before .before .before .before .args .row)) (c .before .before .before .before .loop .i) (c .before .before .before .loop-test .taken) (sym (c .before .is-capital .ensures) ∙ not-true _ (c .if3 .taken)))
+returns-3 c =
+    let loop = c .before .before .before .before .loop in
+    let start = c .before .before .before .before .before .before .before .before in
+    sym (loop .inv .1 ∙ letters-low (now (start .args .row)) (loop .i) (c .before .before .before .loop-test .taken) (sym (c .before .is-capital .ensures) ∙ not-true _ (c .if3 .taken)))
 
 -- src/lib.rt:53:16
 sub-has : tie.Need-sub-has Inv-loop μ-loop
@@ -72,7 +75,13 @@ has-requires c κs = search needs
 
 -- src/lib.rt:54:13
 returns-4 : tie.Need-returns-4 Inv-loop μ-loop
-returns-4 c = sym (c .before .before .before .before .before .before .before .before .loop .inv .1 ∙ letters-twice (now (c .before .before .before .before .before .before .before .before .before .before .before .before .args .row)) (c .before .before .before .before .before .before .before .before .loop .i) (c .before .before .before .before .before .before .before .loop-test .taken) (sym (c .before .before .before .before .before .is-capital .ensures) ∙ not-false _ (c .before .before .before .before .if3 .left)) (sym (ap (λ l. inRow l (getD (now (c .before .before .before .before .before .before .before .before .before .before .before .before .args .row)) (c .before .before .before .before .before .before .before .before .loop .i) 0)) (tail-part (c .before .before .before .before .before .before .before .before .loop .i + 1) (now (c .before .before .before .before .before .before .before .before .before .before .before .before .args .row)))) ∙ sym (c .before .has .ensures) ∙ c .if4 .taken))
+returns-4 c =
+    let if3 = c .before .before .before .before .if3 in
+    let is-capital = c .before .before .before .before .before .is-capital in
+    let loop-test = c .before .before .before .before .before .before .before .loop-test in
+    let loop = c .before .before .before .before .before .before .before .before .loop in
+    let start = c .before .before .before .before .before .before .before .before .before .before .before .before in
+    sym (loop .inv .1 ∙ letters-twice (now (start .args .row)) (loop .i) (loop-test .taken) (sym (is-capital .ensures) ∙ not-false _ (if3 .left)) (sym (ap (λ l. inRow l (getD (now (start .args .row)) (loop .i) 0)) (tail-part (loop .i + 1) (now (start .args .row)))) ∙ sym (c .before .has .ensures) ∙ c .if4 .taken))
 
 -- src/lib.rt:48:5
 loop-less : tie.Need-loop-less Inv-loop μ-loop
@@ -80,7 +89,13 @@ loop-less c = omega arith
 
 -- src/lib.rt:48:5
 loop-again : tie.Need-loop-again Inv-loop μ-loop
-loop-again c = (omega (arith, c .before .before .before .before .before .before .before .loop-test .taken), c .before .before .before .before .before .before .before .before .loop .inv .1 ∙ letters-on (now (c .before .before .before .before .before .before .before .before .before .before .before .before .args .row)) (c .before .before .before .before .before .before .before .before .loop .i) (c .before .before .before .before .before .before .before .loop-test .taken) (sym (c .before .before .before .before .before .is-capital .ensures) ∙ not-false _ (c .before .before .before .before .if3 .left)) (sym (ap (λ l. inRow l (getD (now (c .before .before .before .before .before .before .before .before .before .before .before .before .args .row)) (c .before .before .before .before .before .before .before .before .loop .i) 0)) (tail-part (c .before .before .before .before .before .before .before .before .loop .i + 1) (now (c .before .before .before .before .before .before .before .before .before .before .before .before .args .row)))) ∙ sym (c .before .has .ensures) ∙ c .if4 .left))
+loop-again c =
+    let if3 = c .before .before .before .before .if3 in
+    let is-capital = c .before .before .before .before .before .is-capital in
+    let loop-test = c .before .before .before .before .before .before .before .loop-test in
+    let loop = c .before .before .before .before .before .before .before .before .loop in
+    let start = c .before .before .before .before .before .before .before .before .before .before .before .before in
+    (omega (arith, loop-test .taken), loop .inv .1 ∙ letters-on (now (start .args .row)) (loop .i) (loop-test .taken) (sym (is-capital .ensures) ∙ not-false _ (if3 .left)) (sym (ap (λ l. inRow l (getD (now (start .args .row)) (loop .i) 0)) (tail-part (loop .i + 1) (now (start .args .row)))) ∙ sym (c .before .has .ensures) ∙ c .if4 .left))
 
 -- src/lib.rt:38:1
 returns-5 : tie.Need-returns-5 Inv-loop μ-loop

@@ -21,23 +21,38 @@ returns c = not-row (now (c .before .before .before .args .row)) (c .before .bef
 
 -- src/lib.rt:69:9
 returns-2 : tie.Need-returns-2
-returns-2 c = tables-short (now (c .before .before .before .before .args .row)) (c .before .before .before .before .args .a ∷ c .before .before .before .before .args .b ∷ c .before .before .before .before .args .c ∷ c .before .before .before .before .args .d ∷ []) (sym (c .before .before .is-row .ensures) ∙ not-false _ (c .before .if1 .left)) (first-short (c .before .before .before .before .args .a) (c .before .before .before .before .args .b) (c .before .before .before .before .args .c) (c .before .before .before .before .args .d) (c .if2 .taken))
+returns-2 c =
+    let start = c .before .before .before .before in
+    tables-short (now (start .args .row)) (start .args .a ∷ start .args .b ∷ start .args .c ∷ start .args .d ∷ []) (sym (c .before .before .is-row .ensures) ∙ not-false _ (c .before .if1 .left)) (first-short (start .args .a) (start .args .b) (start .args .c) (start .args .d) (c .if2 .taken))
 
 -- src/lib.rt:72:9
 returns-3 : tie.Need-returns-3
-returns-3 c = tables-short (now (c .before .before .before .before .before .args .row)) (c .before .before .before .before .before .args .a ∷ c .before .before .before .before .before .args .b ∷ c .before .before .before .before .before .args .c ∷ c .before .before .before .before .before .args .d ∷ []) (sym (c .before .before .before .is-row .ensures) ∙ not-false _ (c .before .before .if1 .left)) (second-short (c .before .before .before .before .before .args .a) (c .before .before .before .before .before .args .b) (c .before .before .before .before .before .args .c) (c .before .before .before .before .before .args .d) (c .if3 .taken))
+returns-3 c =
+    let start = c .before .before .before .before .before in
+    tables-short (now (start .args .row)) (start .args .a ∷ start .args .b ∷ start .args .c ∷ start .args .d ∷ []) (sym (c .before .before .before .is-row .ensures) ∙ not-false _ (c .before .before .if1 .left)) (second-short (start .args .a) (start .args .b) (start .args .c) (start .args .d) (c .if3 .taken))
 
 -- src/lib.rt:75:9
 returns-4 : tie.Need-returns-4
-returns-4 c = tables-short (now (c .before .before .before .before .before .before .args .row)) (c .before .before .before .before .before .before .args .a ∷ c .before .before .before .before .before .before .args .b ∷ c .before .before .before .before .before .before .args .c ∷ c .before .before .before .before .before .before .args .d ∷ []) (sym (c .before .before .before .before .is-row .ensures) ∙ not-false _ (c .before .before .before .if1 .left)) (third-short (c .before .before .before .before .before .before .args .a) (c .before .before .before .before .before .before .args .b) (c .before .before .before .before .before .before .args .c) (c .before .before .before .before .before .before .args .d) (c .if4 .taken))
+returns-4 c =
+    let is-row = c .before .before .before .before .is-row in
+    let start = c .before .before .before .before .before .before in
+    tables-short (now (start .args .row)) (start .args .a ∷ start .args .b ∷ start .args .c ∷ start .args .d ∷ []) (sym (is-row .ensures) ∙ not-false _ (c .before .before .before .if1 .left)) (third-short (start .args .a) (start .args .b) (start .args .c) (start .args .d) (c .if4 .taken))
 
 -- src/lib.rt:78:9
 returns-5 : tie.Need-returns-5
-returns-5 c = tables-short (now (c .before .before .before .before .before .before .before .args .row)) (c .before .before .before .before .before .before .before .args .a ∷ c .before .before .before .before .before .before .before .args .b ∷ c .before .before .before .before .before .before .before .args .c ∷ c .before .before .before .before .before .before .before .args .d ∷ []) (sym (c .before .before .before .before .before .is-row .ensures) ∙ not-false _ (c .before .before .before .before .if1 .left)) (fourth-short (c .before .before .before .before .before .before .before .args .a) (c .before .before .before .before .before .before .before .args .b) (c .before .before .before .before .before .before .before .args .c) (c .before .before .before .before .before .before .before .args .d) (c .if5 .taken))
+returns-5 c =
+    let if1 = c .before .before .before .before .if1 in
+    let is-row = c .before .before .before .before .before .is-row in
+    let start = c .before .before .before .before .before .before .before in
+    tables-short (now (start .args .row)) (start .args .a ∷ start .args .b ∷ start .args .c ∷ start .args .d ∷ []) (sym (is-row .ensures) ∙ not-false _ (if1 .left)) (fourth-short (start .args .a) (start .args .b) (start .args .c) (start .args .d) (c .if5 .taken))
 
 -- src/lib.rt:62:1
 returns-6 : tie.Need-returns-6
-returns-6 c = all-ready (now (c .before .before .before .before .before .before .before .args .row)) (c .before .before .before .before .before .before .before .args .a ∷ c .before .before .before .before .before .before .before .args .b ∷ c .before .before .before .before .before .before .before .args .c ∷ c .before .before .before .before .before .before .before .args .d ∷ []) (sym (c .before .before .before .before .before .is-row .ensures) ∙ not-false _ (c .before .before .before .before .if1 .left)) (enough-four (c .before .before .before .before .before .before .before .args .a) (c .before .before .before .before .before .before .before .args .b) (c .before .before .before .before .before .before .before .args .c) (c .before .before .before .before .before .before .before .args .d) (c .before .before .before .if2 .left) (c .before .before .if3 .left) (c .before .if4 .left) (c .if5 .left))
+returns-6 c =
+    let if1 = c .before .before .before .before .if1 in
+    let is-row = c .before .before .before .before .before .is-row in
+    let start = c .before .before .before .before .before .before .before in
+    all-ready (now (start .args .row)) (start .args .a ∷ start .args .b ∷ start .args .c ∷ start .args .d ∷ []) (sym (is-row .ensures) ∙ not-false _ (if1 .left)) (enough-four (start .args .a) (start .args .b) (start .args .c) (start .args .d) (c .before .before .before .if2 .left) (c .before .before .if3 .left) (c .before .if4 .left) (c .if5 .left))
 
 pub ready-spec : {M : Type 1} → statement M
 ready-spec =

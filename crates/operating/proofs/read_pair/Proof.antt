@@ -37,15 +37,24 @@ returns c = left-refused _ (c .refused .ensures) (c .before .enum-told .given .1
 
 -- src/lib.rt:35:47
 mul-read-form : tie.Need-mul-read-form
-mul-read-form c = omega (arith, form-words (c .before .before .before .before .before .before .before .before .before .before .pre .0) (read-form (c .before .first .given .1) (c .before .before .before .before .before .read-form .ensures)), c .before .before .before .before .before .read-form .kept .1 .1 .0, c .before .before .before .before .before .before .before .before .before .before .pre .1)
+mul-read-form c =
+    let at-read-form = c .before .before .before .before .before .read-form in
+    let start = c .before .before .before .before .before .before .before .before .before .before in
+    omega (arith, form-words (start .pre .0) (read-form (c .before .first .given .1) (at-read-form .ensures)), at-read-form .kept .1 .1 .0, start .pre .1)
 
 -- src/lib.rt:35:47
 sub-read-form : tie.Need-sub-read-form
-sub-read-form c = omega (arith, form-words (c .before .before .before .before .before .before .before .before .before .before .pre .0) (read-form (c .before .first .given .1) (c .before .before .before .before .before .read-form .ensures)), c .before .before .before .before .before .read-form .kept .1 .1 .0, c .before .before .before .before .before .before .before .before .before .before .pre .1)
+sub-read-form c =
+    let at-read-form = c .before .before .before .before .before .read-form in
+    let start = c .before .before .before .before .before .before .before .before .before .before in
+    omega (arith, form-words (start .pre .0) (read-form (c .before .first .given .1) (at-read-form .ensures)), at-read-form .kept .1 .1 .0, start .pre .1)
 
 -- src/lib.rt:35:47
 part-read-form-start : tie.Need-part-read-form-start
-part-read-form-start c = omega (arith, form-words (c .before .before .before .before .before .before .before .before .before .before .pre .0) (read-form (c .before .first .given .1) (c .before .before .before .before .before .read-form .ensures)), c .before .before .before .before .before .read-form .kept .1 .1 .0, c .before .before .before .before .before .before .before .before .before .before .pre .1)
+part-read-form-start c =
+    let at-read-form = c .before .before .before .before .before .read-form in
+    let start = c .before .before .before .before .before .before .before .before .before .before in
+    omega (arith, form-words (start .pre .0) (read-form (c .before .first .given .1) (at-read-form .ensures)), at-read-form .kept .1 .1 .0, start .pre .1)
 
 -- src/lib.rt:35:47
 part-read-form-end : tie.Need-part-read-form-end
@@ -53,7 +62,10 @@ part-read-form-end c = search needs
 
 -- src/lib.rt:35:9
 read-form-requires-2 : tie.Need-read-form-requires-2
-read-form-requires-2 c κs = (c .before .before .before .before .before .before .before .before .before .before .before .pre .0, omega (arith, form-words (c .before .before .before .before .before .before .before .before .before .before .before .pre .0) (read-form (c .before .before .first .given .1) (c .before .before .before .before .before .before .read-form .ensures)), c .before .before .before .before .before .before .read-form .kept .1 .1 .0, c .before .before .before .before .before .before .before .before .before .before .before .pre .1, length-tail-part (c .before .before .first .given .0 .1 .0) (c .before .before .before .before .before .before .read-form .last .1 .1 .0)))
+read-form-requires-2 c κs =
+    let at-read-form = c .before .before .before .before .before .before .read-form in
+    let start = c .before .before .before .before .before .before .before .before .before .before .before in
+    (start .pre .0, omega (arith, form-words (start .pre .0) (read-form (c .before .before .first .given .1) (at-read-form .ensures)), at-read-form .kept .1 .1 .0, start .pre .1, length-tail-part (c .before .before .first .given .0 .1 .0) (at-read-form .last .1 .1 .0)))
 
 -- src/lib.rt:36:20
 enum-known-second : tie.Need-enum-known-second
@@ -73,7 +85,11 @@ same-length-2 c = search needs
 
 -- src/lib.rt:37:9
 returns-2 : tie.Need-returns-2
-returns-2 c = right-refused _ (c .refused2 .ensures) (c .before .before .before .before .before .before .before .before .first .given .1) (c .before .before .before .before .before .before .before .before .before .before .before .before .read-form .ensures) (c .before .enum-told2 .given .1) (c .before .before .before .before .before .read-form2 .ensures)
+returns-2 c =
+    let read-form2 = c .before .before .before .before .before .read-form2 in
+    let first = c .before .before .before .before .before .before .before .before .first in
+    let at-read-form = c .before .before .before .before .before .before .before .before .before .before .before .before .read-form in
+    right-refused _ (c .refused2 .ensures) (first .given .1) (at-read-form .ensures) (c .before .enum-told2 .given .1) (read-form2 .ensures)
 
 -- src/lib.rt:27:1
 same-length-3 : tie.Need-same-length-3
@@ -81,7 +97,11 @@ same-length-3 c = search needs
 
 -- src/lib.rt:27:1
 returns-3 : tie.Need-returns-3
-returns-3 c = both (c .before .before .before .before .before .before .before .before .before .before .before .before .read-form .last .1 .1 .0) (c .before .before .before .before .before .read-form2 .last .1 .1 .0) (c .before .before .before .before .before .before .before .before .first .given .1) (c .before .before .before .before .before .before .before .before .before .before .before .before .read-form .ensures) (c .before .second .given .1) (c .before .before .before .before .before .read-form2 .ensures)
+returns-3 c =
+    let read-form2 = c .before .before .before .before .before .read-form2 in
+    let first = c .before .before .before .before .before .before .before .before .first in
+    let at-read-form = c .before .before .before .before .before .before .before .before .before .before .before .before .read-form in
+    both (at-read-form .last .1 .1 .0) (read-form2 .last .1 .1 .0) (first .given .1) (at-read-form .ensures) (c .before .second .given .1) (read-form2 .ensures)
 
 pub read-pair-spec : {M : Type 1} → statement M
 read-pair-spec =

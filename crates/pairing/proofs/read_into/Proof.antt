@@ -50,16 +50,23 @@ returns c = refused-any _ (c .enum-told .given .1) (c .before .before .before .b
 
 -- src/lib.rt:45:17
 slice-reshare-prefix-copy : tie.Need-slice-reshare-prefix-copy
-slice-reshare-prefix-copy c = begins-le (read-form (c .before .reading .given .1) (c .before .before .before .before .before .before .before .before .before .before .before .read-term .ensures) .made)
+slice-reshare-prefix-copy c =
+    let read-term = c .before .before .before .before .before .before .before .before .before .before .before .read-term in
+    begins-le (read-form (c .before .reading .given .1) (read-term .ensures) .made)
 
 -- src/lib.rt:45:17
 slice-aggregate-copy : tie.Need-slice-aggregate-copy
-slice-aggregate-copy c = sym (length-take-le (c .before .before .reading .given .0 .0) (c .before .before .before .before .before .before .before .before .before .before .before .before .read-term .last .1 .1 .0) (begins-le (read-form (c .before .before .reading .given .1) (c .before .before .before .before .before .before .before .before .before .before .before .before .read-term .ensures) .made)))
+slice-aggregate-copy c =
+    let read-term = c .before .before .before .before .before .before .before .before .before .before .before .before .read-term in
+    sym (length-take-le (c .before .before .reading .given .0 .0) (read-term .last .1 .1 .0) (begins-le (read-form (c .before .before .reading .given .1) (read-term .ensures) .made)))
 
 -- src/lib.rt:45:5
 copy-requires : tie.Need-copy-requires
-copy-requires c κs = let T = read-form (c .before .before .before .reading .given .1) (c .before .before .before .before .before .before .before .before .before .before .before .before .before .read-term .ensures) in
-    omega (arith, length-take-le (c .before .before .before .reading .given .0 .0) (c .before .before .before .before .before .before .before .before .before .before .before .before .before .read-term .last .1 .1 .0) (begins-le (T .made)), term-words (c .before .before .before .before .before .before .before .before .before .before .before .before .before .before .before .before .before .before .before .before .before .before .before .before .pre .0) T, c .before .before .before .before .before .before .before .before .before .before .before .before .before .before .before .before .before .before .before .before .before .before .before .before .pre .1 .fourth, c .before .before .before .before .before .before .before .before .before .before .before .before .before .read-term .kept .1 .1 .1 .1 .1 .0)
+copy-requires c κs =
+    let read-term = c .before .before .before .before .before .before .before .before .before .before .before .before .before .read-term in
+    let start = c .before .before .before .before .before .before .before .before .before .before .before .before .before .before .before .before .before .before .before .before .before .before .before .before in
+    let T = read-form (c .before .before .before .reading .given .1) (read-term .ensures) in
+    omega (arith, length-take-le (c .before .before .before .reading .given .0 .0) (read-term .last .1 .1 .0) (begins-le (T .made)), term-words (start .pre .0) T, start .pre .1 .fourth, read-term .kept .1 .1 .1 .1 .1 .0)
 
 -- src/lib.rt:29:1
 same-length-5 : tie.Need-same-length-5
@@ -79,7 +86,10 @@ same-length-8 c = search needs
 
 -- src/lib.rt:29:1
 returns-2 : tie.Need-returns-2
-returns-2 c = copied _ (c .before .before .before .before .before .before .reading .given .1) (c .before .before .before .before .before .before .before .before .before .before .before .before .before .before .before .before .read-term .ensures) (c .before .before .copy .ensures)
+returns-2 c =
+    let reading = c .before .before .before .before .before .before .reading in
+    let read-term = c .before .before .before .before .before .before .before .before .before .before .before .before .before .before .before .before .read-term in
+    copied _ (reading .given .1) (read-term .ensures) (c .before .before .copy .ensures)
 
 pub read-into-spec : {M : Type 1} → statement M
 read-into-spec =

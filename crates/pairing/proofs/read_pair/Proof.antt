@@ -49,19 +49,33 @@ same-length-4 c = search needs
 
 -- src/lib.rt:65:9
 returns : tie.Need-returns
-returns c = left-refused _ (c .refused .ensures) (c .before .enum-told .given .1) (c .before .before .before .before .before .before .before .before .before .before .before .read-into .ensures)
+returns c =
+    let read-into = c .before .before .before .before .before .before .before .before .before .before .before .read-into in
+    left-refused _ (c .refused .ensures) (c .before .enum-told .given .1) (read-into .ensures)
 
 -- src/lib.rt:67:45
 mul-read-into : tie.Need-mul-read-into
-mul-read-into c = omega (arith, term-words (c .before .before .before .before .before .before .before .before .before .before .before .before .before .before .before .before .before .before .before .before .before .before .before .before .before .before .pre .0) (read-form (c .before .before .before .before .first .given .1) (c .before .before .before .before .before .before .before .before .before .before .before .before .before .before .read-into .ensures)))
+mul-read-into c =
+    let first = c .before .before .before .before .first in
+    let read-into = c .before .before .before .before .before .before .before .before .before .before .before .before .before .before .read-into in
+    let start = c .before .before .before .before .before .before .before .before .before .before .before .before .before .before .before .before .before .before .before .before .before .before .before .before .before .before in
+    omega (arith, term-words (start .pre .0) (read-form (first .given .1) (read-into .ensures)))
 
 -- src/lib.rt:67:45
 sub-read-into : tie.Need-sub-read-into
-sub-read-into c = omega (arith, term-words (c .before .before .before .before .before .before .before .before .before .before .before .before .before .before .before .before .before .before .before .before .before .before .before .before .before .before .pre .0) (read-form (c .before .before .before .before .first .given .1) (c .before .before .before .before .before .before .before .before .before .before .before .before .before .before .read-into .ensures)), c .before .before .before .before .before .before .before .before .before .before .before .before .before .before .read-into .kept .1 .1 .1 .1 .1 .0, c .before .before .before .before .before .before .before .before .before .before .before .before .before .before .before .before .before .before .before .before .before .before .before .before .before .before .pre .1 .1)
+sub-read-into c =
+    let first = c .before .before .before .before .first in
+    let read-into = c .before .before .before .before .before .before .before .before .before .before .before .before .before .before .read-into in
+    let start = c .before .before .before .before .before .before .before .before .before .before .before .before .before .before .before .before .before .before .before .before .before .before .before .before .before .before in
+    omega (arith, term-words (start .pre .0) (read-form (first .given .1) (read-into .ensures)), read-into .kept .1 .1 .1 .1 .1 .0, start .pre .1 .1)
 
 -- src/lib.rt:67:45
 part-read-into-start : tie.Need-part-read-into-start
-part-read-into-start c = omega (arith, term-words (c .before .before .before .before .before .before .before .before .before .before .before .before .before .before .before .before .before .before .before .before .before .before .before .before .before .before .pre .0) (read-form (c .before .before .before .before .first .given .1) (c .before .before .before .before .before .before .before .before .before .before .before .before .before .before .read-into .ensures)), c .before .before .before .before .before .before .before .before .before .before .before .before .before .before .read-into .kept .1 .1 .1 .1 .1 .0, c .before .before .before .before .before .before .before .before .before .before .before .before .before .before .before .before .before .before .before .before .before .before .before .before .before .before .pre .1 .1)
+part-read-into-start c =
+    let first = c .before .before .before .before .first in
+    let read-into = c .before .before .before .before .before .before .before .before .before .before .before .before .before .before .read-into in
+    let start = c .before .before .before .before .before .before .before .before .before .before .before .before .before .before .before .before .before .before .before .before .before .before .before .before .before .before in
+    omega (arith, term-words (start .pre .0) (read-form (first .given .1) (read-into .ensures)), read-into .kept .1 .1 .1 .1 .1 .0, start .pre .1 .1)
 
 -- src/lib.rt:67:45
 part-read-into-end : tie.Need-part-read-into-end
@@ -69,9 +83,13 @@ part-read-into-end c = search needs
 
 -- src/lib.rt:67:9
 read-into-requires-2 : tie.Need-read-into-requires-2
-read-into-requires-2 c κs = let f = c .before .before .before .before .before .before .before .before .before .before .before .before .before .before .before .read-into in
-    let T = read-form (c .before .before .before .before .before .first .given .1) (f .ensures) in
-    (c .before .before .before .before .before .before .before .before .before .before .before .before .before .before .before .before .before .before .before .before .before .before .before .before .before .before .before .pre .0, omega (arith, f .kept .1 .1 .0, f .kept .1 .1 .1 .0, f .kept .1 .1 .1 .1 .0, f .kept .1 .1 .1 .1 .1 .0, c .before .before .before .before .before .before .before .before .before .before .before .before .before .before .before .before .before .before .before .before .before .before .before .before .before .before .before .pre .1 .0, c .before .before .before .before .before .before .before .before .before .before .before .before .before .before .before .before .before .before .before .before .before .before .before .before .before .before .before .pre .1 .1, term-words (c .before .before .before .before .before .before .before .before .before .before .before .before .before .before .before .before .before .before .before .before .before .before .before .before .before .before .before .pre .0) T, length-tail-part (c .before .before .before .before .before .first .given .0 .0) (f .last .1 .1 .1 .1 .1 .0)))
+read-into-requires-2 c κs =
+    let first = c .before .before .before .before .before .first in
+    let read-into = c .before .before .before .before .before .before .before .before .before .before .before .before .before .before .before .read-into in
+    let start = c .before .before .before .before .before .before .before .before .before .before .before .before .before .before .before .before .before .before .before .before .before .before .before .before .before .before .before in
+    let f = read-into in
+    let T = read-form (first .given .1) (f .ensures) in
+    (start .pre .0, omega (arith, f .kept .1 .1 .0, f .kept .1 .1 .1 .0, f .kept .1 .1 .1 .1 .0, f .kept .1 .1 .1 .1 .1 .0, start .pre .1 .0, start .pre .1 .1, term-words (start .pre .0) T, length-tail-part (first .given .0 .0) (f .last .1 .1 .1 .1 .1 .0)))
 
 -- src/lib.rt:68:20
 enum-known-second : tie.Need-enum-known-second
@@ -103,7 +121,11 @@ same-length-8 c = search needs
 
 -- src/lib.rt:69:9
 returns-2 : tie.Need-returns-2
-returns-2 c = right-refused _ (c .refused2 .ensures) (c .before .before .before .before .before .before .before .before .before .before .before .before .before .before .before .before .before .first .given .1) (c .before .before .before .before .before .before .before .before .before .before .before .before .before .before .before .before .before .before .before .before .before .before .before .before .before .before .before .read-into .ensures) (c .before .enum-told2 .given .1) (c .before .before .before .before .before .before .before .before .before .before .before .read-into2 .ensures)
+returns-2 c =
+    let read-into2 = c .before .before .before .before .before .before .before .before .before .before .before .read-into2 in
+    let first = c .before .before .before .before .before .before .before .before .before .before .before .before .before .before .before .before .before .first in
+    let read-into = c .before .before .before .before .before .before .before .before .before .before .before .before .before .before .before .before .before .before .before .before .before .before .before .before .before .before .before .read-into in
+    right-refused _ (c .refused2 .ensures) (first .given .1) (read-into .ensures) (c .before .enum-told2 .given .1) (read-into2 .ensures)
 
 -- src/lib.rt:50:1
 same-length-9 : tie.Need-same-length-9
@@ -123,7 +145,11 @@ same-length-12 c = search needs
 
 -- src/lib.rt:50:1
 returns-3 : tie.Need-returns-3
-returns-3 c = both (c .before .before .before .before .before .before .before .before .before .before .before .before .before .before .before .before .before .before .before .before .before .before .before .before .before .before .before .read-into .last .1 .1 .1 .1 .1 .0) (c .before .before .before .before .before .before .before .before .before .before .before .read-into2 .last .1 .1 .1 .1 .1 .0) (c .before .before .before .before .before .before .before .before .before .before .before .before .before .before .before .before .before .first .given .1) (c .before .before .before .before .before .before .before .before .before .before .before .before .before .before .before .before .before .before .before .before .before .before .before .before .before .before .before .read-into .ensures) (c .before .second .given .1) (c .before .before .before .before .before .before .before .before .before .before .before .read-into2 .ensures)
+returns-3 c =
+    let read-into2 = c .before .before .before .before .before .before .before .before .before .before .before .read-into2 in
+    let first = c .before .before .before .before .before .before .before .before .before .before .before .before .before .before .before .before .before .first in
+    let read-into = c .before .before .before .before .before .before .before .before .before .before .before .before .before .before .before .before .before .before .before .before .before .before .before .before .before .before .before .read-into in
+    both (read-into .last .1 .1 .1 .1 .1 .0) (read-into2 .last .1 .1 .1 .1 .1 .0) (first .given .1) (read-into .ensures) (c .before .second .given .1) (read-into2 .ensures)
 
 pub read-pair-spec : {M : Type 1} → statement M
 read-pair-spec =

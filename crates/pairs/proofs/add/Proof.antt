@@ -14,7 +14,9 @@ use Rattle.pairs.proofs.add.Statement.{statement}
 use Rattle.pairs.proofs.add.Tie as tie
 
 made : (c : tie.After-sum-parts) → Begins (c .sum-parts .result) (enc 0 (sumOf 0 (left (c .before .before .before .before .before .args .a) (c .before .before .before .before .before .args .stack .now)) (right (c .before .before .before .before .before .args .a) (c .before .before .before .before .before .args .b) (c .before .before .before .before .before .args .stack .now)))) (c .sum-parts .last .1 .1 .0)
-made c = begins-as (c .sum-parts .ensures) (both-sum (c .before .before .before .before .before .args .a) (c .before .before .before .before .before .args .b) (c .before .before .before .before .before .args .stack .now))
+made c =
+    let start = c .before .before .before .before .before in
+    begins-as (c .sum-parts .ensures) (both-sum (start .args .a) (start .args .b) (start .args .stack .now))
 
 add-e : tie.Need-add-e
 add-e c = search needs
@@ -26,7 +28,9 @@ slice-aggregate-sum-parts : tie.Need-slice-aggregate-sum-parts
 slice-aggregate-sum-parts c = sym (both-length (c .before .before .before .pre .0))
 
 sum-parts-requires : tie.Need-sum-parts-requires
-sum-parts-requires c κs = (omega (arith, both-length (c .before .before .before .before .pre .0)), (both-coded (c .before .before .before .before .pre .0), omega (arith, both-length (c .before .before .before .before .pre .0), c .before .before .before .before .pre .1)))
+sum-parts-requires c κs =
+    let start = c .before .before .before .before in
+    (omega (arith, both-length (start .pre .0)), (both-coded (start .pre .0), omega (arith, both-length (start .pre .0), start .pre .1)))
 
 slice-reshare-prefix-copy : tie.Need-slice-reshare-prefix-copy
 slice-reshare-prefix-copy c = begins-le (made (c .before .before))
@@ -35,7 +39,10 @@ slice-aggregate-copy : tie.Need-slice-aggregate-copy
 slice-aggregate-copy c = sym (length-take-le (c .before .before .before .sum-parts .result) (c .before .before .before .sum-parts .last .1 .1 .0) (begins-le (made (c .before .before .before))))
 
 copy-requires : tie.Need-copy-requires
-copy-requires c κs = omega (arith, length-take-le (c .before .before .before .before .sum-parts .result) (c .before .before .before .before .sum-parts .last .1 .1 .0) (begins-le (made (c .before .before .before .before))), made (c .before .before .before .before) .size, sum-fits (c .before .before .before .before .before .before .before .before .before .pre .0))
+copy-requires c κs =
+    let sum-parts = c .before .before .before .before .sum-parts in
+    let start = c .before .before .before .before .before .before .before .before .before in
+    omega (arith, length-take-le (sum-parts .result) (sum-parts .last .1 .1 .0) (begins-le (made (c .before .before .before .before))), made (c .before .before .before .before) .size, sum-fits (start .pre .0))
 
 same-length : tie.Need-same-length
 same-length c = search needs
@@ -44,7 +51,11 @@ same-length-2 : tie.Need-same-length-2
 same-length-2 c = search needs
 
 returns : tie.Need-returns
-returns c = copied-front (drop (length (take (c .before .before .before .before .before .before .before .sum-parts .result) (c .before .before .before .before .before .before .before .sum-parts .last .1 .1 .0))) (c .before .before .before .before .before .before .before .before .before .before .before .before .args .stack .now)) (made (c .before .before .before .before .before .before .before)) (c .before .before .copy .ensures)
+returns c =
+    let before = c .before .before .before .before .before .before .before in
+    let sum-parts = c .before .before .before .before .before .before .before .sum-parts in
+    let start = c .before .before .before .before .before .before .before .before .before .before .before .before in
+    copied-front (drop (length (take (sum-parts .result) (sum-parts .last .1 .1 .0))) (start .args .stack .now)) (made (before)) (c .before .before .copy .ensures)
 
 pub add-spec : {M : Type 1} → statement M
 add-spec =

@@ -24,10 +24,16 @@ part-negate-front-end : tie.Need-part-negate-front-end
 part-negate-front-end c = search needs
 
 negate-front-requires : tie.Need-negate-front-requires
-negate-front-requires c κs = ((omega (arith, length-tail-part (c .before .before .before .before .args .a) (c .before .before .before .before .args .stack .now), c .before .before .before .before .pre .0 .fits), omega (arith, left-some (c .before .before .before .before .pre .0), c .before .before .before .before .pre .1)), subst (λ l. Coded 0 (take (c .before .before .before .before .args .b) l)) (sym (tail-part (c .before .before .before .before .args .a) (c .before .before .before .before .args .stack .now))) (c .before .before .before .before .pre .0 .coded-right))
+negate-front-requires c κs =
+    let start = c .before .before .before .before in
+    ((omega (arith, length-tail-part (start .args .a) (start .args .stack .now), start .pre .0 .fits), omega (arith, left-some (start .pre .0), start .pre .1)), subst (λ l. Coded 0 (take (start .args .b) l)) (sym (tail-part (start .args .a) (start .args .stack .now))) (start .pre .0 .coded-right))
 
 add-requires : tie.Need-add-requires
-add-requires c κs = (negated-pair (c .before .before .before .before .before .before .before .before .before .before .before .pre .0) (c .before .before .before .before .before .before .negate-front .ensures) (c .before .before .before .before .before .stack .given .1), omega (arith, negated-size (c .before .before .before .before .before .before .before .before .before .before .before .pre .0) (c .before .before .before .before .before .before .negate-front .ensures), c .before .before .before .before .before .before .before .before .before .before .before .pre .1))
+add-requires c κs =
+    let stack = c .before .before .before .before .before .stack in
+    let negate-front = c .before .before .before .before .before .before .negate-front in
+    let start = c .before .before .before .before .before .before .before .before .before .before .before in
+    (negated-pair (start .pre .0) (negate-front .ensures) (stack .given .1), omega (arith, negated-size (start .pre .0) (negate-front .ensures), start .pre .1))
 
 same-length : tie.Need-same-length
 same-length c = search needs
@@ -36,7 +42,11 @@ same-length-2 : tie.Need-same-length-2
 same-length-2 c = search needs
 
 returns : tie.Need-returns
-returns c = begins-as (c .before .before .before .before .add .ensures) (negated-sum (c .before .before .before .before .before .before .before .before .before .before .before .before .before .before .before .before .pre .0) (c .before .before .before .before .before .before .before .before .before .before .before .negate-front .ensures))
+returns c =
+    let add = c .before .before .before .before .add in
+    let negate-front = c .before .before .before .before .before .before .before .before .before .before .before .negate-front in
+    let start = c .before .before .before .before .before .before .before .before .before .before .before .before .before .before .before .before in
+    begins-as (add .ensures) (negated-sum (start .pre .0) (negate-front .ensures))
 
 pub subtract-spec : {M : Type 1} → statement M
 subtract-spec =

@@ -28,13 +28,17 @@ part-sum-end : tie.Need-part-sum-end
 part-sum-end c = search needs
 
 sum-requires : tie.Need-sum-requires
-sum-requires c κs = ((c .before .before .before .before .before .pre .1 .0 .0, subst (Coded 0) (sym (tail-part (c .before .before .before .before .before .args .n) (c .before .before .before .before .before .args .s .now))) (c .before .before .before .before .before .pre .1 .0 .1)), omega (arith, c .before .before .before .before .before .pre .0, length-take-le (c .before .before .before .before .before .args .n) (c .before .before .before .before .before .args .s .now) (c .before .before .before .before .before .pre .0), length-tail-part (c .before .before .before .before .before .args .n) (c .before .before .before .before .before .args .s .now), c .before .before .before .before .before .pre .1 .1))
+sum-requires c κs =
+    let start = c .before .before .before .before .before in
+    ((start .pre .1 .0 .0, subst (Coded 0) (sym (tail-part (start .args .n) (start .args .s .now))) (start .pre .1 .0 .1)), omega (arith, start .pre .0, length-take-le (start .args .n) (start .args .s .now) (start .pre .0), length-tail-part (start .args .n) (start .args .s .now), start .pre .1 .1))
 
 same-length : tie.Need-same-length
 same-length c = search needs
 
 returns : tie.Need-returns
-returns c = begins-as (c .before .before .sum .ensures) (ap (λ l. enc 0 (sumOf 0 (dec 0 (take (c .before .before .before .before .before .before .before .before .args .n) (c .before .before .before .before .before .before .before .before .args .s .now))) (dec 0 l))) (tail-part (c .before .before .before .before .before .before .before .before .args .n) (c .before .before .before .before .before .before .before .before .args .s .now)))
+returns c =
+    let start = c .before .before .before .before .before .before .before .before in
+    begins-as (c .before .before .sum .ensures) (ap (λ l. enc 0 (sumOf 0 (dec 0 (take (start .args .n) (start .args .s .now))) (dec 0 l))) (tail-part (start .args .n) (start .args .s .now)))
 
 pub sum-parts-spec : {M : Type 1} → statement M
 sum-parts-spec =

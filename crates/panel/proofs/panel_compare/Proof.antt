@@ -51,7 +51,9 @@ same-length-5 c = search needs
 
 -- src/lib.rt:54:1
 returns : tie.Need-returns
-returns c = (ap ofCompared (sym (c .enum-told .given .1) ∙ c .before .before .before .before .before .before .before .before .before .before .before .before .compare .ensures .0), c .before .before .before .before .before .before .before .before .before .before .before .before .compare .ensures .1)
+returns c =
+    let compare = c .before .before .before .before .before .before .before .before .before .before .before .before .compare in
+    (ap ofCompared (sym (c .enum-told .given .1) ∙ compare .ensures .0), compare .ensures .1)
 
 -- src/lib.rt:54:1
 same-length-6 : tie.Need-same-length-6
@@ -75,7 +77,9 @@ same-length-10 c = search needs
 
 -- src/lib.rt:54:1
 returns-2 : tie.Need-returns-2
-returns-2 c = (ap ofCompared (sym (c .before .answer .given .1) ∙ c .before .before .before .before .before .before .before .before .before .before .before .before .before .compare .ensures .0), c .before .before .before .before .before .before .before .before .before .before .before .before .before .compare .ensures .1)
+returns-2 c =
+    let compare = c .before .before .before .before .before .before .before .before .before .before .before .before .before .compare in
+    (ap ofCompared (sym (c .before .answer .given .1) ∙ compare .ensures .0), compare .ensures .1)
 
 -- src/lib.rt:54:1
 same-length-11 : tie.Need-same-length-11
@@ -99,7 +103,9 @@ same-length-15 c = search needs
 
 -- src/lib.rt:54:1
 returns-3 : tie.Need-returns-3
-returns-3 c = (c .refused .ensures ∙ ap ofCompared (sym (c .before .before .answer2 .given .1) ∙ c .before .before .before .before .before .before .before .before .before .before .before .before .before .before .compare .ensures .0), c .before .before .before .before .before .before .before .before .before .before .before .before .before .before .compare .ensures .1)
+returns-3 c =
+    let compare = c .before .before .before .before .before .before .before .before .before .before .before .before .before .before .compare in
+    (c .refused .ensures ∙ ap ofCompared (sym (c .before .before .answer2 .given .1) ∙ compare .ensures .0), compare .ensures .1)
 
 pub panel-compare-spec : {M : Type 1} → statement M
 panel-compare-spec =

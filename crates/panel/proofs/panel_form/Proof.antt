@@ -47,7 +47,9 @@ same-length-5 c = search needs
 
 -- src/lib.rt:92:1
 returns : tie.Need-returns
-returns c = (ap ofWritten (sym (c .before .answer .given .1) ∙ c .before .before .before .before .before .before .before .before .before .before .before .before .before .form .ensures .0), c .before .before .before .before .before .before .before .before .before .before .before .before .before .form .ensures .1)
+returns c =
+    let form = c .before .before .before .before .before .before .before .before .before .before .before .before .before .form in
+    (ap ofWritten (sym (c .before .answer .given .1) ∙ form .ensures .0), form .ensures .1)
 
 -- src/lib.rt:92:1
 same-length-6 : tie.Need-same-length-6
@@ -71,7 +73,9 @@ same-length-10 c = search needs
 
 -- src/lib.rt:92:1
 returns-2 : tie.Need-returns-2
-returns-2 c = (c .refused .ensures ∙ ap ofWritten (sym (c .before .before .answer2 .given .1) ∙ c .before .before .before .before .before .before .before .before .before .before .before .before .before .before .form .ensures .0), c .before .before .before .before .before .before .before .before .before .before .before .before .before .before .form .ensures .1)
+returns-2 c =
+    let form = c .before .before .before .before .before .before .before .before .before .before .before .before .before .before .form in
+    (c .refused .ensures ∙ ap ofWritten (sym (c .before .before .answer2 .given .1) ∙ form .ensures .0), form .ensures .1)
 
 pub panel-form-spec : {M : Type 1} → statement M
 panel-form-spec =

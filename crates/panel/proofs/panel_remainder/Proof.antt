@@ -43,7 +43,9 @@ same-length-4 c = search needs
 
 -- src/lib.rt:121:1
 returns : tie.Need-returns
-returns c = (ap ofRemaindered (sym (c .before .answer .given .1) ∙ c .before .before .before .before .before .before .before .before .before .before .before .remainder .ensures .0), c .before .before .before .before .before .before .before .before .before .before .before .remainder .ensures .1)
+returns c =
+    let remainder = c .before .before .before .before .before .before .before .before .before .before .before .remainder in
+    (ap ofRemaindered (sym (c .before .answer .given .1) ∙ remainder .ensures .0), remainder .ensures .1)
 
 -- src/lib.rt:121:1
 same-length-5 : tie.Need-same-length-5
@@ -63,7 +65,9 @@ same-length-8 c = search needs
 
 -- src/lib.rt:121:1
 returns-2 : tie.Need-returns-2
-returns-2 c = (c .refused .ensures ∙ ap ofRemaindered (sym (c .before .before .answer2 .given .1) ∙ c .before .before .before .before .before .before .before .before .before .before .before .before .remainder .ensures .0), c .before .before .before .before .before .before .before .before .before .before .before .before .remainder .ensures .1)
+returns-2 c =
+    let remainder = c .before .before .before .before .before .before .before .before .before .before .before .before .remainder in
+    (c .refused .ensures ∙ ap ofRemaindered (sym (c .before .before .answer2 .given .1) ∙ remainder .ensures .0), remainder .ensures .1)
 
 pub panel-remainder-spec : {M : Type 1} → statement M
 panel-remainder-spec =

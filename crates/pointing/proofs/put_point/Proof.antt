@@ -57,8 +57,10 @@ loop-less c = search needs
 
 -- src/lib.rt:37:5
 loop-again : tie.Need-loop-again Inv-loop μ-loop
-loop-again c = let P = c .before .before .before .before .before .args .point .now in
-    let O = c .before .before .before .before .before .args .out .now in
+loop-again c =
+    let start = c .before .before .before .before .before in
+    let P = start .args .point .now in
+    let O = start .args .out .now in
     let i = c .before .before .before .loop .i in
     let e = c .of-coordinate .ensures .is ∙ ap remainderOf (toZ-ofZ w32 (getD P i (pos 0)) (record { sfits = c .before .of-coordinate-arg .given })) in
     (search needs, (simp length-set (c .before .before .before .loop .inv .1 .0), ap (λ (xs : List ℕ). set xs i (c .of-coordinate .result)) (c .before .before .before .loop .inv .1 .1) ∙ ap (set (residuesOf (take i P) ++ drop i O) i) e ∙ residues-more P O i (omega arith) (omega arith)))

@@ -29,40 +29,65 @@ loop-holds c = (refl, (refl, λ b h. absurd (omega arith)))
 
 at-first-requires : tie.Need-at-first-requires Inv-loop μ-loop
 at-first-requires c κs =
+    let before = c .before .before .before .before .before .before in
     let i = c .before .before .loop .inv in
-    let s = c .before .before .before .before .before .before in
+    let s = before in
     (omega (arith, fails-within (s .pre .1 .1) (i .1 .1)), (s .pre .0, (room-kept (s .pre .1 .0 .0) (omega arith) (i .0), room-kept (s .pre .1 .0 .1) (omega arith) (i .1 .0))))
 
 slice-reshare-prefix-is-zero : tie.Need-slice-reshare-prefix-is-zero Inv-loop μ-loop
 slice-reshare-prefix-is-zero c = begins-le (c .before .before .before .before .at-first .ensures)
 
 slice-aggregate-is-zero : tie.Need-slice-aggregate-is-zero Inv-loop μ-loop
-slice-aggregate-is-zero c = sym (length-take-le (c .before .before .before .before .before .at-first .result) (c .before .before .before .before .before .at-first .last .1 .1 .1 .0) (begins-le (c .before .before .before .before .before .at-first .ensures)))
+slice-aggregate-is-zero c =
+    let at-first = c .before .before .before .before .before .at-first in
+    sym (length-take-le (at-first .result) (at-first .last .1 .1 .1 .0) (begins-le (at-first .ensures)))
 
 is-zero-requires : tie.Need-is-zero-requires Inv-loop μ-loop
-is-zero-requires c κs = coded (left-codes (c .before .before .before .before .before .before .before .before .loop .a) (c .before .before .before .before .before .before .before .before .before .before .before .before .pre .0) (c .before .before .before .before .before .at-first .ensures))
+is-zero-requires c κs =
+    let at-first = c .before .before .before .before .before .at-first in
+    let loop = c .before .before .before .before .before .before .before .before .loop in
+    let start = c .before .before .before .before .before .before .before .before .before .before .before .before in
+    coded (left-codes (loop .a) (start .pre .0) (at-first .ensures))
 
 same-length : tie.Need-same-length Inv-loop μ-loop
-same-length c = c .before .before .before .before .before .before .before .at-first .kept .1 .1 .1 .0 ∙ c .before .before .before .before .before .before .before .before .before .before .loop .inv .0
+same-length c =
+    let at-first = c .before .before .before .before .before .before .before .at-first in
+    let loop = c .before .before .before .before .before .before .before .before .before .before .loop in
+    at-first .kept .1 .1 .1 .0 ∙ loop .inv .0
 
 same-length-2 : tie.Need-same-length-2 Inv-loop μ-loop
-same-length-2 c = c .before .before .before .before .before .before .before .at-first .kept .1 .1 .1 .1 .0 ∙ c .before .before .before .before .before .before .before .before .before .before .loop .inv .1 .0
+same-length-2 c =
+    let at-first = c .before .before .before .before .before .before .before .at-first in
+    let loop = c .before .before .before .before .before .before .before .before .before .before .loop in
+    at-first .kept .1 .1 .1 .1 .0 ∙ loop .inv .1 .0
 
 returns : tie.Need-returns Inv-loop μ-loop
 returns c =
-    let z = left-zero (c .before .before .before .before .before .before .before .before .before .before .loop .a) (c .before .before .before .before .before .before .before .before .before .before .before .before .before .before .pre .0) (c .before .before .before .before .before .before .before .at-first .ensures) (c .before .is-zero .ensures) in
-    (record { fails = z ∙ not-true _ (c .if1 .taken); before = c .before .before .before .before .before .before .before .before .before .before .loop .inv .1 .1 }, c .before .before .before .before .before .before .before .at-first .ensures)
+    let at-first = c .before .before .before .before .before .before .before .at-first in
+    let loop = c .before .before .before .before .before .before .before .before .before .before .loop in
+    let start = c .before .before .before .before .before .before .before .before .before .before .before .before .before .before in
+    let z = left-zero (loop .a) (start .pre .0) (at-first .ensures) (c .before .is-zero .ensures) in
+    (record { fails = z ∙ not-true _ (c .if1 .taken); before = loop .inv .1 .1 }, at-first .ensures)
 
 add-a : tie.Need-add-a Inv-loop μ-loop
-add-a c = omega (arith, fails-within (c .before .before .before .before .before .before .before .before .before .before .before .before .before .before .pre .1 .1) (c .before .before .before .before .before .before .before .before .before .before .loop .inv .1 .1))
+add-a c =
+    let loop = c .before .before .before .before .before .before .before .before .before .before .loop in
+    let start = c .before .before .before .before .before .before .before .before .before .before .before .before .before .before in
+    omega (arith, fails-within (start .pre .1 .1) (loop .inv .1 .1))
 
 loop-less : tie.Need-loop-less Inv-loop μ-loop
-loop-less c = omega (arith, fails-within (c .before .before .before .before .before .before .before .before .before .before .before .before .before .before .pre .1 .1) (c .before .before .before .before .before .before .before .before .before .before .loop .inv .1 .1))
+loop-less c =
+    let loop = c .before .before .before .before .before .before .before .before .before .before .loop in
+    let start = c .before .before .before .before .before .before .before .before .before .before .before .before .before .before in
+    omega (arith, fails-within (start .pre .1 .1) (loop .inv .1 .1))
 
 loop-again : tie.Need-loop-again Inv-loop μ-loop
 loop-again c =
-    let z = left-zero (c .before .before .before .before .before .before .before .before .before .before .loop .a) (c .before .before .before .before .before .before .before .before .before .before .before .before .before .before .pre .0) (c .before .before .before .before .before .before .before .at-first .ensures) (c .before .is-zero .ensures) in
-    (c .before .before .before .before .before .before .before .at-first .kept .1 .1 .1 .0 ∙ c .before .before .before .before .before .before .before .before .before .before .loop .inv .0, (c .before .before .before .before .before .before .before .at-first .kept .1 .1 .1 .1 .0 ∙ c .before .before .before .before .before .before .before .before .before .before .loop .inv .1 .0, pass-more (c .before .before .before .before .before .before .before .before .before .before .loop .inv .1 .1) (z ∙ not-false _ (c .if1 .left))))
+    let at-first = c .before .before .before .before .before .before .before .at-first in
+    let loop = c .before .before .before .before .before .before .before .before .before .before .loop in
+    let start = c .before .before .before .before .before .before .before .before .before .before .before .before .before .before in
+    let z = left-zero (loop .a) (start .pre .0) (at-first .ensures) (c .before .is-zero .ensures) in
+    (at-first .kept .1 .1 .1 .0 ∙ loop .inv .0, (at-first .kept .1 .1 .1 .1 .0 ∙ loop .inv .1 .0, pass-more (loop .inv .1 .1) (z ∙ not-false _ (c .if1 .left))))
 
 pub least-value-spec : {M : Type 1} → statement M
 least-value-spec =

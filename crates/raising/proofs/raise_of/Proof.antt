@@ -15,7 +15,9 @@ use Rattle.raising.proofs.write_power.Reads as write-power-reads
 
 -- src/lib.rt:63:9
 read-form-requires : tie.Need-read-form-requires
-read-form-requires c κs = omega (arith, row-length (now (c .before .before .before .before .before .before .before .before .args .row)) (c .before .before .before .before .before .before .before .before .pre .0) .1, c .before .before .before .before .before .before .before .before .pre .1 .first)
+read-form-requires c κs =
+    let start = c .before .before .before .before .before .before .before .before in
+    omega (arith, row-length (now (start .args .row)) (start .pre .0) .1, start .pre .1 .first)
 
 -- src/lib.rt:65:23
 enum-known-reading : tie.Need-enum-known-reading
@@ -27,7 +29,11 @@ enum-known-reading-2 c = search needs
 
 -- src/lib.rt:66:29
 write-power-requires : tie.Need-write-power-requires
-write-power-requires c κs = ((row-length (now (c .before .before .before .before .before .before .before .before .before .before .before .before .before .before .before .before .before .before .before .args .row)) (c .before .before .before .before .before .before .before .before .before .before .before .before .before .before .before .before .before .before .before .pre .0) .1, omega (arith, c .before .before .before .before .before .before .before .before .before .before .before .before .before .before .before .before .before .before .before .pre .1 .first, c .before .before .before .before .before .before .before .before .before .before .before .before .before .before .before .before .before .before .before .pre .1 .second, c .before .before .before .before .before .before .before .before .before .before .before .before .before .before .before .before .before .before .before .pre .1 .third, c .before .before .before .before .before .before .before .before .before .before .before .before .before .before .before .before .before .before .before .pre .1 .fourth, c .before .before .before .before .before .before .before .before .before .before .read-form .kept .1 .1 .0)), read-form (c .before .before .before .before .before .before .reading2 .given .1) (c .before .before .before .before .before .before .before .before .before .before .read-form .ensures))
+write-power-requires c κs =
+    let reading2 = c .before .before .before .before .before .before .reading2 in
+    let at-read-form = c .before .before .before .before .before .before .before .before .before .before .read-form in
+    let start = c .before .before .before .before .before .before .before .before .before .before .before .before .before .before .before .before .before .before .before in
+    ((row-length (now (start .args .row)) (start .pre .0) .1, omega (arith, start .pre .1 .first, start .pre .1 .second, start .pre .1 .third, start .pre .1 .fourth, at-read-form .kept .1 .1 .0)), read-form (reading2 .given .1) (at-read-form .ensures))
 
 -- src/lib.rt:48:1
 same-length : tie.Need-same-length
@@ -35,7 +41,10 @@ same-length c = search needs
 
 -- src/lib.rt:48:1
 returns : tie.Need-returns
-returns c = raise-refused (now (c .before .before .before .before .before .before .before .before .before .before .before .before .before .before .args .row)) (now (c .before .before .before .before .before .before .before .before .before .before .before .before .before .before .args .s)) (c .before .before .before .before .before .before .before .before .before .before .before .before .before .before .args .k) (length (now (c .before .before .before .before .before .before .before .before .before .before .before .before .before .before .args .result))) (now (c .before .before .before .before .before .before .before .before .before .before .before .before .before .before .args .result)) (c .before .reading .given .1) (c .before .before .before .before .before .read-form .ensures)
+returns c =
+    let at-read-form = c .before .before .before .before .before .read-form in
+    let start = c .before .before .before .before .before .before .before .before .before .before .before .before .before .before in
+    raise-refused (now (start .args .row)) (now (start .args .s)) (start .args .k) (length (now (start .args .result))) (now (start .args .result)) (c .before .reading .given .1) (at-read-form .ensures)
 
 -- src/lib.rt:48:1
 same-length-2 : tie.Need-same-length-2

@@ -54,33 +54,57 @@ same-length-4 c = search needs
 
 -- src/lib.rt:60:9
 returns : tie.Need-returns
-returns c = c .refused .ensures ∙ remainder-refused (c .before .before .before .before .before .before .before .before .before .before .before .before .before .before .before .before .before .before .before .before .before .before .args .point .now) (c .before .enum-told .given .1) (c .before .before .before .before .before .before .before .before .before .before .before .read-term .ensures)
+returns c =
+    let read-term = c .before .before .before .before .before .before .before .before .before .before .before .read-term in
+    let start = c .before .before .before .before .before .before .before .before .before .before .before .before .before .before .before .before .before .before .before .before .before .before in
+    c .refused .ensures ∙ remainder-refused (start .args .point .now) (c .before .enum-told .given .1) (read-term .ensures)
 
 -- src/lib.rt:62:5
 put-point-requires : tie.Need-put-point-requires
-put-point-requires c κs = omega (arith, room-for (c .before .before .before .before .before .before .before .before .before .before .before .before .before .before .before .before .before .before .before .before .before .before .before .args .row .now) (c .before .before .before .before .before .before .before .before .before .before .before .before .before .before .before .before .before .before .before .before .before .before .before .args .point .now) (c .before .before .before .before .before .before .before .before .before .before .before .before .before .before .before .before .before .before .before .before .before .before .before .pre .0) (c .before .before .before .before .before .before .before .before .before .before .before .before .before .before .before .before .before .before .before .before .before .before .before .pre .1 .0) (c .before .before .before .before .before .before .before .before .before .before .before .before .before .before .before .before .before .before .before .before .before .before .before .pre .1 .1), c .before .before .before .before .before .before .before .before .before .before .before .before .read-term .kept .1 .1 .1 .0)
+put-point-requires c κs =
+    let read-term = c .before .before .before .before .before .before .before .before .before .before .before .before .read-term in
+    let start = c .before .before .before .before .before .before .before .before .before .before .before .before .before .before .before .before .before .before .before .before .before .before .before in
+    omega (arith, room-for (start .args .row .now) (start .args .point .now) (start .pre .0) (start .pre .1 .0) (start .pre .1 .1), read-term .kept .1 .1 .1 .0)
 
 -- src/lib.rt:64:29
 slice-reshare-prefix-value : tie.Need-slice-reshare-prefix-value
-slice-reshare-prefix-value c = begins-le (read-form (c .before .before .before .before .before .reading .given .1) (c .before .before .before .before .before .before .before .before .before .before .before .before .before .before .before .read-term .ensures) .made)
+slice-reshare-prefix-value c =
+    let reading = c .before .before .before .before .before .reading in
+    let read-term = c .before .before .before .before .before .before .before .before .before .before .before .before .before .before .before .read-term in
+    begins-le (read-form (reading .given .1) (read-term .ensures) .made)
 
 -- src/lib.rt:64:29
 slice-aggregate-value : tie.Need-slice-aggregate-value
-slice-aggregate-value c = sym (length-take-le (c .before .before .before .before .before .before .reading .given .0 .0) (c .before .before .before .before .before .before .before .before .before .before .before .before .before .before .before .before .read-term .last .1 .1 .0) (begins-le (read-form (c .before .before .before .before .before .before .reading .given .1) (c .before .before .before .before .before .before .before .before .before .before .before .before .before .before .before .before .read-term .ensures) .made)))
+slice-aggregate-value c =
+    let reading = c .before .before .before .before .before .before .reading in
+    let read-term = c .before .before .before .before .before .before .before .before .before .before .before .before .before .before .before .before .read-term in
+    sym (length-take-le (reading .given .0 .0) (read-term .last .1 .1 .0) (begins-le (read-form (reading .given .1) (read-term .ensures) .made)))
 
 -- src/lib.rt:64:38
 slice-reshare-prefix-value-2 : tie.Need-slice-reshare-prefix-value-2
-slice-reshare-prefix-value-2 c = omega (arith, room-for (c .before .before .before .before .before .before .before .before .before .before .before .before .before .before .before .before .before .before .before .before .before .before .before .before .before .before .before .args .row .now) (c .before .before .before .before .before .before .before .before .before .before .before .before .before .before .before .before .before .before .before .before .before .before .before .before .before .before .before .args .point .now) (c .before .before .before .before .before .before .before .before .before .before .before .before .before .before .before .before .before .before .before .before .before .before .before .before .before .before .before .pre .0) (c .before .before .before .before .before .before .before .before .before .before .before .before .before .before .before .before .before .before .before .before .before .before .before .before .before .before .before .pre .1 .0) (c .before .before .before .before .before .before .before .before .before .before .before .before .before .before .before .before .before .before .before .before .before .before .before .before .before .before .before .pre .1 .1), c .before .before .before .before .before .before .before .before .before .before .before .before .before .before .before .before .read-term .kept .1 .1 .1 .0, c .before .before .before .put-point .kept .1 .0)
+slice-reshare-prefix-value-2 c =
+    let read-term = c .before .before .before .before .before .before .before .before .before .before .before .before .before .before .before .before .read-term in
+    let start = c .before .before .before .before .before .before .before .before .before .before .before .before .before .before .before .before .before .before .before .before .before .before .before .before .before .before .before in
+    omega (arith, room-for (start .args .row .now) (start .args .point .now) (start .pre .0) (start .pre .1 .0) (start .pre .1 .1), read-term .kept .1 .1 .1 .0, c .before .before .before .put-point .kept .1 .0)
 
 -- src/lib.rt:64:38
 slice-aggregate-value-2 : tie.Need-slice-aggregate-value-2
-slice-aggregate-value-2 c = let N = c .before .before .before .before .before .before .before .before .before .before .before .before .before .before .before .before .before .before .before .before .before .before .before .before .before .before .before .before .args .point .now in
-    sym (length-take-le (length N) (c .before .before .before .before .put-point .last .1 .0) (omega (arith, room-for (c .before .before .before .before .before .before .before .before .before .before .before .before .before .before .before .before .before .before .before .before .before .before .before .before .before .before .before .before .args .row .now) N (c .before .before .before .before .before .before .before .before .before .before .before .before .before .before .before .before .before .before .before .before .before .before .before .before .before .before .before .before .pre .0) (c .before .before .before .before .before .before .before .before .before .before .before .before .before .before .before .before .before .before .before .before .before .before .before .before .before .before .before .before .pre .1 .0) (c .before .before .before .before .before .before .before .before .before .before .before .before .before .before .before .before .before .before .before .before .before .before .before .before .before .before .before .before .pre .1 .1), c .before .before .before .before .before .before .before .before .before .before .before .before .before .before .before .before .before .read-term .kept .1 .1 .1 .0, c .before .before .before .before .put-point .kept .1 .0)))
+slice-aggregate-value-2 c =
+    let put-point = c .before .before .before .before .put-point in
+    let read-term = c .before .before .before .before .before .before .before .before .before .before .before .before .before .before .before .before .before .read-term in
+    let start = c .before .before .before .before .before .before .before .before .before .before .before .before .before .before .before .before .before .before .before .before .before .before .before .before .before .before .before .before in
+    let N = start .args .point .now in
+    sym (length-take-le (length N) (put-point .last .1 .0) (omega (arith, room-for (start .args .row .now) N (start .pre .0) (start .pre .1 .0) (start .pre .1 .1), read-term .kept .1 .1 .1 .0, put-point .kept .1 .0)))
 
 -- src/lib.rt:64:9
 value-requires : tie.Need-value-requires
-value-requires c κs = let N = c .before .before .before .before .before .before .before .before .before .before .before .before .before .before .before .before .before .before .before .before .before .before .before .before .before .before .before .before .args .point .now in
-    (coded (term-codes (c .before .before .before .before .before .before .before .before .before .before .before .before .before .before .before .before .before .before .before .before .before .before .before .before .before .before .before .before .pre .0) (read-form (c .before .before .before .before .before .before .before .reading .given .1) (c .before .before .before .before .before .before .before .before .before .before .before .before .before .before .before .before .before .read-term .ensures))), front-leaves N (length N) (drop (length N) (c .before .before .before .before .before .before .before .before .before .before .before .before .before .before .before .before .before .read-term .last .1 .1 .1 .0)) refl (c .before .before .before .before .put-point .ensures))
+value-requires c κs =
+    let put-point = c .before .before .before .before .put-point in
+    let reading = c .before .before .before .before .before .before .before .reading in
+    let read-term = c .before .before .before .before .before .before .before .before .before .before .before .before .before .before .before .before .before .read-term in
+    let start = c .before .before .before .before .before .before .before .before .before .before .before .before .before .before .before .before .before .before .before .before .before .before .before .before .before .before .before .before in
+    let N = start .args .point .now in
+    (coded (term-codes (start .pre .0) (read-form (reading .given .1) (read-term .ensures))), front-leaves N (length N) (drop (length N) (read-term .last .1 .1 .1 .0)) refl (put-point .ensures))
 
 -- src/lib.rt:44:1
 same-length-5 : tie.Need-same-length-5
@@ -100,8 +124,13 @@ same-length-8 c = search needs
 
 -- src/lib.rt:44:1
 returns-2 : tie.Need-returns-2
-returns-2 c = let N = c .before .before .before .before .before .before .before .before .before .before .before .before .before .before .before .before .before .before .before .before .before .before .before .before .before .before .before .before .before .args .point .now in
-    remainder-is N (length N) (drop (length N) (c .before .before .before .before .before .before .before .before .before .before .before .before .before .before .before .before .before .before .read-term .last .1 .1 .1 .0)) (c .before .before .before .before .before .before .before .before .before .before .before .before .before .before .before .before .before .before .before .before .before .before .before .before .before .before .before .before .before .pre .0) (read-form (c .before .before .before .before .before .before .before .before .reading .given .1) (c .before .before .before .before .before .before .before .before .before .before .before .before .before .before .before .before .before .before .read-term .ensures)) (c .before .before .before .before .before .before .before .before .before .before .before .before .before .before .before .before .before .before .before .before .before .before .before .before .before .before .before .before .before .pre .1 .1) refl (c .before .before .before .before .before .put-point .ensures) (c .value .ensures .0)
+returns-2 c =
+    let put-point = c .before .before .before .before .before .put-point in
+    let reading = c .before .before .before .before .before .before .before .before .reading in
+    let read-term = c .before .before .before .before .before .before .before .before .before .before .before .before .before .before .before .before .before .before .read-term in
+    let start = c .before .before .before .before .before .before .before .before .before .before .before .before .before .before .before .before .before .before .before .before .before .before .before .before .before .before .before .before .before in
+    let N = start .args .point .now in
+    remainder-is N (length N) (drop (length N) (read-term .last .1 .1 .1 .0)) (start .pre .0) (read-form (reading .given .1) (read-term .ensures)) (start .pre .1 .1) refl (put-point .ensures) (c .value .ensures .0)
 
 pub remainder-of-spec : {M : Type 1} → statement M
 remainder-of-spec =

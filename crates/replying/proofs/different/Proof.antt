@@ -52,7 +52,10 @@ part-put-spaced-end c = search needs
 
 -- src/lib.rt:131:9
 put-spaced-requires : tie.Need-put-spaced-requires
-put-spaced-requires c κs = omega (arith, wrote-room (wrote-on (c .before .before .before .before .before .before .before .put .ensures) (c .before .before .before .put-numbers .ensures .0)), c .before .before .before .before .before .before .before .put .ensures .size, c .before .before .before .put-numbers .ensures .1, c .before .before .before .before .before .before .before .before .before .before .before .before .pre)
+put-spaced-requires c κs =
+    let put = c .before .before .before .before .before .before .before .put in
+    let start = c .before .before .before .before .before .before .before .before .before .before .before .before in
+    omega (arith, wrote-room (wrote-on (put .ensures) (c .before .before .before .put-numbers .ensures .0)), put .ensures .size, c .before .before .before .put-numbers .ensures .1, start .pre)
 
 -- src/lib.rt:132:13
 add-c : tie.Need-add-c
@@ -72,8 +75,13 @@ part-put-spaced-end-2 c = search needs
 
 -- src/lib.rt:133:9
 put-spaced-requires-2 : tie.Need-put-spaced-requires-2
-put-spaced-requires-2 c κs = let w = wrote-on (wrote-on (c .before .before .before .before .before .before .before .before .before .before .before .put .ensures) (c .before .before .before .before .before .before .before .put-numbers .ensures .0)) (c .before .before .before .put-spaced .ensures) in
-    omega (arith, wrote-room w, c .before .before .before .before .before .before .before .before .before .before .before .put .ensures .size, c .before .before .before .before .before .before .before .put-numbers .ensures .1, c .before .before .before .put-spaced .ensures .size, numeral-10 (c .before .before .before .before .before .before .before .before .before .before .before .before .before .before .before .before .args .l) (omega (arith, c .before .before .before .before .before .before .before .before .before .before .before .before .before .before .before .before .fits .l)), c .before .before .before .before .before .before .before .before .before .before .before .before .before .before .before .before .pre)
+put-spaced-requires-2 c κs =
+    let put-numbers = c .before .before .before .before .before .before .before .put-numbers in
+    let put = c .before .before .before .before .before .before .before .before .before .before .before .put in
+    let start = c .before .before .before .before .before .before .before .before .before .before .before .before .before .before .before .before in
+    let fits = c .before .before .before .before .before .before .before .before .before .before .before .before .before .before .before .before .fits in
+    let w = wrote-on (wrote-on (put .ensures) (put-numbers .ensures .0)) (c .before .before .before .put-spaced .ensures) in
+    omega (arith, wrote-room w, put .ensures .size, put-numbers .ensures .1, c .before .before .before .put-spaced .ensures .size, numeral-10 (start .args .l) (omega (arith, fits .l)), start .pre)
 
 -- src/lib.rt:134:5
 add-result : tie.Need-add-result
@@ -85,7 +93,11 @@ same-length c = search needs
 
 -- src/lib.rt:123:1
 returns : tie.Need-returns
-returns c = wrote-on (wrote-on (wrote-on (c .before .before .before .before .before .before .before .before .before .before .before .before .before .before .put .ensures) (c .before .before .before .before .before .before .before .before .before .before .put-numbers .ensures .0)) (c .before .before .before .before .before .before .put-spaced .ensures)) (c .before .before .put-spaced2 .ensures)
+returns c =
+    let put-spaced = c .before .before .before .before .before .before .put-spaced in
+    let put-numbers = c .before .before .before .before .before .before .before .before .before .before .put-numbers in
+    let put = c .before .before .before .before .before .before .before .before .before .before .before .before .before .before .put in
+    wrote-on (wrote-on (wrote-on (put .ensures) (put-numbers .ensures .0)) (put-spaced .ensures)) (c .before .before .put-spaced2 .ensures)
 
 pub different-spec : {M : Type 1} → statement M
 different-spec =

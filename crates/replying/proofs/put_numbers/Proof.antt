@@ -49,11 +49,16 @@ part-put-spaced-end c = search needs
 
 -- src/lib.rt:115:13
 put-spaced-requires : tie.Need-put-spaced-requires Inv-loop μ-loop
-put-spaced-requires c κs = omega (arith, wrote-room (c .before .before .before .loop .inv .2), c .before .before .before .before .before .before .pre, c .before .before .loop-test .taken)
+put-spaced-requires c κs =
+    let start = c .before .before .before .before .before .before in
+    omega (arith, wrote-room (c .before .before .before .loop .inv .2), start .pre, c .before .before .loop-test .taken)
 
 -- src/lib.rt:116:9
 add-at : tie.Need-add-at Inv-loop μ-loop
-add-at c = omega (arith, wrote-length (wrote-on (c .before .before .before .before .before .before .loop .inv .2) (c .before .before .put-spaced .ensures)), wrote-on (c .before .before .before .before .before .before .loop .inv .2) (c .before .before .put-spaced .ensures) .fits, c .before .before .before .before .before .before .before .before .before .good)
+add-at c =
+    let loop = c .before .before .before .before .before .before .loop in
+    let good = c .before .before .before .before .before .before .before .before .before .good in
+    omega (arith, wrote-length (wrote-on (loop .inv .2) (c .before .before .put-spaced .ensures)), wrote-on (loop .inv .2) (c .before .before .put-spaced .ensures) .fits, good)
 
 -- src/lib.rt:117:9
 add-i : tie.Need-add-i Inv-loop μ-loop
@@ -65,10 +70,15 @@ loop-less c = omega arith
 
 -- src/lib.rt:114:5
 loop-again : tie.Need-loop-again Inv-loop μ-loop
-loop-again c = let l = c .before .before .before .before .before .before .loop in
-    let x = getD (now (c .before .before .before .before .before .before .before .before .before .args .numbers)) (l .i) 0 in
+loop-again c =
+    let shared-slice-known2 = c .before .before .before .before .shared-slice-known2 in
+    let loop-test = c .before .before .before .before .before .loop-test in
+    let loop = c .before .before .before .before .before .before .loop in
+    let start = c .before .before .before .before .before .before .before .before .before in
+    let l = loop in
+    let x = getD (now (start .args .numbers)) (l .i) 0 in
     let w = c .before .before .put-spaced .ensures in
-    (omega arith, omega (arith, w .size, numeral-10 x (omega (arith, c .before .before .before .before .shared-slice-known2 .given (l .i)))), wrote-as (wrote-on (l .inv .2) w) (spaced-on (now (c .before .before .before .before .before .before .before .before .before .args .numbers)) (l .i) (c .before .before .before .before .before .loop-test .taken)))
+    (omega arith, omega (arith, w .size, numeral-10 x (omega (arith, shared-slice-known2 .given (l .i)))), wrote-as (wrote-on (l .inv .2) w) (spaced-on (now (start .args .numbers)) (l .i) (loop-test .taken)))
 
 -- src/lib.rt:108:1
 same-length : tie.Need-same-length Inv-loop μ-loop

@@ -31,7 +31,10 @@ part-write-number-end c = search needs
 
 -- src/lib.rt:64:9
 write-number-requires : tie.Need-write-number-requires
-write-number-requires c κs = omega (arith, wrote-room (c .before .before .before .put .ensures), c .before .before .before .put .ensures .size, numeral-20 (c .before .before .before .before .before .before .before .args .number) (omega (arith, c .before .before .before .before .before .before .before .fits .number)), c .before .before .before .before .before .before .before .pre)
+write-number-requires c κs =
+    let start = c .before .before .before .before .before .before .before in
+    let fits = c .before .before .before .before .before .before .before .fits in
+    omega (arith, wrote-room (c .before .before .before .put .ensures), c .before .before .before .put .ensures .size, numeral-20 (start .args .number) (omega (arith, fits .number)), start .pre)
 
 -- src/lib.rt:65:13
 add-b : tie.Need-add-b
@@ -51,7 +54,11 @@ part-put-side-end c = search needs
 
 -- src/lib.rt:66:9
 put-side-requires : tie.Need-put-side-requires
-put-side-requires c κs = omega (arith, wrote-room (wrote-on (c .before .before .before .before .before .before .before .put .ensures) (c .before .before .before .write-number .ensures)), c .before .before .before .before .before .before .before .put .ensures .size, c .before .before .before .write-number .ensures .size, numeral-20 (c .before .before .before .before .before .before .before .before .before .before .before .args .number) (omega (arith, c .before .before .before .before .before .before .before .before .before .before .before .fits .number)), c .before .before .before .before .before .before .before .before .before .before .before .pre)
+put-side-requires c κs =
+    let put = c .before .before .before .before .before .before .before .put in
+    let start = c .before .before .before .before .before .before .before .before .before .before .before in
+    let fits = c .before .before .before .before .before .before .before .before .before .before .before .fits in
+    omega (arith, wrote-room (wrote-on (put .ensures) (c .before .before .before .write-number .ensures)), put .ensures .size, c .before .before .before .write-number .ensures .size, numeral-20 (start .args .number) (omega (arith, fits .number)), start .pre)
 
 -- src/lib.rt:67:13
 add-c : tie.Need-add-c
@@ -71,8 +78,13 @@ part-write-number-end-2 c = search needs
 
 -- src/lib.rt:68:9
 write-number-requires-2 : tie.Need-write-number-requires-2
-write-number-requires-2 c κs = let w = wrote-on (wrote-on (c .before .before .before .before .before .before .before .before .before .before .before .put .ensures) (c .before .before .before .before .before .before .before .write-number .ensures)) (c .before .before .before .put-side .ensures) in
-    omega (arith, wrote-room w, c .before .before .before .before .before .before .before .before .before .before .before .put .ensures .size, c .before .before .before .before .before .before .before .write-number .ensures .size, c .before .before .before .put-side .ensures .size, side-9 (c .before .before .before .before .before .before .before .before .before .before .before .before .before .before .before .args .side), numeral-20 (c .before .before .before .before .before .before .before .before .before .before .before .before .before .before .before .args .number) (omega (arith, c .before .before .before .before .before .before .before .before .before .before .before .before .before .before .before .fits .number)), numeral-20 (c .before .before .before .before .before .before .before .before .before .before .before .before .before .before .before .args .place) (omega (arith, c .before .before .before .before .before .before .before .before .before .before .before .before .before .before .before .fits .place)), c .before .before .before .before .before .before .before .before .before .before .before .before .before .before .before .pre)
+write-number-requires-2 c κs =
+    let write-number = c .before .before .before .before .before .before .before .write-number in
+    let put = c .before .before .before .before .before .before .before .before .before .before .before .put in
+    let start = c .before .before .before .before .before .before .before .before .before .before .before .before .before .before .before in
+    let fits = c .before .before .before .before .before .before .before .before .before .before .before .before .before .before .before .fits in
+    let w = wrote-on (wrote-on (put .ensures) (write-number .ensures)) (c .before .before .before .put-side .ensures) in
+    omega (arith, wrote-room w, put .ensures .size, write-number .ensures .size, c .before .before .before .put-side .ensures .size, side-9 (start .args .side), numeral-20 (start .args .number) (omega (arith, fits .number)), numeral-20 (start .args .place) (omega (arith, fits .place)), start .pre)
 
 -- src/lib.rt:69:5
 add-result : tie.Need-add-result
@@ -84,7 +96,11 @@ same-length c = search needs
 
 -- src/lib.rt:59:1
 returns : tie.Need-returns
-returns c = wrote-on (wrote-on (wrote-on (c .before .before .before .before .before .before .before .before .before .before .before .before .before .before .put .ensures) (c .before .before .before .before .before .before .before .before .before .before .write-number .ensures)) (c .before .before .before .before .before .before .put-side .ensures)) (c .before .before .write-number2 .ensures)
+returns c =
+    let put-side = c .before .before .before .before .before .before .put-side in
+    let write-number = c .before .before .before .before .before .before .before .before .before .before .write-number in
+    let put = c .before .before .before .before .before .before .before .before .before .before .before .before .before .before .put in
+    wrote-on (wrote-on (wrote-on (put .ensures) (write-number .ensures)) (put-side .ensures)) (c .before .before .write-number2 .ensures)
 
 pub refused-spec : {M : Type 1} → statement M
 refused-spec =

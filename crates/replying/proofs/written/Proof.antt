@@ -30,7 +30,11 @@ put-requires c κs = omega (arith, room-text (c .before .before .before .answer 
 
 -- src/lib.rt:80:13
 add-result : tie.Need-add-result
-add-result c = omega (arith, room-text (c .before .before .before .before .before .before .answer .given .1) (c .before .before .before .before .before .before .before .before .before .pre), c .before .before .put .ensures .size, c .before .before .before .before .before .before .before .before .before .good)
+add-result c =
+    let answer = c .before .before .before .before .before .before .answer in
+    let start = c .before .before .before .before .before .before .before .before .before in
+    let good = c .before .before .before .before .before .before .before .before .before .good in
+    omega (arith, room-text (answer .given .1) (start .pre), c .before .before .put .ensures .size, good)
 
 -- src/lib.rt:82:26
 enum-known-answer-2 : tie.Need-enum-known-answer-2
@@ -38,7 +42,9 @@ enum-known-answer-2 c = search needs
 
 -- src/lib.rt:82:41
 refused-requires : tie.Need-refused-requires
-refused-requires c κs = subst (λ z. Room z (length (now (c .before .before .before .before .before .args .out)))) (c .before .before .answer2 .given .1) (c .before .before .before .before .before .pre)
+refused-requires c κs =
+    let start = c .before .before .before .before .before in
+    subst (λ z. Room z (length (now (start .args .out)))) (c .before .before .answer2 .given .1) (start .pre)
 
 -- src/lib.rt:73:1
 same-length : tie.Need-same-length

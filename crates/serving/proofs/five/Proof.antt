@@ -60,15 +60,22 @@ coordinate-in-requires-5 c κs = search needs
 
 -- src/lib.rt:65:1
 returns : tie.Need-returns
-returns c = let x : toZ w32 (ofZ w32 (c .before .before .before .before .before .before .before .before .coordinate-in .result)) ≡ c .before .before .before .before .before .before .before .before .coordinate-in .result = search needs in
-    let y : toZ w32 (ofZ w32 (c .before .before .before .before .before .before .coordinate-in2 .result)) ≡ c .before .before .before .before .before .before .coordinate-in2 .result = search needs in
-    let z : toZ w32 (ofZ w32 (c .before .before .before .before .coordinate-in3 .result)) ≡ c .before .before .before .before .coordinate-in3 .result = search needs in
+returns c =
+    let coordinate-in3 = c .before .before .before .before .coordinate-in3 in
+    let field3 = c .before .before .before .before .before .field3 in
+    let coordinate-in2 = c .before .before .before .before .before .before .coordinate-in2 in
+    let field2 = c .before .before .before .before .before .before .before .field2 in
+    let coordinate-in = c .before .before .before .before .before .before .before .before .coordinate-in in
+    let field = c .before .before .before .before .before .before .before .before .before .field in
+    let x : toZ w32 (ofZ w32 (coordinate-in .result)) ≡ coordinate-in .result = search needs in
+    let y : toZ w32 (ofZ w32 (coordinate-in2 .result)) ≡ coordinate-in2 .result = search needs in
+    let z : toZ w32 (ofZ w32 (coordinate-in3 .result)) ≡ coordinate-in3 .result = search needs in
     let u : toZ w32 (ofZ w32 (c .before .before .coordinate-in4 .result)) ≡ c .before .before .coordinate-in4 .result = search needs in
     let v : toZ w32 (ofZ w32 (c .coordinate-in5 .result)) ≡ c .coordinate-in5 .result = search needs in
     five-same
-    (x ∙ c .before .before .before .before .before .before .before .before .coordinate-in .ensures ∙ ap (λ w. coordinateOf (signedOf w)) (c .before .before .before .before .before .before .before .before .before .field .ensures))
-    (y ∙ c .before .before .before .before .before .before .coordinate-in2 .ensures ∙ ap (λ w. coordinateOf (signedOf w)) (c .before .before .before .before .before .before .before .field2 .ensures))
-    (z ∙ c .before .before .before .before .coordinate-in3 .ensures ∙ ap (λ w. coordinateOf (signedOf w)) (c .before .before .before .before .before .field3 .ensures))
+    (x ∙ coordinate-in .ensures ∙ ap (λ w. coordinateOf (signedOf w)) (field .ensures))
+    (y ∙ coordinate-in2 .ensures ∙ ap (λ w. coordinateOf (signedOf w)) (field2 .ensures))
+    (z ∙ coordinate-in3 .ensures ∙ ap (λ w. coordinateOf (signedOf w)) (field3 .ensures))
     (u ∙ c .before .before .coordinate-in4 .ensures ∙ ap (λ w. coordinateOf (signedOf w)) (c .before .before .before .field4 .ensures))
     (v ∙ c .coordinate-in5 .ensures ∙ ap (λ w. coordinateOf (signedOf w)) (c .before .field5 .ensures))
 

@@ -21,7 +21,10 @@ same-length c = search needs
 
 -- src/lib.rt:19:9
 returns : tie.Need-returns
-returns c = let e : c .before .before .before .before .before .before .args .n ≡ min (c .before .before .before .before .before .before .args .n) (c .before .before .before .before .before .before .args .k) = omega (arith, c .before .before .before .before .if1 .taken) in wrote-as (c .before .before .wrong .ensures) (ap wrongText e)
+returns c =
+    let if1 = c .before .before .before .before .if1 in
+    let start = c .before .before .before .before .before .before in
+    let e : start .args .n ≡ min (start .args .n) (start .args .k) = omega (arith, if1 .taken) in wrote-as (c .before .before .wrong .ensures) (ap wrongText e)
 
 -- src/lib.rt:21:5
 wrong-requires-2 : tie.Need-wrong-requires-2
@@ -33,7 +36,10 @@ same-length-2 c = search needs
 
 -- src/lib.rt:14:1
 returns-2 : tie.Need-returns-2
-returns-2 c = let e : c .before .before .before .before .before .before .args .k ≡ min (c .before .before .before .before .before .before .args .n) (c .before .before .before .before .before .before .args .k) = omega (arith, c .before .before .before .before .if1 .left) in wrote-as (c .before .before .wrong2 .ensures) (ap wrongText e)
+returns-2 c =
+    let if1 = c .before .before .before .before .if1 in
+    let start = c .before .before .before .before .before .before in
+    let e : start .args .k ≡ min (start .args .n) (start .args .k) = omega (arith, if1 .left) in wrote-as (c .before .before .wrong2 .ensures) (ap wrongText e)
 
 pub miscounted-spec : {M : Type 1} → statement M
 miscounted-spec =

@@ -27,11 +27,15 @@ add-result c = search needs
 
 -- src/lib.rt:59:9
 returns-2 : tie.Need-returns-2
-returns-2 c = fault-wrong (now (c .before .before .before .before .before .args .line)) (c .before .before .before .count .ensures) (c .before .coordinates .ensures) (c .before .before .if1 .left) (c .if2 .taken)
+returns-2 c =
+    let start = c .before .before .before .before .before in
+    fault-wrong (now (start .args .line)) (c .before .before .before .count .ensures) (c .before .coordinates .ensures) (c .before .before .if1 .left) (c .if2 .taken)
 
 -- src/lib.rt:49:1
 returns-3 : tie.Need-returns-3
-returns-3 c = fault-none (now (c .before .before .before .before .before .args .line)) (c .before .before .before .count .ensures) (c .before .coordinates .ensures) (c .before .before .if1 .left) (c .if2 .left)
+returns-3 c =
+    let start = c .before .before .before .before .before in
+    fault-none (now (start .args .line)) (c .before .before .before .count .ensures) (c .before .coordinates .ensures) (c .before .before .if1 .left) (c .if2 .left)
 
 pub point-fault-spec : {M : Type 1} → statement M
 point-fault-spec =

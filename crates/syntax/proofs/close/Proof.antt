@@ -29,7 +29,9 @@ deliver-requires-2 : tie.Need-deliver-requires-2
 deliver-requires-2 c κs = omega arith
 
 returns-5 : tie.Need-returns-5
-returns-5 c = c .deliver2 .ensures ∙ sym (pick-no _ _ (ne-eqb _ _ (c .before .before .before .before .if1 .left)) ∙ pick-yes _ _ (eq-eqb _ _ (c .before .before .before .if2 .left)) ∙ pick-no _ _ (ne-eqb _ _ (c .before .before .if3 .left)) ∙ pick-yes _ _ (eq-eqb _ _ (c .before .if4 .left)))
+returns-5 c =
+    let if1 = c .before .before .before .before .if1 in
+    c .deliver2 .ensures ∙ sym (pick-no _ _ (ne-eqb _ _ (if1 .left)) ∙ pick-yes _ _ (eq-eqb _ _ (c .before .before .before .if2 .left)) ∙ pick-no _ _ (ne-eqb _ _ (c .before .before .if3 .left)) ∙ pick-yes _ _ (eq-eqb _ _ (c .before .if4 .left)))
 
 pub close-spec : {M : Type 1} → statement M
 close-spec =

@@ -22,16 +22,24 @@ enum-known-step-3 : tie.Need-enum-known-step-3
 enum-known-step-3 c = search needs
 
 returns : tie.Need-returns
-returns c = end-end (now (c .before .before .before .before .args .s)) _ (c .before .before .before .before .pre) (sym (c .before .before .next .ensures) ∙ c .enum-told .given .1)
+returns c =
+    let start = c .before .before .before .before in
+    end-end (now (start .args .s)) _ (start .pre) (sym (c .before .before .next .ensures) ∙ c .enum-told .given .1)
 
 returns-2 : tie.Need-returns-2
-returns-2 c = end-open (now (c .before .before .before .before .before .args .s)) _ (c .before .before .before .before .before .pre) _ _ (sym (c .before .before .before .next .ensures) ∙ c .before .step .given .1)
+returns-2 c =
+    let start = c .before .before .before .before .before in
+    end-open (now (start .args .s)) _ (start .pre) _ _ (sym (c .before .before .before .next .ensures) ∙ c .before .step .given .1)
 
 returns-3 : tie.Need-returns-3
-returns-3 c = end-close (now (c .before .before .before .before .before .args .s)) _ (c .before .before .before .before .before .pre) _ _ (sym (c .before .before .before .next .ensures) ∙ c .before .step2 .given .1)
+returns-3 c =
+    let start = c .before .before .before .before .before in
+    end-close (now (start .args .s)) _ (start .pre) _ _ (sym (c .before .before .before .next .ensures) ∙ c .before .step2 .given .1)
 
 returns-4 : tie.Need-returns-4
-returns-4 c = end-word (now (c .before .before .before .before .before .args .s)) _ (c .before .before .before .before .before .pre) _ _ (sym (c .before .before .before .next .ensures) ∙ c .before .step3 .given .1)
+returns-4 c =
+    let start = c .before .before .before .before .before in
+    end-word (now (start .args .s)) _ (start .pre) _ _ (sym (c .before .before .before .next .ensures) ∙ c .before .step3 .given .1)
 
 pub ending-spec : {M : Type 1} → statement M
 ending-spec =

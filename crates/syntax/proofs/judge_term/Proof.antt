@@ -25,34 +25,54 @@ new-requires : tie.Need-new-requires Inv-loop μ-loop
 new-requires c κs = tt
 
 loop-holds : tie.Need-loop-holds Inv-loop μ-loop
-loop-holds c = follows-start (now (c .before .before .before .before .args .row)) (now (c .before .before .before .before .args .s)) (c .new .result) (c .new .ensures) (c .before .if1 .left)
+loop-holds c =
+    let start = c .before .before .before .before in
+    follows-start (now (start .args .row)) (now (start .args .s)) (c .new .result) (c .new .ensures) (c .before .if1 .left)
 
 turn-requires : tie.Need-turn-requires Inv-loop μ-loop
-turn-requires c κs = (c .loop .inv .inside, follows-sane (now (c .before .before .before .before .before .args .row)) (now (c .before .before .before .before .before .args .s)) (c .loop .reader) (c .loop .state) (c .loop .inv))
+turn-requires c κs =
+    let start = c .before .before .before .before .before in
+    (c .loop .inv .inside, follows-sane (now (start .args .row)) (now (start .args .s)) (c .loop .reader) (c .loop .state) (c .loop .inv))
 
 enum-known-t : tie.Need-enum-known-t Inv-loop μ-loop
 enum-known-t c = search needs
 
 returns-2 : tie.Need-returns-2 Inv-loop μ-loop
-returns-2 c = leads (now (c .before .before .before .before .before .before .before .before .before .args .row)) (now (c .before .before .before .before .before .before .before .before .before .args .s)) (c .before .before .before .before .loop .reader) (c .before .before .before .before .loop .state) (c .before .before .before .before .loop .inv) (T.Refused _ _) (sym (c .before .before .before .turn .ensures) ∙ c .before .t .given .1)
+returns-2 c =
+    let loop = c .before .before .before .before .loop in
+    let start = c .before .before .before .before .before .before .before .before .before in
+    leads (now (start .args .row)) (now (start .args .s)) (loop .reader) (loop .state) (loop .inv) (T.Refused _ _) (sym (c .before .before .before .turn .ensures) ∙ c .before .t .given .1)
 
 enum-known-t-2 : tie.Need-enum-known-t-2 Inv-loop μ-loop
 enum-known-t-2 c = search needs
 
 ending-requires : tie.Need-ending-requires Inv-loop μ-loop
-ending-requires c κs = leads (now (c .before .before .before .before .before .before .before .before .before .args .row)) (now (c .before .before .before .before .before .before .before .before .before .args .s)) (c .before .before .before .before .loop .reader) (c .before .before .before .before .loop .state) (c .before .before .before .before .loop .inv) (T.Whole _) (sym (c .before .before .before .turn .ensures) ∙ c .before .t2 .given .1) .0
+ending-requires c κs =
+    let loop = c .before .before .before .before .loop in
+    let start = c .before .before .before .before .before .before .before .before .before in
+    leads (now (start .args .row)) (now (start .args .s)) (loop .reader) (loop .state) (loop .inv) (T.Whole _) (sym (c .before .before .before .turn .ensures) ∙ c .before .t2 .given .1) .0
 
 returns-3 : tie.Need-returns-3 Inv-loop μ-loop
-returns-3 c = c .ending .ensures ∙ leads (now (c .before .before .before .before .before .before .before .before .before .before .args .row)) (now (c .before .before .before .before .before .before .before .before .before .before .args .s)) (c .before .before .before .before .before .loop .reader) (c .before .before .before .before .before .loop .state) (c .before .before .before .before .before .loop .inv) (T.Whole _) (sym (c .before .before .before .before .turn .ensures) ∙ c .before .before .t2 .given .1) .1
+returns-3 c =
+    let turn = c .before .before .before .before .turn in
+    let loop = c .before .before .before .before .before .loop in
+    let start = c .before .before .before .before .before .before .before .before .before .before in
+    c .ending .ensures ∙ leads (now (start .args .row)) (now (start .args .s)) (loop .reader) (loop .state) (loop .inv) (T.Whole _) (sym (turn .ensures) ∙ c .before .before .t2 .given .1) .1
 
 enum-known-t-3 : tie.Need-enum-known-t-3 Inv-loop μ-loop
 enum-known-t-3 c = search needs
 
 loop-less : tie.Need-loop-less Inv-loop μ-loop
-loop-less c = omega (arith, leads (now (c .before .before .before .before .before .before .before .before .before .args .row)) (now (c .before .before .before .before .before .before .before .before .before .args .s)) (c .before .before .before .before .loop .reader) (c .before .before .before .before .loop .state) (c .before .before .before .before .loop .inv) (T.On _ _) (sym (c .before .before .before .turn .ensures) ∙ c .before .t3 .given .1) .1, leads (now (c .before .before .before .before .before .before .before .before .before .args .row)) (now (c .before .before .before .before .before .before .before .before .before .args .s)) (c .before .before .before .before .loop .reader) (c .before .before .before .before .loop .state) (c .before .before .before .before .loop .inv) (T.On _ _) (sym (c .before .before .before .turn .ensures) ∙ c .before .t3 .given .1) .0 .inside)
+loop-less c =
+    let loop = c .before .before .before .before .loop in
+    let start = c .before .before .before .before .before .before .before .before .before in
+    omega (arith, leads (now (start .args .row)) (now (start .args .s)) (loop .reader) (loop .state) (loop .inv) (T.On _ _) (sym (c .before .before .before .turn .ensures) ∙ c .before .t3 .given .1) .1, leads (now (start .args .row)) (now (start .args .s)) (loop .reader) (loop .state) (loop .inv) (T.On _ _) (sym (c .before .before .before .turn .ensures) ∙ c .before .t3 .given .1) .0 .inside)
 
 loop-again : tie.Need-loop-again Inv-loop μ-loop
-loop-again c = leads (now (c .before .before .before .before .before .before .before .before .before .args .row)) (now (c .before .before .before .before .before .before .before .before .before .args .s)) (c .before .before .before .before .loop .reader) (c .before .before .before .before .loop .state) (c .before .before .before .before .loop .inv) (T.On _ _) (sym (c .before .before .before .turn .ensures) ∙ c .before .t3 .given .1) .0
+loop-again c =
+    let loop = c .before .before .before .before .loop in
+    let start = c .before .before .before .before .before .before .before .before .before in
+    leads (now (start .args .row)) (now (start .args .s)) (loop .reader) (loop .state) (loop .inv) (T.On _ _) (sym (c .before .before .before .turn .ensures) ∙ c .before .t3 .given .1) .0
 
 pub judge-term-spec : {M : Type 1} → statement M
 judge-term-spec =

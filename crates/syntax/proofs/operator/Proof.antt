@@ -23,7 +23,9 @@ add-t8 : tie.Need-add-t8
 add-t8 c = search needs
 
 returns-2 : tie.Need-returns-2
-returns-2 c = sym (ap (λ g. pushC g (c .before .before .before .before .args .stack) (c .before .before .before .before .args .depth)) (sym (c .before .before .operator-of .ensures)) ∙ pick-no _ _ (ne-eqb _ _ (c .before .if1 .left)) ∙ pick-yes _ _ (eq-eqb _ _ (c .if2 .taken)))
+returns-2 c =
+    let start = c .before .before .before .before in
+    sym (ap (λ g. pushC g (start .args .stack) (start .args .depth)) (sym (c .before .before .operator-of .ensures)) ∙ pick-no _ _ (ne-eqb _ _ (c .before .if1 .left)) ∙ pick-yes _ _ (eq-eqb _ _ (c .if2 .taken)))
 
 mul-t10 : tie.Need-mul-t10
 mul-t10 c = search needs
@@ -38,7 +40,9 @@ add-t13 : tie.Need-add-t13
 add-t13 c = search needs
 
 returns-3 : tie.Need-returns-3
-returns-3 c = sym (ap (λ g. pushC g (c .before .before .before .before .args .stack) (c .before .before .before .before .args .depth)) (sym (c .before .before .operator-of .ensures)) ∙ pick-no _ _ (ne-eqb _ _ (c .before .if1 .left)) ∙ pick-no _ _ (ne-eqb _ _ (c .if2 .left)))
+returns-3 c =
+    let start = c .before .before .before .before in
+    sym (ap (λ g. pushC g (start .args .stack) (start .args .depth)) (sym (c .before .before .operator-of .ensures)) ∙ pick-no _ _ (ne-eqb _ _ (c .before .if1 .left)) ∙ pick-no _ _ (ne-eqb _ _ (c .if2 .left)))
 
 pub operator-spec : {M : Type 1} → statement M
 operator-spec =

@@ -37,13 +37,19 @@ enum-known-step-3 : tie.Need-enum-known-step-3
 enum-known-step-3 c = search needs
 
 sub-word : tie.Need-sub-word
-sub-word c = omega (arith, told (now (c .before .before .before .before .before .before .args .s)) _ (c .before .before .before .before .before .before .pre .0) (Word _ _) (sym (c .before .before .before .next .ensures) ∙ c .before .step3 .given .1) .past .more)
+sub-word c =
+    let start = c .before .before .before .before .before .before in
+    omega (arith, told (now (start .args .s)) _ (start .pre .0) (Word _ _) (sym (c .before .before .before .next .ensures) ∙ c .before .step3 .given .1) .past .more)
 
 part-word-start : tie.Need-part-word-start
-part-word-start c = omega (arith, told (now (c .before .before .before .before .before .before .args .s)) _ (c .before .before .before .before .before .before .pre .0) (Word _ _) (sym (c .before .before .before .next .ensures) ∙ c .before .step3 .given .1) .past .more, told (now (c .before .before .before .before .before .before .args .s)) _ (c .before .before .before .before .before .before .pre .0) (Word _ _) (sym (c .before .before .before .next .ensures) ∙ c .before .step3 .given .1) .past .inside)
+part-word-start c =
+    let start = c .before .before .before .before .before .before in
+    omega (arith, told (now (start .args .s)) _ (start .pre .0) (Word _ _) (sym (c .before .before .before .next .ensures) ∙ c .before .step3 .given .1) .past .more, told (now (start .args .s)) _ (start .pre .0) (Word _ _) (sym (c .before .before .before .next .ensures) ∙ c .before .step3 .given .1) .past .inside)
 
 part-word-end : tie.Need-part-word-end
-part-word-end c = omega (arith, told (now (c .before .before .before .before .before .before .args .s)) _ (c .before .before .before .before .before .before .pre .0) (Word _ _) (sym (c .before .before .before .next .ensures) ∙ c .before .step3 .given .1) .past .more, told (now (c .before .before .before .before .before .before .args .s)) _ (c .before .before .before .before .before .before .pre .0) (Word _ _) (sym (c .before .before .before .next .ensures) ∙ c .before .step3 .given .1) .past .inside)
+part-word-end c =
+    let start = c .before .before .before .before .before .before in
+    omega (arith, told (now (start .args .s)) _ (start .pre .0) (Word _ _) (sym (c .before .before .before .next .ensures) ∙ c .before .step3 .given .1) .past .more, told (now (start .args .s)) _ (start .pre .0) (Word _ _) (sym (c .before .before .before .next .ensures) ∙ c .before .step3 .given .1) .past .inside)
 
 word-requires : tie.Need-word-requires
 word-requires c κs = search needs
@@ -52,16 +58,28 @@ turn-of-requires-3 : tie.Need-turn-of-requires-3
 turn-of-requires-3 c κs = search needs
 
 returns : tie.Need-returns
-returns c = turn-end (now (c .before .before .before .before .before .args .s)) _ (c .before .before .before .before .before .pre .0) (now (c .before .before .before .before .before .args .row)) _ (c .before .before .before .before .before .args .state) (sym (c .before .before .next .ensures) ∙ c .enum-told .given .1)
+returns c =
+    let start = c .before .before .before .before .before in
+    turn-end (now (start .args .s)) _ (start .pre .0) (now (start .args .row)) _ (start .args .state) (sym (c .before .before .next .ensures) ∙ c .enum-told .given .1)
 
 returns-2 : tie.Need-returns-2
-returns-2 c = c .turn-of .ensures ∙ ap (λ m. turnOf m (c .before .before .before .step .given .0 .0) (c .before .before .before .step .given .0 .1 .0)) (c .before .«open» .ensures) ∙ turn-open (now (c .before .before .before .before .before .before .before .before .args .s)) _ (c .before .before .before .before .before .before .before .before .pre .0) (now (c .before .before .before .before .before .before .before .before .args .row)) _ (c .before .before .before .before .before .before .before .before .args .state) _ _ (sym (c .before .before .before .before .before .next .ensures) ∙ c .before .before .before .step .given .1)
+returns-2 c =
+    let next = c .before .before .before .before .before .next in
+    let start = c .before .before .before .before .before .before .before .before in
+    c .turn-of .ensures ∙ ap (λ m. turnOf m (c .before .before .before .step .given .0 .0) (c .before .before .before .step .given .0 .1 .0)) (c .before .«open» .ensures) ∙ turn-open (now (start .args .s)) _ (start .pre .0) (now (start .args .row)) _ (start .args .state) _ _ (sym (next .ensures) ∙ c .before .before .before .step .given .1)
 
 returns-3 : tie.Need-returns-3
-returns-3 c = c .turn-of2 .ensures ∙ ap (λ m. turnOf m (c .before .before .before .step2 .given .0 .0) (c .before .before .before .step2 .given .0 .1 .0)) (c .before .close .ensures) ∙ turn-close (now (c .before .before .before .before .before .before .before .before .args .s)) _ (c .before .before .before .before .before .before .before .before .pre .0) (now (c .before .before .before .before .before .before .before .before .args .row)) _ (c .before .before .before .before .before .before .before .before .args .state) _ _ (sym (c .before .before .before .before .before .next .ensures) ∙ c .before .before .before .step2 .given .1)
+returns-3 c =
+    let next = c .before .before .before .before .before .next in
+    let start = c .before .before .before .before .before .before .before .before in
+    c .turn-of2 .ensures ∙ ap (λ m. turnOf m (c .before .before .before .step2 .given .0 .0) (c .before .before .before .step2 .given .0 .1 .0)) (c .before .close .ensures) ∙ turn-close (now (start .args .s)) _ (start .pre .0) (now (start .args .row)) _ (start .args .state) _ _ (sym (next .ensures) ∙ c .before .before .before .step2 .given .1)
 
 returns-4 : tie.Need-returns-4
-returns-4 c = c .turn-of3 .ensures ∙ ap (λ m. turnOf m (c .before .before .before .before .step3 .given .0 .0) (c .before .before .before .before .step3 .given .0 .1 .0)) (c .before .word .ensures) ∙ turn-word (now (c .before .before .before .before .before .before .before .before .before .args .s)) _ (c .before .before .before .before .before .before .before .before .before .pre .0) (now (c .before .before .before .before .before .before .before .before .before .args .row)) _ (c .before .before .before .before .before .before .before .before .before .args .state) _ _ (sym (c .before .before .before .before .before .before .next .ensures) ∙ c .before .before .before .before .step3 .given .1)
+returns-4 c =
+    let step3 = c .before .before .before .before .step3 in
+    let next = c .before .before .before .before .before .before .next in
+    let start = c .before .before .before .before .before .before .before .before .before in
+    c .turn-of3 .ensures ∙ ap (λ m. turnOf m (step3 .given .0 .0) (step3 .given .0 .1 .0)) (c .before .word .ensures) ∙ turn-word (now (start .args .s)) _ (start .pre .0) (now (start .args .row)) _ (start .args .state) _ _ (sym (next .ensures) ∙ step3 .given .1)
 
 pub turn-spec : {M : Type 1} → statement M
 turn-spec =

@@ -25,10 +25,14 @@ is-natural-requires : tie.Need-is-natural-requires
 is-natural-requires c κs = search needs
 
 returns-4 : tie.Need-returns-4
-returns-4 c = sym (pick-no _ _ (ne-eqb _ _ (c .before .before .before .before .if1 .left)) ∙ pick-no _ _ (ne-eqb _ _ (c .before .before .before .if2 .left)) ∙ pick-yes _ _ (eq-eqb _ _ (c .before .before .if3 .left)) ∙ pick-no _ _ (sym (c .before .is-natural .ensures) ∙ not-true _ (c .if4 .taken)))
+returns-4 c =
+    let if1 = c .before .before .before .before .if1 in
+    sym (pick-no _ _ (ne-eqb _ _ (if1 .left)) ∙ pick-no _ _ (ne-eqb _ _ (c .before .before .before .if2 .left)) ∙ pick-yes _ _ (eq-eqb _ _ (c .before .before .if3 .left)) ∙ pick-no _ _ (sym (c .before .is-natural .ensures) ∙ not-true _ (c .if4 .taken)))
 
 returns-5 : tie.Need-returns-5
-returns-5 c = sym (pick-no _ _ (ne-eqb _ _ (c .before .before .before .before .if1 .left)) ∙ pick-no _ _ (ne-eqb _ _ (c .before .before .before .if2 .left)) ∙ pick-yes _ _ (eq-eqb _ _ (c .before .before .if3 .left)) ∙ pick-yes _ _ (sym (c .before .is-natural .ensures) ∙ not-false _ (c .if4 .left)))
+returns-5 c =
+    let if1 = c .before .before .before .before .if1 in
+    sym (pick-no _ _ (ne-eqb _ _ (if1 .left)) ∙ pick-no _ _ (ne-eqb _ _ (c .before .before .before .if2 .left)) ∙ pick-yes _ _ (eq-eqb _ _ (c .before .before .if3 .left)) ∙ pick-yes _ _ (sym (c .before .is-natural .ensures) ∙ not-false _ (c .if4 .left)))
 
 pub word-spec : {M : Type 1} → statement M
 word-spec =

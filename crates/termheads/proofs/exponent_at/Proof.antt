@@ -21,19 +21,31 @@ returns : tie.Need-returns
 returns c = λ q n ks h. not-word (c .match .keys2) (c .before .next .ensures) h
 
 sub-cut-value : tie.Need-sub-cut-value
-sub-cut-value c = omega (arith, told (now (c .before .before .before .before .before .args .s)) _ (c .before .before .before .before .before .pre .inside) (Word _ _) (sym (c .before .before .before .next .ensures) ∙ c .before .step .given .1) .past .more)
+sub-cut-value c =
+    let start = c .before .before .before .before .before in
+    omega (arith, told (now (start .args .s)) _ (start .pre .inside) (Word _ _) (sym (c .before .before .before .next .ensures) ∙ c .before .step .given .1) .past .more)
 
 part-cut-value-start : tie.Need-part-cut-value-start
-part-cut-value-start c = let o = told (now (c .before .before .before .before .before .args .s)) _ (c .before .before .before .before .before .pre .inside) (Word _ _) (sym (c .before .before .before .next .ensures) ∙ c .before .step .given .1) in omega (arith, o .past .more, o .past .inside)
+part-cut-value-start c =
+    let start = c .before .before .before .before .before in
+    let o = told (now (start .args .s)) _ (start .pre .inside) (Word _ _) (sym (c .before .before .before .next .ensures) ∙ c .before .step .given .1) in omega (arith, o .past .more, o .past .inside)
 
 part-cut-value-end : tie.Need-part-cut-value-end
-part-cut-value-end c = let o = told (now (c .before .before .before .before .before .args .s)) _ (c .before .before .before .before .before .pre .inside) (Word _ _) (sym (c .before .before .before .next .ensures) ∙ c .before .step .given .1) in omega (arith, o .past .more, o .past .inside)
+part-cut-value-end c =
+    let start = c .before .before .before .before .before in
+    let o = told (now (start .args .s)) _ (start .pre .inside) (Word _ _) (sym (c .before .before .before .next .ensures) ∙ c .before .step .given .1) in omega (arith, o .past .more, o .past .inside)
 
 cut-value-requires : tie.Need-cut-value-requires
-cut-value-requires c κs = exponent-digits (now (c .before .before .before .before .before .before .args .s)) _ (c .before .before .before .before .before .before .pre .inside) _ _ (sym (c .before .before .before .before .next .ensures) ∙ c .before .before .step .given .1) (c .before .before .before .before .before .before .pre)
+cut-value-requires c κs =
+    let next = c .before .before .before .before .next in
+    let start = c .before .before .before .before .before .before in
+    exponent-digits (now (start .args .s)) _ (start .pre .inside) _ _ (sym (next .ensures) ∙ c .before .before .step .given .1) (start .pre)
 
 returns-2 : tie.Need-returns-2
-returns-2 c = exponent-is (now (c .before .before .before .before .before .before .before .args .s)) _ (c .before .before .before .before .before .before .before .pre .inside) _ _ (sym (c .before .before .before .before .before .next .ensures) ∙ c .before .before .before .step .given .1) _ (c .cut-value .ensures)
+returns-2 c =
+    let next = c .before .before .before .before .before .next in
+    let start = c .before .before .before .before .before .before .before in
+    exponent-is (now (start .args .s)) _ (start .pre .inside) _ _ (sym (next .ensures) ∙ c .before .before .before .step .given .1) _ (c .cut-value .ensures)
 
 pub exponent-at-spec : {M : Type 1} → statement M
 exponent-at-spec =

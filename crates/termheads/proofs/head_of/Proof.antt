@@ -18,7 +18,9 @@ enum-known-step-2 : tie.Need-enum-known-step-2
 enum-known-step-2 c = search needs
 
 operator-requires : tie.Need-operator-requires
-operator-requires c κs = told (now (c .before .before .before .before .before .args .s)) _ (c .before .before .before .before .before .pre) (Open _ _) (sym (c .before .before .before .next .ensures) ∙ c .before .step2 .given .1) .past .inside
+operator-requires c κs =
+    let start = c .before .before .before .before .before in
+    told (now (start .args .s)) _ (start .pre) (Open _ _) (sym (c .before .before .before .next .ensures) ∙ c .before .step2 .given .1) .past .inside
 
 enum-told : tie.Need-enum-told
 enum-told c = search needs
@@ -27,16 +29,25 @@ enum-told-2 : tie.Need-enum-told-2
 enum-told-2 c = search needs
 
 returns : tie.Need-returns
-returns c = head-word (now (c .before .before .before .before .before .args .s)) _ (c .before .before .before .before .before .pre) _ _ (sym (c .before .before .before .next .ensures) ∙ c .before .step .given .1)
+returns c =
+    let start = c .before .before .before .before .before in
+    head-word (now (start .args .s)) _ (start .pre) _ _ (sym (c .before .before .before .next .ensures) ∙ c .before .step .given .1)
 
 returns-2 : tie.Need-returns-2
-returns-2 c = head-open (now (c .before .before .before .before .before .before .args .s)) _ (c .before .before .before .before .before .before .pre) _ _ _ _ _ (sym (c .before .before .before .before .next .ensures) ∙ c .before .before .step2 .given .1) (c .operator .ensures)
+returns-2 c =
+    let next = c .before .before .before .before .next in
+    let start = c .before .before .before .before .before .before in
+    head-open (now (start .args .s)) _ (start .pre) _ _ _ _ _ (sym (next .ensures) ∙ c .before .before .step2 .given .1) (c .operator .ensures)
 
 returns-3 : tie.Need-returns-3
-returns-3 c = head-close (now (c .before .before .before .before .args .s)) _ (c .before .before .before .before .pre) _ _ _ _ _ (sym (c .before .before .next .ensures) ∙ c .enum-told .given .1)
+returns-3 c =
+    let start = c .before .before .before .before in
+    head-close (now (start .args .s)) _ (start .pre) _ _ _ _ _ (sym (c .before .before .next .ensures) ∙ c .enum-told .given .1)
 
 returns-4 : tie.Need-returns-4
-returns-4 c = head-end (now (c .before .before .before .before .args .s)) _ (c .before .before .before .before .pre) _ _ _ (sym (c .before .before .next .ensures) ∙ c .enum-told2 .given .1)
+returns-4 c =
+    let start = c .before .before .before .before in
+    head-end (now (start .args .s)) _ (start .pre) _ _ _ (sym (c .before .before .next .ensures) ∙ c .enum-told2 .given .1)
 
 pub head-of-spec : {M : Type 1} → statement M
 head-of-spec =

@@ -20,19 +20,28 @@ returns : tie.Need-returns
 returns c = λ p w ks h. not-word (c .match .keys2) (c .before .next .ensures) h
 
 sub-operator-of : tie.Need-sub-operator-of
-sub-operator-of c = omega (arith, told (now (c .before .before .before .before .before .args .s)) _ (c .before .before .before .before .before .pre) (Word _ _) (sym (c .before .before .before .next .ensures) ∙ c .before .step .given .1) .past .more)
+sub-operator-of c =
+    let start = c .before .before .before .before .before in
+    omega (arith, told (now (start .args .s)) _ (start .pre) (Word _ _) (sym (c .before .before .before .next .ensures) ∙ c .before .step .given .1) .past .more)
 
 part-operator-of-start : tie.Need-part-operator-of-start
-part-operator-of-start c = let o = told (now (c .before .before .before .before .before .args .s)) _ (c .before .before .before .before .before .pre) (Word _ _) (sym (c .before .before .before .next .ensures) ∙ c .before .step .given .1) in omega (arith, o .past .more, o .past .inside)
+part-operator-of-start c =
+    let start = c .before .before .before .before .before in
+    let o = told (now (start .args .s)) _ (start .pre) (Word _ _) (sym (c .before .before .before .next .ensures) ∙ c .before .step .given .1) in omega (arith, o .past .more, o .past .inside)
 
 part-operator-of-end : tie.Need-part-operator-of-end
-part-operator-of-end c = let o = told (now (c .before .before .before .before .before .args .s)) _ (c .before .before .before .before .before .pre) (Word _ _) (sym (c .before .before .before .next .ensures) ∙ c .before .step .given .1) in omega (arith, o .past .more, o .past .inside)
+part-operator-of-end c =
+    let start = c .before .before .before .before .before in
+    let o = told (now (start .args .s)) _ (start .pre) (Word _ _) (sym (c .before .before .before .next .ensures) ∙ c .before .step .given .1) in omega (arith, o .past .more, o .past .inside)
 
 operator-of-requires : tie.Need-operator-of-requires
 operator-of-requires c κs = search needs
 
 returns-2 : tie.Need-returns-2
-returns-2 c = operator-is (now (c .before .before .before .before .before .before .before .args .s)) _ (c .before .before .before .before .before .before .before .pre) _ _ _ (sym (c .before .before .before .before .before .next .ensures) ∙ c .before .before .before .step .given .1) (c .operator-of .ensures)
+returns-2 c =
+    let next = c .before .before .before .before .before .next in
+    let start = c .before .before .before .before .before .before .before in
+    operator-is (now (start .args .s)) _ (start .pre) _ _ _ (sym (next .ensures) ∙ c .before .before .before .step .given .1) (c .operator-of .ensures)
 
 pub operator-spec : {M : Type 1} → statement M
 operator-spec =

@@ -18,7 +18,9 @@ returns : tie.Need-returns
 returns c = record { yes = λ q ks h. not-close (c .match .keys2) (c .before .next .ensures) h; no = λ x rest h. refl }
 
 returns-2 : tie.Need-returns-2
-returns-2 c = past-close (now (c .before .before .before .before .before .args .s)) _ (c .before .before .before .before .before .pre) _ _ (sym (c .before .before .before .next .ensures) ∙ c .before .step .given .1)
+returns-2 c =
+    let start = c .before .before .before .before .before in
+    past-close (now (start .args .s)) _ (start .pre) _ _ (sym (c .before .before .before .next .ensures) ∙ c .before .step .given .1)
 
 pub past-spec : {M : Type 1} → statement M
 past-spec = tie.close (tie.spec next-requires enum-known-step returns returns-2)

@@ -31,10 +31,14 @@ loop-less : tie.Need-loop-less Inv-loop μ-loop
 loop-less c = omega (arith, c .turn2 .ensures .falls, c .turn2 .ensures .inside, c .before .before .loop .inv .1, c .before .loop-test .taken)
 
 loop-again : tie.Need-loop-again Inv-loop μ-loop
-loop-again c = (omega (arith, c .turn2 .ensures .falls, c .before .before .loop .inv .0), c .turn2 .ensures .inside, omega (arith, c .turn2 .ensures .shallow, c .before .before .loop .inv .2), c .turn2 .ensures .left ∙ skips-one (from (now (c .before .before .before .before .before .args .s)) (c .before .before .loop .i)) (c .before .before .loop .depth) (c .before .loop-test .taken) ∙ c .before .before .loop .inv .3)
+loop-again c =
+    let start = c .before .before .before .before .before in
+    (omega (arith, c .turn2 .ensures .falls, c .before .before .loop .inv .0), c .turn2 .ensures .inside, omega (arith, c .turn2 .ensures .shallow, c .before .before .loop .inv .2), c .turn2 .ensures .left ∙ skips-one (from (now (start .args .s)) (c .before .before .loop .i)) (c .before .before .loop .depth) (c .before .loop-test .taken) ∙ c .before .before .loop .inv .3)
 
 returns : tie.Need-returns Inv-loop μ-loop
-returns c = (c .before .loop .inv .0, c .before .loop .inv .1, λ x rest h. sym (skips-none _) ∙ ap (skips (from (now (c .before .before .before .before .args .s)) (c .before .loop .i))) (sym (c .loop-test .left)) ∙ c .before .loop .inv .3 ∙ ap (λ ks. skipOne ks 0) h ∙ skip-term x rest)
+returns c =
+    let start = c .before .before .before .before in
+    (c .before .loop .inv .0, c .before .loop .inv .1, λ x rest h. sym (skips-none _) ∙ ap (skips (from (now (start .args .s)) (c .before .loop .i))) (sym (c .loop-test .left)) ∙ c .before .loop .inv .3 ∙ ap (λ ks. skipOne ks 0) h ∙ skip-term x rest)
 
 pub skip-spec : {M : Type 1} → statement M
 skip-spec =

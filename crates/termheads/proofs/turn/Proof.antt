@@ -23,7 +23,10 @@ enum-known-step-3 : tie.Need-enum-known-step-3
 enum-known-step-3 c = search needs
 
 returns : tie.Need-returns
-returns c = turn-stay (now (c .before .before .before .before .before .before .args .s)) _ (c .before .before .before .before .before .before .pre .0) _ _ _ (sym (c .before .before .before .before .next .ensures) ∙ c .before .before .step3 .given .1) (c .if1 .taken)
+returns c =
+    let next = c .before .before .before .before .next in
+    let start = c .before .before .before .before .before .before in
+    turn-stay (now (start .args .s)) _ (start .pre .0) _ _ _ (sym (next .ensures) ∙ c .before .before .step3 .given .1) (c .if1 .taken)
 
 sub-t12 : tie.Need-sub-t12
 sub-t12 c = search needs
@@ -32,16 +35,25 @@ enum-told : tie.Need-enum-told
 enum-told c = search needs
 
 returns-2 : tie.Need-returns-2
-returns-2 c = turn-word (now (c .before .before .before .before .before .args .s)) _ (c .before .before .before .before .before .pre .0) _ _ _ (sym (c .before .before .before .next .ensures) ∙ c .before .step .given .1)
+returns-2 c =
+    let start = c .before .before .before .before .before in
+    turn-word (now (start .args .s)) _ (start .pre .0) _ _ _ (sym (c .before .before .before .next .ensures) ∙ c .before .step .given .1)
 
 returns-3 : tie.Need-returns-3
-returns-3 c = turn-open (now (c .before .before .before .before .before .args .s)) _ (c .before .before .before .before .before .pre .0) _ _ _ (sym (c .before .before .before .next .ensures) ∙ c .before .step2 .given .1)
+returns-3 c =
+    let start = c .before .before .before .before .before in
+    turn-open (now (start .args .s)) _ (start .pre .0) _ _ _ (sym (c .before .before .before .next .ensures) ∙ c .before .step2 .given .1)
 
 returns-4 : tie.Need-returns-4
-returns-4 c = turn-close (now (c .before .before .before .before .before .before .args .s)) _ (c .before .before .before .before .before .before .pre .0) _ _ _ (sym (c .before .before .before .before .next .ensures) ∙ c .before .before .step3 .given .1) (c .if1 .left)
+returns-4 c =
+    let next = c .before .before .before .before .next in
+    let start = c .before .before .before .before .before .before in
+    turn-close (now (start .args .s)) _ (start .pre .0) _ _ _ (sym (next .ensures) ∙ c .before .before .step3 .given .1) (c .if1 .left)
 
 returns-5 : tie.Need-returns-5
-returns-5 c = turn-end (now (c .before .before .before .before .args .s)) _ (c .before .before .before .before .pre .0) _ (sym (c .before .before .next .ensures) ∙ c .enum-told .given .1)
+returns-5 c =
+    let start = c .before .before .before .before in
+    turn-end (now (start .args .s)) _ (start .pre .0) _ (sym (c .before .before .next .ensures) ∙ c .enum-told .given .1)
 
 pub turn-spec : {M : Type 1} → statement M
 turn-spec =

@@ -17,7 +17,9 @@ enum-told-2 : tie.Need-enum-told-2
 enum-told-2 c = search needs
 
 returns : tie.Need-returns
-returns c = accept-refused (now (c .before .before .before .before .before .args .row)) (now (c .before .before .before .before .before .args .s)) _ (c .before .before .judge-term .ensures) (λ h. term-refused (now (c .before .before .before .before .before .args .row)) (now (c .before .before .before .before .before .args .s)) (sym h ∙ c .enum-told2 .given .1))
+returns c =
+    let start = c .before .before .before .before .before in
+    accept-refused (now (start .args .row)) (now (start .args .s)) _ (c .before .before .judge-term .ensures) (λ h. term-refused (now (start .args .row)) (now (start .args .s)) (sym h ∙ c .enum-told2 .given .1))
 
 new-requires : tie.Need-new-requires
 new-requires c κs = search needs
@@ -35,13 +37,26 @@ enum-told-4 : tie.Need-enum-told-4
 enum-told-4 c = search needs
 
 returns-2 : tie.Need-returns-2
-returns-2 c = sym (ap verdictOf (c .before .found .given .1)) ∙ accept-term (now (c .before .before .before .before .before .before .before .before .before .before .args .row)) (now (c .before .before .before .before .before .before .before .before .before .before .args .s)) (sym (c .before .before .before .before .before .enum-told .given .1) ∙ c .before .before .before .before .before .before .before .judge-term .ensures) (c .before .before .before .measure .result) (subst (λ i. MeasuredAt (now (c .before .before .before .before .before .before .before .before .before .before .args .row)) (now (c .before .before .before .before .before .before .before .before .before .before .args .s)) i (c .before .before .before .measure .result)) (c .before .before .before .before .new .ensures) (c .before .before .before .measure .ensures))
+returns-2 c =
+    let new = c .before .before .before .before .new in
+    let at-enum-told = c .before .before .before .before .before .enum-told in
+    let judge-term = c .before .before .before .before .before .before .before .judge-term in
+    let start = c .before .before .before .before .before .before .before .before .before .before in
+    sym (ap verdictOf (c .before .found .given .1)) ∙ accept-term (now (start .args .row)) (now (start .args .s)) (sym (at-enum-told .given .1) ∙ judge-term .ensures) (c .before .before .before .measure .result) (subst (λ i. MeasuredAt (now (start .args .row)) (now (start .args .s)) i (c .before .before .before .measure .result)) (new .ensures) (c .before .before .before .measure .ensures))
 
 returns-3 : tie.Need-returns-3
-returns-3 c = sym (ap verdictOf (c .enum-told3 .given .1)) ∙ accept-term (now (c .before .before .before .before .before .before .before .before .before .args .row)) (now (c .before .before .before .before .before .before .before .before .before .args .s)) (sym (c .before .before .before .before .enum-told .given .1) ∙ c .before .before .before .before .before .before .judge-term .ensures) (c .before .before .measure .result) (subst (λ i. MeasuredAt (now (c .before .before .before .before .before .before .before .before .before .args .row)) (now (c .before .before .before .before .before .before .before .before .before .args .s)) i (c .before .before .measure .result)) (c .before .before .before .new .ensures) (c .before .before .measure .ensures))
+returns-3 c =
+    let at-enum-told = c .before .before .before .before .enum-told in
+    let judge-term = c .before .before .before .before .before .before .judge-term in
+    let start = c .before .before .before .before .before .before .before .before .before in
+    sym (ap verdictOf (c .enum-told3 .given .1)) ∙ accept-term (now (start .args .row)) (now (start .args .s)) (sym (at-enum-told .given .1) ∙ judge-term .ensures) (c .before .before .measure .result) (subst (λ i. MeasuredAt (now (start .args .row)) (now (start .args .s)) i (c .before .before .measure .result)) (c .before .before .before .new .ensures) (c .before .before .measure .ensures))
 
 returns-4 : tie.Need-returns-4
-returns-4 c = sym (ap verdictOf (c .enum-told4 .given .1)) ∙ accept-term (now (c .before .before .before .before .before .before .before .before .before .args .row)) (now (c .before .before .before .before .before .before .before .before .before .args .s)) (sym (c .before .before .before .before .enum-told .given .1) ∙ c .before .before .before .before .before .before .judge-term .ensures) (c .before .before .measure .result) (subst (λ i. MeasuredAt (now (c .before .before .before .before .before .before .before .before .before .args .row)) (now (c .before .before .before .before .before .before .before .before .before .args .s)) i (c .before .before .measure .result)) (c .before .before .before .new .ensures) (c .before .before .measure .ensures))
+returns-4 c =
+    let at-enum-told = c .before .before .before .before .enum-told in
+    let judge-term = c .before .before .before .before .before .before .judge-term in
+    let start = c .before .before .before .before .before .before .before .before .before in
+    sym (ap verdictOf (c .enum-told4 .given .1)) ∙ accept-term (now (start .args .row)) (now (start .args .s)) (sym (at-enum-told .given .1) ∙ judge-term .ensures) (c .before .before .measure .result) (subst (λ i. MeasuredAt (now (start .args .row)) (now (start .args .s)) i (c .before .before .measure .result)) (c .before .before .before .new .ensures) (c .before .before .measure .ensures))
 
 pub accept-term-spec : {M : Type 1} → statement M
 accept-term-spec =

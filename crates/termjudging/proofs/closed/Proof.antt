@@ -25,16 +25,25 @@ enum-told-3 : tie.Need-enum-told-3
 enum-told-3 c = search needs
 
 returns : tie.Need-returns
-returns c = closes (now (c .before .before .before .before .before .before .args .s)) _ (c .before .before .before .before .before .before .pre) (c .before .before .before .before .before .before .args .m) (c .before .before .before .before .before .before .args .p) _ _ (sym (c .before .before .before .before .next .ensures) ∙ c .before .before .step .given .1) _ (c .judge .ensures)
+returns c =
+    let next = c .before .before .before .before .next in
+    let start = c .before .before .before .before .before .before in
+    closes (now (start .args .s)) _ (start .pre) (start .args .m) (start .args .p) _ _ (sym (next .ensures) ∙ c .before .before .step .given .1) _ (c .judge .ensures)
 
 returns-2 : tie.Need-returns-2
-returns-2 c = not-open (now (c .before .before .before .before .args .s)) _ (c .before .before .before .before .pre) (c .before .before .before .before .args .m) (c .before .before .before .before .args .p) _ _ (sym (c .before .before .next .ensures) ∙ c .enum-told .given .1)
+returns-2 c =
+    let start = c .before .before .before .before in
+    not-open (now (start .args .s)) _ (start .pre) (start .args .m) (start .args .p) _ _ (sym (c .before .before .next .ensures) ∙ c .enum-told .given .1)
 
 returns-3 : tie.Need-returns-3
-returns-3 c = not-word (now (c .before .before .before .before .args .s)) _ (c .before .before .before .before .pre) (c .before .before .before .before .args .m) (c .before .before .before .before .args .p) _ _ (sym (c .before .before .next .ensures) ∙ c .enum-told2 .given .1)
+returns-3 c =
+    let start = c .before .before .before .before in
+    not-word (now (start .args .s)) _ (start .pre) (start .args .m) (start .args .p) _ _ (sym (c .before .before .next .ensures) ∙ c .enum-told2 .given .1)
 
 returns-4 : tie.Need-returns-4
-returns-4 c = not-end (now (c .before .before .before .before .args .s)) _ (c .before .before .before .before .pre) (c .before .before .before .before .args .m) (c .before .before .before .before .args .p) (sym (c .before .before .next .ensures) ∙ c .enum-told3 .given .1)
+returns-4 c =
+    let start = c .before .before .before .before in
+    not-end (now (start .args .s)) _ (start .pre) (start .args .m) (start .args .p) (sym (c .before .before .next .ensures) ∙ c .enum-told3 .given .1)
 
 pub closed-spec : {M : Type 1} → statement M
 closed-spec =

@@ -22,16 +22,24 @@ enum-told : tie.Need-enum-told
 enum-told c = search needs
 
 returns : tie.Need-returns
-returns c = closing-close (now (c .before .before .before .before .before .args .s)) _ (c .before .before .before .before .before .pre) _ _ (sym (c .before .before .before .next .ensures) ∙ c .before .step .given .1)
+returns c =
+    let start = c .before .before .before .before .before in
+    closing-close (now (start .args .s)) _ (start .pre) _ _ (sym (c .before .before .before .next .ensures) ∙ c .before .step .given .1)
 
 returns-2 : tie.Need-returns-2
-returns-2 c = closing-open (now (c .before .before .before .before .before .args .s)) _ (c .before .before .before .before .before .pre) _ _ (sym (c .before .before .before .next .ensures) ∙ c .before .step2 .given .1)
+returns-2 c =
+    let start = c .before .before .before .before .before in
+    closing-open (now (start .args .s)) _ (start .pre) _ _ (sym (c .before .before .before .next .ensures) ∙ c .before .step2 .given .1)
 
 returns-3 : tie.Need-returns-3
-returns-3 c = closing-word (now (c .before .before .before .before .before .args .s)) _ (c .before .before .before .before .before .pre) _ _ (sym (c .before .before .before .next .ensures) ∙ c .before .step3 .given .1)
+returns-3 c =
+    let start = c .before .before .before .before .before in
+    closing-word (now (start .args .s)) _ (start .pre) _ _ (sym (c .before .before .before .next .ensures) ∙ c .before .step3 .given .1)
 
 returns-4 : tie.Need-returns-4
-returns-4 c = closing-end (now (c .before .before .before .before .args .s)) _ (c .before .before .before .before .pre) _ (sym (c .before .before .next .ensures) ∙ c .enum-told .given .1)
+returns-4 c =
+    let start = c .before .before .before .before in
+    closing-end (now (start .args .s)) _ (start .pre) _ (sym (c .before .before .next .ensures) ∙ c .enum-told .given .1)
 
 pub closing-at-spec : {M : Type 1} → statement M
 closing-at-spec =

@@ -16,16 +16,25 @@ enum-known-step : tie.Need-enum-known-step
 enum-known-step c = search needs
 
 sub-powered : tie.Need-sub-powered
-sub-powered c = omega (arith, told (now (c .before .before .before .before .before .args .s)) _ (c .before .before .before .before .before .pre .1) (Word _ _) (sym (c .before .before .before .next .ensures) ∙ c .before .step .given .1) .past .more, told (now (c .before .before .before .before .before .args .s)) _ (c .before .before .before .before .before .pre .1) (Word _ _) (sym (c .before .before .before .next .ensures) ∙ c .before .step .given .1) .past .inside)
+sub-powered c =
+    let start = c .before .before .before .before .before in
+    omega (arith, told (now (start .args .s)) _ (start .pre .1) (Word _ _) (sym (c .before .before .before .next .ensures) ∙ c .before .step .given .1) .past .more, told (now (start .args .s)) _ (start .pre .1) (Word _ _) (sym (c .before .before .before .next .ensures) ∙ c .before .step .given .1) .past .inside)
 
 part-powered-start : tie.Need-part-powered-start
-part-powered-start c = omega (arith, told (now (c .before .before .before .before .before .args .s)) _ (c .before .before .before .before .before .pre .1) (Word _ _) (sym (c .before .before .before .next .ensures) ∙ c .before .step .given .1) .past .more, told (now (c .before .before .before .before .before .args .s)) _ (c .before .before .before .before .before .pre .1) (Word _ _) (sym (c .before .before .before .next .ensures) ∙ c .before .step .given .1) .past .inside)
+part-powered-start c =
+    let start = c .before .before .before .before .before in
+    omega (arith, told (now (start .args .s)) _ (start .pre .1) (Word _ _) (sym (c .before .before .before .next .ensures) ∙ c .before .step .given .1) .past .more, told (now (start .args .s)) _ (start .pre .1) (Word _ _) (sym (c .before .before .before .next .ensures) ∙ c .before .step .given .1) .past .inside)
 
 part-powered-end : tie.Need-part-powered-end
-part-powered-end c = omega (arith, told (now (c .before .before .before .before .before .args .s)) _ (c .before .before .before .before .before .pre .1) (Word _ _) (sym (c .before .before .before .next .ensures) ∙ c .before .step .given .1) .past .more, told (now (c .before .before .before .before .before .args .s)) _ (c .before .before .before .before .before .pre .1) (Word _ _) (sym (c .before .before .before .next .ensures) ∙ c .before .step .given .1) .past .inside)
+part-powered-end c =
+    let start = c .before .before .before .before .before in
+    omega (arith, told (now (start .args .s)) _ (start .pre .1) (Word _ _) (sym (c .before .before .before .next .ensures) ∙ c .before .step .given .1) .past .more, told (now (start .args .s)) _ (start .pre .1) (Word _ _) (sym (c .before .before .before .next .ensures) ∙ c .before .step .given .1) .past .inside)
 
 powered-requires : tie.Need-powered-requires
-powered-requires c κs = (c .before .before .before .before .before .before .pre .0, told (now (c .before .before .before .before .before .before .args .s)) _ (c .before .before .before .before .before .before .pre .1) (Word _ _) (sym (c .before .before .before .before .next .ensures) ∙ c .before .before .step .given .1) .past .inside)
+powered-requires c κs =
+    let next = c .before .before .before .before .next in
+    let start = c .before .before .before .before .before .before in
+    (start .pre .0, told (now (start .args .s)) _ (start .pre .1) (Word _ _) (sym (next .ensures) ∙ c .before .before .step .given .1) .past .inside)
 
 enum-told : tie.Need-enum-told
 enum-told c = search needs
@@ -37,16 +46,25 @@ enum-told-3 : tie.Need-enum-told-3
 enum-told-3 c = search needs
 
 returns : tie.Need-returns
-returns c = exponent-word (now (c .before .before .before .before .before .before .before .args .s)) _ (c .before .before .before .before .before .before .before .pre .1) (c .before .before .before .before .before .before .before .args .a) (c .before .before .before .before .before .before .before .args .p) _ _ (sym (c .before .before .before .before .before .next .ensures) ∙ c .before .before .before .step .given .1) _ (c .powered .ensures)
+returns c =
+    let next = c .before .before .before .before .before .next in
+    let start = c .before .before .before .before .before .before .before in
+    exponent-word (now (start .args .s)) _ (start .pre .1) (start .args .a) (start .args .p) _ _ (sym (next .ensures) ∙ c .before .before .before .step .given .1) _ (c .powered .ensures)
 
 returns-2 : tie.Need-returns-2
-returns-2 c = exponent-open (now (c .before .before .before .before .args .s)) _ (c .before .before .before .before .pre .1) _ _ _ _ (sym (c .before .before .next .ensures) ∙ c .enum-told .given .1)
+returns-2 c =
+    let start = c .before .before .before .before in
+    exponent-open (now (start .args .s)) _ (start .pre .1) _ _ _ _ (sym (c .before .before .next .ensures) ∙ c .enum-told .given .1)
 
 returns-3 : tie.Need-returns-3
-returns-3 c = exponent-close (now (c .before .before .before .before .args .s)) _ (c .before .before .before .before .pre .1) _ _ _ _ (sym (c .before .before .next .ensures) ∙ c .enum-told2 .given .1)
+returns-3 c =
+    let start = c .before .before .before .before in
+    exponent-close (now (start .args .s)) _ (start .pre .1) _ _ _ _ (sym (c .before .before .next .ensures) ∙ c .enum-told2 .given .1)
 
 returns-4 : tie.Need-returns-4
-returns-4 c = exponent-end (now (c .before .before .before .before .args .s)) _ (c .before .before .before .before .pre .1) _ _ (sym (c .before .before .next .ensures) ∙ c .enum-told3 .given .1)
+returns-4 c =
+    let start = c .before .before .before .before in
+    exponent-end (now (start .args .s)) _ (start .pre .1) _ _ (sym (c .before .before .next .ensures) ∙ c .enum-told3 .given .1)
 
 pub exponent-spec : {M : Type 1} → statement M
 exponent-spec =

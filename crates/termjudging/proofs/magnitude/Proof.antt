@@ -30,12 +30,15 @@ part-cut-value-end : tie.Need-part-cut-value-end
 part-cut-value-end c = search needs
 
 cut-value-requires : tie.Need-cut-value-requires
-cut-value-requires c κs = ap (all digit) (rest-part (now (c .before .before .before .before .args .w))) ∙ digits-below (now (c .before .before .before .before .args .w)) (c .before .before .before .before .pre) (c .before .if1 .taken)
+cut-value-requires c κs =
+    let start = c .before .before .before .before in
+    ap (all digit) (rest-part (now (start .args .w))) ∙ digits-below (now (start .args .w)) (start .pre) (c .before .if1 .taken)
 
 returns : tie.Need-returns
 returns c =
-    let w = now (c .before .before .before .before .before .args .w) in
-    c .cut-value .ensures ∙ ap (λ v. min v 1073741824) (ap (valueFrom 0) (rest-part w) ∙ magnitude-below w (integer-long w (c .before .before .before .before .before .pre)) (c .before .before .if1 .taken))
+    let start = c .before .before .before .before .before in
+    let w = now (start .args .w) in
+    c .cut-value .ensures ∙ ap (λ v. min v 1073741824) (ap (valueFrom 0) (rest-part w) ∙ magnitude-below w (integer-long w (start .pre)) (c .before .before .if1 .taken))
 
 cut-value-requires-2 : tie.Need-cut-value-requires-2
 cut-value-requires-2 c κs = digits-plain (now (c .before .before .before .args .w)) (c .before .before .before .pre) (c .if1 .left)

@@ -16,13 +16,19 @@ enum-known-step : tie.Need-enum-known-step
 enum-known-step c = search needs
 
 sub-operator-of : tie.Need-sub-operator-of
-sub-operator-of c = omega (arith, told (now (c .before .before .before .before .before .args .s)) _ (c .before .before .before .before .before .pre) (Word _ _) (sym (c .before .before .before .next .ensures) ∙ c .before .step .given .1) .past .more, told (now (c .before .before .before .before .before .args .s)) _ (c .before .before .before .before .before .pre) (Word _ _) (sym (c .before .before .before .next .ensures) ∙ c .before .step .given .1) .past .inside)
+sub-operator-of c =
+    let start = c .before .before .before .before .before in
+    omega (arith, told (now (start .args .s)) _ (start .pre) (Word _ _) (sym (c .before .before .before .next .ensures) ∙ c .before .step .given .1) .past .more, told (now (start .args .s)) _ (start .pre) (Word _ _) (sym (c .before .before .before .next .ensures) ∙ c .before .step .given .1) .past .inside)
 
 part-operator-of-start : tie.Need-part-operator-of-start
-part-operator-of-start c = omega (arith, told (now (c .before .before .before .before .before .args .s)) _ (c .before .before .before .before .before .pre) (Word _ _) (sym (c .before .before .before .next .ensures) ∙ c .before .step .given .1) .past .more, told (now (c .before .before .before .before .before .args .s)) _ (c .before .before .before .before .before .pre) (Word _ _) (sym (c .before .before .before .next .ensures) ∙ c .before .step .given .1) .past .inside)
+part-operator-of-start c =
+    let start = c .before .before .before .before .before in
+    omega (arith, told (now (start .args .s)) _ (start .pre) (Word _ _) (sym (c .before .before .before .next .ensures) ∙ c .before .step .given .1) .past .more, told (now (start .args .s)) _ (start .pre) (Word _ _) (sym (c .before .before .before .next .ensures) ∙ c .before .step .given .1) .past .inside)
 
 part-operator-of-end : tie.Need-part-operator-of-end
-part-operator-of-end c = omega (arith, told (now (c .before .before .before .before .before .args .s)) _ (c .before .before .before .before .before .pre) (Word _ _) (sym (c .before .before .before .next .ensures) ∙ c .before .step .given .1) .past .more, told (now (c .before .before .before .before .before .args .s)) _ (c .before .before .before .before .before .pre) (Word _ _) (sym (c .before .before .before .next .ensures) ∙ c .before .step .given .1) .past .inside)
+part-operator-of-end c =
+    let start = c .before .before .before .before .before in
+    omega (arith, told (now (start .args .s)) _ (start .pre) (Word _ _) (sym (c .before .before .before .next .ensures) ∙ c .before .step .given .1) .past .more, told (now (start .args .s)) _ (start .pre) (Word _ _) (sym (c .before .before .before .next .ensures) ∙ c .before .step .given .1) .past .inside)
 
 operator-of-requires : tie.Need-operator-of-requires
 operator-of-requires c κs = search needs
@@ -37,16 +43,25 @@ enum-told : tie.Need-enum-told
 enum-told c = search needs
 
 returns : tie.Need-returns
-returns c = operator-word (now (c .before .before .before .before .before .before .before .args .s)) _ (c .before .before .before .before .before .before .before .pre) _ _ (sym (c .before .before .before .before .before .next .ensures) ∙ c .before .before .before .step .given .1) _ (c .operator-of .ensures)
+returns c =
+    let next = c .before .before .before .before .before .next in
+    let start = c .before .before .before .before .before .before .before in
+    operator-word (now (start .args .s)) _ (start .pre) _ _ (sym (next .ensures) ∙ c .before .before .before .step .given .1) _ (c .operator-of .ensures)
 
 returns-2 : tie.Need-returns-2
-returns-2 c = operator-open (now (c .before .before .before .before .before .args .s)) _ (c .before .before .before .before .before .pre) _ _ (sym (c .before .before .before .next .ensures) ∙ c .before .step2 .given .1)
+returns-2 c =
+    let start = c .before .before .before .before .before in
+    operator-open (now (start .args .s)) _ (start .pre) _ _ (sym (c .before .before .before .next .ensures) ∙ c .before .step2 .given .1)
 
 returns-3 : tie.Need-returns-3
-returns-3 c = operator-close (now (c .before .before .before .before .before .args .s)) _ (c .before .before .before .before .before .pre) _ _ (sym (c .before .before .before .next .ensures) ∙ c .before .step3 .given .1)
+returns-3 c =
+    let start = c .before .before .before .before .before in
+    operator-close (now (start .args .s)) _ (start .pre) _ _ (sym (c .before .before .before .next .ensures) ∙ c .before .step3 .given .1)
 
 returns-4 : tie.Need-returns-4
-returns-4 c = operator-end (now (c .before .before .before .before .args .s)) _ (c .before .before .before .before .pre) _ (sym (c .before .before .next .ensures) ∙ c .enum-told .given .1)
+returns-4 c =
+    let start = c .before .before .before .before in
+    operator-end (now (start .args .s)) _ (start .pre) _ (sym (c .before .before .next .ensures) ∙ c .enum-told .given .1)
 
 pub operator-at-spec : {M : Type 1} → statement M
 operator-at-spec =

@@ -34,13 +34,16 @@ returns c =
     }
 
 cut-value-requires : tie.Need-cut-value-requires
-cut-value-requires c κs = canonical-digits (now (c .before .before .before .before .args .w)) (sym (c .before .is-natural .ensures) ∙ not-false _ (c .if1 .left))
+cut-value-requires c κs =
+    let start = c .before .before .before .before in
+    canonical-digits (now (start .args .w)) (sym (c .before .is-natural .ensures) ∙ not-false _ (c .if1 .left))
 
 returns-2 : tie.Need-returns-2
 returns-2 c =
+    let start = c .before .before .before .before .before .before in
     record {
       safe = tt;
-      found = λ k q rest e f. inl (more k (now (c .before .before .before .before .before .before .args .w)) (c .before .cut-value .result) e (c .before .cut-value .ensures) (c .if2 .taken), refl);
+      found = λ k q rest e f. inl (more k (now (start .args .w)) (c .before .cut-value .result) e (c .before .cut-value .ensures) (c .if2 .taken), refl);
     }
 
 raise-requires : tie.Need-raise-requires
@@ -51,13 +54,14 @@ closed-requires c κs = search needs
 
 returns-3 : tie.Need-returns-3
 returns-3 c =
-    let w = now (c .before .before .before .before .before .before .before .before .args .w) in
-    let a = c .before .before .before .before .before .before .before .before .args .a in
+    let start = c .before .before .before .before .before .before .before .before in
+    let w = now (start .args .w) in
+    let a = start .args .a in
     record {
       safe = c .closed .ensures .safe;
       found = λ k q rest e f.
           let g = less k w (c .before .before .before .cut-value .result) e (c .before .before .before .cut-value .ensures) (c .before .before .if2 .left) in
-          inr (omega (arith, g, c .before .before .if2 .left), subst (λ m. Judges (now (c .before .before .before .before .before .before .before .before .args .s)) m (c .before .before .before .before .before .before .before .before .args .p) rest (c .closed .result)) (c .before .raise .ensures ∙ ap (powM a) g) (c .closed .ensures .found q rest f));
+          inr (omega (arith, g, c .before .before .if2 .left), subst (λ m. Judges (now (start .args .s)) m (start .args .p) rest (c .closed .result)) (c .before .raise .ensures ∙ ap (powM a) g) (c .closed .ensures .found q rest f));
     }
 
 pub powered-spec : {M : Type 1} → statement M

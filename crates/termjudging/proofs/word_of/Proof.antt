@@ -19,7 +19,9 @@ judge-requires : tie.Need-judge-requires
 judge-requires c κs = search needs
 
 returns : tie.Need-returns
-returns c = c .judge .ensures ∙ ap (λ v. judged (of v 1 0 0 0 0) (c .before .before .before .before .before .before .args .p) (c .before .before .before .before .before .before .args .reader)) (c .before .magnitude .ensures) ∙ sym (pick-yes _ _ (sym (c .before .before .before .is-integer .ensures) ∙ c .before .before .if1 .taken))
+returns c =
+    let start = c .before .before .before .before .before .before in
+    c .judge .ensures ∙ ap (λ v. judged (of v 1 0 0 0 0) (start .args .p) (start .args .reader)) (c .before .magnitude .ensures) ∙ sym (pick-yes _ _ (sym (c .before .before .before .is-integer .ensures) ∙ c .before .before .if1 .taken))
 
 returns-2 : tie.Need-returns-2
 returns-2 c = sym (pick-no _ _ (sym (c .before .before .is-integer .ensures) ∙ c .before .if1 .left) ∙ pick-no _ _ (ne-eqb _ _ (c .if2 .taken)))
@@ -44,9 +46,14 @@ one-if-requires-4 c κs = search needs
 
 returns-3 : tie.Need-returns-3
 returns-3 c =
-    (λ i. Done (of 1 1 (c .before .before .before .one-if .ensures i) (c .before .before .one-if2 .ensures i) (c .before .one-if3 .ensures i) (c .one-if4 .ensures i)) (c .before .before .before .before .before .before .before .before .before .before .before .args .reader))
-    ∙ ap (λ k. Done (letterM k) (c .before .before .before .before .before .before .before .before .before .before .before .args .reader)) (c .before .before .before .before .index-in .ensures)
-    ∙ sym (pick-no _ _ (sym (c .before .before .before .before .before .before .before .before .is-integer .ensures) ∙ c .before .before .before .before .before .before .before .if1 .left) ∙ pick-yes _ _ (eq-eqb _ _ (c .before .before .before .before .before .before .if2 .left)))
+    let index-in = c .before .before .before .before .index-in in
+    let if2 = c .before .before .before .before .before .before .if2 in
+    let if1 = c .before .before .before .before .before .before .before .if1 in
+    let is-integer = c .before .before .before .before .before .before .before .before .is-integer in
+    let start = c .before .before .before .before .before .before .before .before .before .before .before in
+    (λ i. Done (of 1 1 (c .before .before .before .one-if .ensures i) (c .before .before .one-if2 .ensures i) (c .before .one-if3 .ensures i) (c .one-if4 .ensures i)) (start .args .reader))
+    ∙ ap (λ k. Done (letterM k) (start .args .reader)) (index-in .ensures)
+    ∙ sym (pick-no _ _ (sym (is-integer .ensures) ∙ if1 .left) ∙ pick-yes _ _ (eq-eqb _ _ (if2 .left)))
 
 pub word-of-spec : {M : Type 1} → statement M
 word-of-spec =

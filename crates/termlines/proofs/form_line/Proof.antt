@@ -30,7 +30,8 @@ tables s = length (now (s .args .a)) ∷ length (now (s .args .b)) ∷ length (n
 -- the call's text behind the first 5 bytes, and the line of its answer
 line-is : tie.Need-returns-2
 line-is c =
-    let call = c .before .before .before .before .before .before .before .before .before .before .before .before .before .before in
+    let before = c .before .before .before .before .before .before .before .before .before .before .before .before .before .before in
+    let call = before in
     let start = call .before .before .before .before .before .before .before .before .before .before .before .before .before .before .before .before in
     one-text (now (start .args .line)) (start .pre) (call .before .before .before .before .before .before .before .before .before .count .ensures) (call .before .before .before .before .before .before .before .field .ensures) (call .before .before .before .before .before .before .field2 .ensures)
     (λ u v. formReply u (tables start) v) (within-form (tables start)) (call .before .before .before .before .before .before .before .before .if1 .left)
@@ -46,7 +47,11 @@ same-length : tie.Need-same-length
 same-length c = c .before .before .miscounted .kept .1 .1 .0
 
 returns : tie.Need-returns
-returns c = wrote-as (c .before .before .miscounted .ensures) (counted-not 3 (now (c .before .before .before .before .before .before .before .before .before .before .before .before .args .line)) _ (c .before .before .before .before .before .count .ensures) (c .before .before .before .before .if1 .taken))
+returns c =
+    let if1 = c .before .before .before .before .if1 in
+    let count = c .before .before .before .before .before .count in
+    let start = c .before .before .before .before .before .before .before .before .before .before .before .before in
+    wrote-as (c .before .before .miscounted .ensures) (counted-not 3 (now (start .args .line)) _ (count .ensures) (if1 .taken))
 
 field-requires : tie.Need-field-requires
 field-requires c κs = tt
@@ -86,10 +91,14 @@ same-length-4 : tie.Need-same-length-4
 same-length-4 c = c .before .before .before .before .before .before .before .before .before .before .before .before .before .before .form .kept .1 .1 .1 .1 .0
 
 same-length-5 : tie.Need-same-length-5
-same-length-5 c = c .before .before .before .before .before .before .before .before .before .before .before .before .before .before .form .kept .1 .1 .1 .1 .1 .0
+same-length-5 c =
+    let form = c .before .before .before .before .before .before .before .before .before .before .before .before .before .before .form in
+    form .kept .1 .1 .1 .1 .1 .0
 
 same-length-6 : tie.Need-same-length-6
-same-length-6 c = c .before .before .before .before .before .before .before .before .before .before .before .before .before .before .form .kept .1 .1 .1 .1 .1 .1 .0
+same-length-6 c =
+    let form = c .before .before .before .before .before .before .before .before .before .before .before .before .before .before .form in
+    form .kept .1 .1 .1 .1 .1 .1 .0
 
 returns-2 : tie.Need-returns-2
 returns-2 c = line-is c

@@ -16,7 +16,9 @@ use Rattle.termjudging.proofs.accept_term.Reads as accept-term-reads
 
 -- src/lib.rt:109:9
 accept-term-requires : tie.Need-accept-term-requires
-accept-term-requires c κs = row-length (now (c .before .before .before .before .before .before .args .row)) (c .before .before .before .before .before .before .pre .0) .1
+accept-term-requires c κs =
+    let start = c .before .before .before .before .before .before in
+    row-length (now (start .args .row)) (start .pre .0) .1
 
 -- src/lib.rt:111:25
 enum-known-reading : tie.Need-enum-known-reading
@@ -32,7 +34,9 @@ slice-relend-prefix-build-term c = search needs
 
 -- src/lib.rt:116:17
 slice-aggregate-build-term : tie.Need-slice-aggregate-build-term
-slice-aggregate-build-term c = sym (length-take-le 16384 (c .before .before .before .before .before .before .before .before .before .before .args .a .now) (c .before .before .before .before .before .before .before .before .before .before .pre .1 .first))
+slice-aggregate-build-term c =
+    let start = c .before .before .before .before .before .before .before .before .before .before in
+    sym (length-take-le 16384 (start .args .a .now) (start .pre .1 .first))
 
 -- src/lib.rt:117:17
 slice-relend-prefix-build-term-2 : tie.Need-slice-relend-prefix-build-term-2
@@ -40,7 +44,9 @@ slice-relend-prefix-build-term-2 c = search needs
 
 -- src/lib.rt:117:17
 slice-aggregate-build-term-2 : tie.Need-slice-aggregate-build-term-2
-slice-aggregate-build-term-2 c = sym (length-take-le 16384 (c .before .before .before .before .before .before .before .before .before .before .before .args .b .now) (c .before .before .before .before .before .before .before .before .before .before .before .pre .1 .second))
+slice-aggregate-build-term-2 c =
+    let start = c .before .before .before .before .before .before .before .before .before .before .before in
+    sym (length-take-le 16384 (start .args .b .now) (start .pre .1 .second))
 
 -- src/lib.rt:118:17
 slice-relend-prefix-build-term-3 : tie.Need-slice-relend-prefix-build-term-3
@@ -48,7 +54,9 @@ slice-relend-prefix-build-term-3 c = search needs
 
 -- src/lib.rt:118:17
 slice-aggregate-build-term-3 : tie.Need-slice-aggregate-build-term-3
-slice-aggregate-build-term-3 c = sym (length-take-le 16384 (c .before .before .before .before .before .before .before .before .before .before .before .before .args .c .now) (c .before .before .before .before .before .before .before .before .before .before .before .before .pre .1 .third))
+slice-aggregate-build-term-3 c =
+    let start = c .before .before .before .before .before .before .before .before .before .before .before .before in
+    sym (length-take-le 16384 (start .args .c .now) (start .pre .1 .third))
 
 -- src/lib.rt:119:17
 slice-relend-prefix-build-term-4 : tie.Need-slice-relend-prefix-build-term-4
@@ -56,11 +64,17 @@ slice-relend-prefix-build-term-4 c = search needs
 
 -- src/lib.rt:119:17
 slice-aggregate-build-term-4 : tie.Need-slice-aggregate-build-term-4
-slice-aggregate-build-term-4 c = sym (length-take-le 6146 (c .before .before .before .before .before .before .before .before .before .before .before .before .before .args .d .now) (c .before .before .before .before .before .before .before .before .before .before .before .before .before .pre .1 .fourth))
+slice-aggregate-build-term-4 c =
+    let start = c .before .before .before .before .before .before .before .before .before .before .before .before .before in
+    sym (length-take-le 6146 (start .args .d .now) (start .pre .1 .fourth))
 
 -- src/lib.rt:113:17
 build-term-requires : tie.Need-build-term-requires
-build-term-requires c κs = (accepted-given _ _ (c .before .before .before .before .before .before .before .before .before .before .before .before .before .pre .0) (sym (c .before .before .before .before .before .before .accept-term .ensures) ∙ c .before .before .before .before .enum-told .given .1), long-lent (length-take-le 16384 (c .before .before .before .before .before .before .before .before .before .before .before .before .before .args .a .now) (c .before .before .before .before .before .before .before .before .before .before .before .before .before .pre .1 .first)) (length-take-le 16384 (c .before .before .before .before .before .before .before .before .before .before .before .before .before .args .b .now) (c .before .before .before .before .before .before .before .before .before .before .before .before .before .pre .1 .second)) (length-take-le 16384 (c .before .before .before .before .before .before .before .before .before .before .before .before .before .args .c .now) (c .before .before .before .before .before .before .before .before .before .before .before .before .before .pre .1 .third)) (length-take-le 6146 (c .before .before .before .before .before .before .before .before .before .before .before .before .before .args .d .now) (c .before .before .before .before .before .before .before .before .before .before .before .before .before .pre .1 .fourth)))
+build-term-requires c κs =
+    let at-enum-told = c .before .before .before .before .enum-told in
+    let accept-term = c .before .before .before .before .before .before .accept-term in
+    let start = c .before .before .before .before .before .before .before .before .before .before .before .before .before in
+    (accepted-given _ _ (start .pre .0) (sym (accept-term .ensures) ∙ at-enum-told .given .1), long-lent (length-take-le 16384 (start .args .a .now) (start .pre .1 .first)) (length-take-le 16384 (start .args .b .now) (start .pre .1 .second)) (length-take-le 16384 (start .args .c .now) (start .pre .1 .third)) (length-take-le 6146 (start .args .d .now) (start .pre .1 .fourth)))
 
 -- src/lib.rt:97:1
 returns : tie.Need-returns
@@ -84,7 +98,12 @@ same-length-4 c = search needs
 
 -- src/lib.rt:97:1
 returns-2 : tie.Need-returns-2
-returns-2 c = built (c .before .before .before .before .before .before .before .before .build-term .last .1 .1 .0) (drop 16384 (c .before .before .before .before .before .before .before .before .before .before .before .before .before .before .before .before .before .before .before .before .before .before .args .a .now)) (c .before .before .before .before .before .before .before .before .before .before .before .before .before .before .before .before .before .before .before .before .before .before .pre .0) (sym (c .before .before .before .before .before .before .before .before .before .before .before .before .before .before .before .accept-term .ensures) ∙ c .before .before .before .before .before .before .before .before .before .before .before .before .before .enum-told .given .1) (c .before .before .before .before .before .before .before .before .build-term .ensures)
+returns-2 c =
+    let build-term = c .before .before .before .before .before .before .before .before .build-term in
+    let at-enum-told = c .before .before .before .before .before .before .before .before .before .before .before .before .before .enum-told in
+    let accept-term = c .before .before .before .before .before .before .before .before .before .before .before .before .before .before .before .accept-term in
+    let start = c .before .before .before .before .before .before .before .before .before .before .before .before .before .before .before .before .before .before .before .before .before .before in
+    built (build-term .last .1 .1 .0) (drop 16384 (start .args .a .now)) (start .pre .0) (sym (accept-term .ensures) ∙ at-enum-told .given .1) (build-term .ensures)
 
 pub read-term-spec : {M : Type 1} → statement M
 read-term-spec =

@@ -41,13 +41,15 @@ returns-3 c =
 
 returns-4 : tie.Need-returns-4
 returns-4 c =
-    let a = c .before .before .before .before .args in
+    let start = c .before .before .before .before in
+    let a = start .args in
     fails-4 _ _ _ _ (eq-eqb (a .a) 69 (c .before .before .before .if1 .left)) (eq-eqb (a .b) 88 (c .before .before .if2 .left)) (eq-eqb (a .c) 80 (c .before .if3 .left))
     (ne-eqb (a .d) 84 (c .if4 .taken))
 
 returns-5 : tie.Need-returns-5
 returns-5 c =
-    let a = c .before .before .before .before .args in
+    let start = c .before .before .before .before in
+    let a = start .args in
     holds _ _ _ _ (eq-eqb (a .a) 69 (c .before .before .before .if1 .left)) (eq-eqb (a .b) 88 (c .before .before .if2 .left)) (eq-eqb (a .c) 80 (c .before .if3 .left))
     (eq-eqb (a .d) 84 (c .if4 .left))
 

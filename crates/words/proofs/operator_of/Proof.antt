@@ -59,12 +59,16 @@ returns-2 c = minus (now (c .before .before .before .before .before .args .w)) (
 
 returns-3 : tie.Need-returns-3
 returns-3 c =
-    times (now (c .before .before .before .before .before .before .args .w)) (c .before .before .before .before .if1 .taken) (c .before .before .if2 .left) (c .before .if3 .left)
+    let if1 = c .before .before .before .before .if1 in
+    let start = c .before .before .before .before .before .before in
+    times (now (start .args .w)) (if1 .taken) (c .before .before .if2 .left) (c .before .if3 .left)
     (c .if4 .taken)
 
 returns-4 : tie.Need-returns-4
 returns-4 c =
-    other (now (c .before .before .before .before .before .before .args .w)) (c .before .before .before .before .if1 .taken) (c .before .before .if2 .left) (c .before .if3 .left)
+    let if1 = c .before .before .before .before .if1 in
+    let start = c .before .before .before .before .before .before in
+    other (now (start .args .w)) (if1 .taken) (c .before .before .if2 .left) (c .before .if3 .left)
     (c .if4 .left)
 
 shared-slice-read-expt-of : tie.Need-shared-slice-read-expt-of

@@ -48,7 +48,9 @@ abbrev After-text-length·text-length : ℕ → Type 0
 After-text-length·text-length t = text-length-lts.After-text-length (leaf-length-reads.Asked, leaf-length-reads.Learnt, digits-of-reads.Asked, digits-of-reads.Learnt, text-length-below t, text-length.Post) (text-length-at t) text-length.Post
 
 pop-total : (t : ℕ) (c : After-text-length·text-length t) → 6 + c .before .before .before .digits-of .result + c .text-length .result + 1 ≡ length (textOf (dec 0 (c .before .before .before .before .before .before .before .args .x .now)))
-pop-total t c = omega (arith, pop-length (is-pop t (c .before .before)), head-length 80 (getD (c .before .before .before .before .before .before .before .args .x .now) 0 0 % 64), c .before .before .before .digits-of .ensures, c .text-length .ensures)
+pop-total t c =
+    let start = c .before .before .before .before .before .before .before in
+    omega (arith, pop-length (is-pop t (c .before .before)), head-length 80 (getD (start .args .x .now) 0 0 % 64), c .before .before .before .digits-of .ensures, c .text-length .ensures)
 
 abbrev After-text-length3·text-length : ℕ → Type 0
 After-text-length3·text-length t = text-length-lts.After-text-length3 (leaf-length-reads.Asked, leaf-length-reads.Learnt, digits-of-reads.Asked, digits-of-reads.Learnt, text-length-below t, text-length.Post) (text-length-at t) text-length.Post
@@ -56,7 +58,9 @@ After-text-length3·text-length t = text-length-lts.After-text-length3 (leaf-len
 pow-total : (t : ℕ) (c : After-text-length3·text-length t) →
     6 + c .before .before .before .before .before .digits-of .result + c .before .before .text-length2 .result + 1 + c .text-length3 .result + 1 ≡ length (textOf (dec 0 (c .before .before .before .before .before .before .before .before .before .args .x .now)))
 pow-total t c =
-    omega (arith, pow-length (is-pow t (c .before .before .before .before)), head-length 87 (getD (c .before .before .before .before .before .before .before .before .before .args .x .now) 0 0 % 64), c .before .before .before .before .before .digits-of .ensures, c .before .before .text-length2 .ensures, c .text-length3 .ensures)
+    let digits-of = c .before .before .before .before .before .digits-of in
+    let start = c .before .before .before .before .before .before .before .before .before in
+    omega (arith, pow-length (is-pow t (c .before .before .before .before)), head-length 87 (getD (start .args .x .now) 0 0 % 64), digits-of .ensures, c .before .before .text-length2 .ensures, c .text-length3 .ensures)
 
 pub +text-length-spec : {M : Type 1} → statement M
 +text-length-spec = close μ-text-length λ t.

@@ -39,24 +39,33 @@ write-number-requires c κs =
     omega (arith, c .before .before .pre, l, wrote-room (wrote-five (c .before .before .args .c) (c .before .before .args .out .now) (omega (arith, c .before .before .pre, l))))
 
 add-e : tie.Need-add-e
-add-e c = omega (arith, c .before .before .before .before .before .pre, c .before .before .before .before .before .good, head-length (c .before .before .before .before .before .args .c) (c .before .before .before .before .before .args .i), c .before .before .write-number .ensures .size)
+add-e c =
+    let start = c .before .before .before .before .before in
+    let good = c .before .before .before .before .before .good in
+    omega (arith, start .pre, good, head-length (start .args .c) (start .args .i), c .before .before .write-number .ensures .size)
 
 slice-write-out-6 : tie.Need-slice-write-out-6
 slice-write-out-6 c =
-    let l = head-length (c .before .before .before .before .before .args .c) (c .before .before .before .before .before .args .i) in
-    let f = wrote-five (c .before .before .before .before .before .args .c) (c .before .before .before .before .before .args .out .now) (omega (arith, c .before .before .before .before .before .pre, l)) in
-    omega (arith, c .before .before .before .before .before .pre, l, c .before .before .write-number .ensures .size, wrote-length (wrote-on f (c .before .before .write-number .ensures)))
+    let start = c .before .before .before .before .before in
+    let l = head-length (start .args .c) (start .args .i) in
+    let f = wrote-five (start .args .c) (start .args .out .now) (omega (arith, start .pre, l)) in
+    omega (arith, start .pre, l, c .before .before .write-number .ensures .size, wrote-length (wrote-on f (c .before .before .write-number .ensures)))
 
 add-result : tie.Need-add-result
-add-result c = omega (arith, c .before .before .before .before .before .pre, c .before .before .before .before .before .good, head-length (c .before .before .before .before .before .args .c) (c .before .before .before .before .before .args .i), c .before .before .write-number .ensures .size)
+add-result c =
+    let start = c .before .before .before .before .before in
+    let good = c .before .before .before .before .before .good in
+    omega (arith, start .pre, good, head-length (start .args .c) (start .args .i), c .before .before .write-number .ensures .size)
 
 same-length : tie.Need-same-length
 same-length c =
-    wrote-length (wrote-head (c .before .before .before .before .before .args .c) (c .before .before .before .before .before .args .i) (c .before .before .before .before .before .args .out .now) (c .before .before .write-number .last .1 .0) (omega (arith, c .before .before .before .before .before .pre, head-length (c .before .before .before .before .before .args .c) (c .before .before .before .before .before .args .i), c .before .before .write-number .ensures .size)) (c .before .before .write-number .ensures))
+    let start = c .before .before .before .before .before in
+    wrote-length (wrote-head (start .args .c) (start .args .i) (start .args .out .now) (c .before .before .write-number .last .1 .0) (omega (arith, start .pre, head-length (start .args .c) (start .args .i), c .before .before .write-number .ensures .size)) (c .before .before .write-number .ensures))
 
 returns : tie.Need-returns
 returns c =
-    wrote-head (c .before .before .before .before .before .args .c) (c .before .before .before .before .before .args .i) (c .before .before .before .before .before .args .out .now) (c .before .before .write-number .last .1 .0) (omega (arith, c .before .before .before .before .before .pre, head-length (c .before .before .before .before .before .args .c) (c .before .before .before .before .before .args .i), c .before .before .write-number .ensures .size)) (c .before .before .write-number .ensures)
+    let start = c .before .before .before .before .before in
+    wrote-head (start .args .c) (start .args .i) (start .args .out .now) (c .before .before .write-number .last .1 .0) (omega (arith, start .pre, head-length (start .args .c) (start .args .i), c .before .before .write-number .ensures .size)) (c .before .before .write-number .ensures)
 
 pub write-head-spec : {M : Type 1} → statement M
 write-head-spec =

@@ -17,7 +17,10 @@ same-length : tie.Need-same-length
 same-length c = search needs
 
 returns : tie.Need-returns
-returns c = wrote-as (c .before .before .write-number .ensures) (leaf-plain (c .before .before .before .before .before .before .args .x) (c .before .before .before .before .if1 .taken))
+returns c =
+    let if1 = c .before .before .before .before .if1 in
+    let start = c .before .before .before .before .before .before in
+    wrote-as (c .before .before .write-number .ensures) (leaf-plain (start .args .x) (if1 .taken))
 
 slice-write-out : tie.Need-slice-write-out
 slice-write-out c = omega (arith, leaf-length-minus (c .before .before .args .x) (c .if1 .left) (c .before .before .pre .0), c .before .before .pre .1)
@@ -43,15 +46,21 @@ write-number-requires-2 c κs =
     omega (arith, l, c .before .before .before .pre .1, wrote-room (wrote-byte (wrote-none (c .before .before .before .args .out .now)) 45 (omega (arith, l, c .before .before .before .pre .1))))
 
 add-result : tie.Need-add-result
-add-result c = omega (arith, c .before .before .write-number2 .ensures .size, leaf-length-minus (c .before .before .before .before .before .before .args .x) (c .before .before .before .before .if1 .left) (c .before .before .before .before .before .before .pre .0), c .before .before .before .before .before .before .pre .1, c .before .before .before .before .before .before .good)
+add-result c =
+    let if1 = c .before .before .before .before .if1 in
+    let start = c .before .before .before .before .before .before in
+    let good = c .before .before .before .before .before .before .good in
+    omega (arith, c .before .before .write-number2 .ensures .size, leaf-length-minus (start .args .x) (if1 .left) (start .pre .0), start .pre .1, good)
 
 same-length-2 : tie.Need-same-length-2
 same-length-2 c = c .before .out2 .given .1 ∙ length-set (c .before .before .before .before .before .before .args .out .now) 0 45
 
 returns-2 : tie.Need-returns-2
 returns-2 c =
-    let l = leaf-length-minus (c .before .before .before .before .before .before .args .x) (c .before .before .before .before .if1 .left) (c .before .before .before .before .before .before .pre .0) in
-    wrote-as (wrote-on (wrote-byte (wrote-none (c .before .before .before .before .before .before .args .out .now)) 45 (omega (arith, l, c .before .before .before .before .before .before .pre .1))) (c .before .before .write-number2 .ensures)) (leaf-minus (c .before .before .before .before .before .before .args .x) (c .before .before .before .before .if1 .left) (c .before .before .before .before .before .before .pre .0))
+    let if1 = c .before .before .before .before .if1 in
+    let start = c .before .before .before .before .before .before in
+    let l = leaf-length-minus (start .args .x) (if1 .left) (start .pre .0) in
+    wrote-as (wrote-on (wrote-byte (wrote-none (start .args .out .now)) 45 (omega (arith, l, start .pre .1))) (c .before .before .write-number2 .ensures)) (leaf-minus (start .args .x) (if1 .left) (start .pre .0))
 
 pub write-leaf-spec : {M : Type 1} → statement M
 write-leaf-spec =
