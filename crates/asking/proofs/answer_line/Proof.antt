@@ -18,9 +18,8 @@ tables s = length (now (s .args .a)) ∷ length (now (s .args .b)) ∷ length (n
 
 returns : tie.Need-returns
 returns c =
-    let before = c .before .before .before .before .before .before .before in
     let start = c .before .before .before .before .before .before .before in
-    answer-none (tables (before)) (now (start .args .line)) (now (start .args .out)) (c .if1 .taken)
+    answer-none (tables start) (now (start .args .line)) (now (start .args .out)) (c .if1 .taken)
 
 word-line-requires : tie.Need-word-line-requires
 word-line-requires c κs = c .before .before .before .before .before .if1 .left
@@ -44,9 +43,8 @@ returns-2 : tie.Need-returns-2
 returns-2 c =
     let word-line = c .before .before .before .before .before .before .before .before .before .before .word-line in
     let if1 = c .before .before .before .before .before .before .before .before .before .before .before .before .before .before .before .before .if1 in
-    let before = c .before .before .before .before .before .before .before .before .before .before .before .before .before .before .before .before .before .before .before .before .before .before .before in
     let start = c .before .before .before .before .before .before .before .before .before .before .before .before .before .before .before .before .before .before .before .before .before .before .before in
-    answer-some (tables (before)) (now (start .args .line)) (if1 .left) (word-line .ensures)
+    answer-some (tables start) (now (start .args .line)) (if1 .left) (word-line .ensures)
 
 pub answer-line-spec : {M : Type 1} → statement M
 answer-line-spec =

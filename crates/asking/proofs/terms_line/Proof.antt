@@ -56,8 +56,8 @@ returns c =
     let if1 = c .before .before .before .before .before .before .before .before .before .before .before .before .before .before .before .before .if1 in
     let same = c .before .before .before .before .before .before .before .before .before .before .before .before .before .before .before .before .before .same in
     let field = c .before .before .before .before .before .before .before .before .before .before .before .before .before .before .before .before .before .before .before .field in
-    let before = c .before .before .before .before .before .before .before .before .before .before .before .before .before .before .before .before .before .before .before .before .before .before .before .before .before .before in
-    let start = before in
+    let earlier = c .before .before .before .before .before .before .before .before .before .before .before .before .before .before .before .before .before .before .before .before .before .before .before .before .before .before in
+    let start = earlier in
     form-word (tables start) (now (start .args .line)) (field .ensures)
     (same .ensures) (if1 .taken) (form-line .ensures)
 
@@ -95,8 +95,8 @@ returns-2 c =
     let if1 = c .before .before .before .before .before .before .before .before .before .before .before .before .before .before .before .before .before .before .before .if1 in
     let same = c .before .before .before .before .before .before .before .before .before .before .before .before .before .before .before .before .before .before .before .before .same in
     let field = c .before .before .before .before .before .before .before .before .before .before .before .before .before .before .before .before .before .before .before .before .before .before .field in
-    let before = c .before .before .before .before .before .before .before .before .before .before .before .before .before .before .before .before .before .before .before .before .before .before .before .before .before .before .before .before .before in
-    let start = before in
+    let earlier = c .before .before .before .before .before .before .before .before .before .before .before .before .before .before .before .before .before .before .before .before .before .before .before .before .before .before .before .before .before in
+    let start = earlier in
     remainder-word (tables start) (now (start .args .line)) (field .ensures)
     (same .ensures) (if1 .left)
     (same2 .ensures) (if2 .taken) (remainder-line .ensures)
@@ -137,8 +137,8 @@ returns-3 c =
     let if1 = c .before .before .before .before .before .before .before .before .before .before .before .before .before .before .before .before .before .before .before .before .before .before .if1 in
     let same = c .before .before .before .before .before .before .before .before .before .before .before .before .before .before .before .before .before .before .before .before .before .before .before .same in
     let field = c .before .before .before .before .before .before .before .before .before .before .before .before .before .before .before .before .before .before .before .before .before .before .before .before .before .field in
-    let before = c .before .before .before .before .before .before .before .before .before .before .before .before .before .before .before .before .before .before .before .before .before .before .before .before .before .before .before .before .before .before .before .before in
-    let start = before in
+    let earlier = c .before .before .before .before .before .before .before .before .before .before .before .before .before .before .before .before .before .before .before .before .before .before .before .before .before .before .before .before .before .before .before .before in
+    let start = earlier in
     compare-word (tables start) (now (start .args .line)) (field .ensures)
     (same .ensures) (if1 .left)
     (same2 .ensures) (if2 .left)
@@ -182,8 +182,8 @@ returns-4 c =
     let if1 = c .before .before .before .before .before .before .before .before .before .before .before .before .before .before .before .before .before .before .before .before .before .before .before .before .before .if1 in
     let same = c .before .before .before .before .before .before .before .before .before .before .before .before .before .before .before .before .before .before .before .before .before .before .before .before .before .before .same in
     let field = c .before .before .before .before .before .before .before .before .before .before .before .before .before .before .before .before .before .before .before .before .before .before .before .before .before .before .before .before .field in
-    let before = c .before .before .before .before .before .before .before .before .before .before .before .before .before .before .before .before .before .before .before .before .before .before .before .before .before .before .before .before .before .before .before .before .before .before .before in
-    let start = before in
+    let earlier = c .before .before .before .before .before .before .before .before .before .before .before .before .before .before .before .before .before .before .before .before .before .before .before .before .before .before .before .before .before .before .before .before .before .before .before in
+    let start = earlier in
     counters-word (tables start) (now (start .args .line)) (field .ensures)
     (same .ensures) (if1 .left)
     (same2 .ensures) (if2 .left)
@@ -209,8 +209,8 @@ returns-5 c =
     let if1 = c .before .before .before .before .before .before .before .before .before .before .before .before .before .if1 in
     let same = c .before .before .before .before .before .before .before .before .before .before .before .before .before .before .same in
     let field = c .before .before .before .before .before .before .before .before .before .before .before .before .before .before .before .before .field in
-    let before = c .before .before .before .before .before .before .before .before .before .before .before .before .before .before .before .before .before .before .before .before .before .before .before in
-    let start = before in
+    let earlier = c .before .before .before .before .before .before .before .before .before .before .before .before .before .before .before .before .before .before .before .before .before .before .before in
+    let start = earlier in
     no-term-word (tables start) (now (start .args .line)) (field .ensures)
     (same .ensures) (if1 .left)
     (same2 .ensures) (if2 .left)

@@ -46,86 +46,86 @@ abbrev claims : ℕ → build-lts.Claims
 claims t = (head-of-reads.Asked, head-of-reads.Learnt, leaf-form-reads.Asked, leaf-form-reads.Learnt, zero-power-reads.Asked, zero-power-reads.Learnt, build-below t, build.Post, exponent-at-reads.Asked, exponent-at-reads.Learnt, raise-reads.Asked, raise-reads.Learnt, past-reads.Asked, past-reads.Learnt, negate-front-reads.Asked, negate-front-reads.Learnt, combine-reads.Asked, combine-reads.Learnt)
 
 -- what the first tokens say of the term
-head-is : (t : ℕ) (c : build-lts.After-head-of (claims t) (build-at t) build.Post) → HeadIs (now ((c .before .before .before .before .before .before .before) .args .s)) ((c .before .before .before .before .before .before .before) .args .at) ((c .head-of) .result .kind) ((c .head-of) .result .from) ((c .head-of) .result .next) ((c .before .before .before .before .before .before .before) .pre .1 .x) ((c .before .before .before .before .before .before .before) .pre .1 .rest)
-head-is t c = head ((c .before .before .before .before .before .before .before) .pre .1) ((c .head-of) .ensures)
+head-is : (t : ℕ) (c : build-lts.After-head-of (claims t) (build-at t) build.Post) → HeadIs (now (c .before .before .before .before .before .before .before .args .s)) (c .before .before .before .before .before .before .before .args .at) (c .head-of .result .kind) (c .head-of .result .from) (c .head-of .result .next) (c .before .before .before .before .before .before .before .pre .1 .x) (c .before .before .before .before .before .before .before .pre .1 .rest)
+head-is t c = head (c .before .before .before .before .before .before .before .pre .1) (c .head-of .ensures)
 
-node : (t : ℕ) (c : build-lts.Else1 (claims t) (build-at t) build.Post) → kindOf ((c .before .before .before .before .before .before .before .before) .pre .1 .x) ≡ 0 → ⊥
+node : (t : ℕ) (c : build-lts.Else1 (claims t) (build-at t) build.Post) → kindOf (c .before .before .before .before .before .before .before .before .pre .1 .x) ≡ 0 → ⊥
 node t c = λ q. (c .if1 .left) ((head-is t (c .before)) .is-kind ∙ q)
 
 -- the first operand, and what is built of it
-first : (t : ℕ) (c : build-lts.After-zero-power (claims t) (build-at t) build.Post) → Stands (now ((c .before .before .before .before .before .before .before .before .before) .args .row)) (now ((c .before .before .before .before .before .before .before .before .before) .args .s)) ((c .before .before .head-of) .result .next) (firstOf ((c .before .before .before .before .before .before .before .before .before) .pre .1 .x)) (tailOf ((c .before .before .before .before .before .before .before .before .before) .pre .1 .x) ++ ((c .before .before .before .before .before .before .before .before .before) .pre .1 .rest))
+first : (t : ℕ) (c : build-lts.After-zero-power (claims t) (build-at t) build.Post) → Stands (now (c .before .before .before .before .before .before .before .before .before .args .row)) (now (c .before .before .before .before .before .before .before .before .before .args .s)) (c .before .before .head-of .result .next) (firstOf (c .before .before .before .before .before .before .before .before .before .pre .1 .x)) (tailOf (c .before .before .before .before .before .before .before .before .before .pre .1 .x) ++ (c .before .before .before .before .before .before .before .before .before .pre .1 .rest))
 first t c =
-    let before = c .before .before .before .before .before .before .before .before .before in
-    first-of ((before) .pre .1) ((c .before .before .head-of) .ensures) (c .before .if1 .left) (c .zero-power .ensures)
+    let start = c .before .before .before .before .before .before .before .before .before in
+    first-of (start .pre .1) (c .before .before .head-of .ensures) (c .before .if1 .left) (c .zero-power .ensures)
 
-done : (t : ℕ) (c : build-lts.After-build (claims t) (build-at t) build.Post) → Done (now ((c .before .before .before .before .before .before .before .before .before .before .before .before .before .before .before) .args .row)) (now ((c .before .before .before .before .before .before .before .before .before .before .before .before .before .before .before) .args .s)) ((c .before .before .before .before .before .before .before .before .head-of) .result .next) ((c .build) .result .words) ((c .build) .result .next) ((c .build) .last .1 .1 .1 .0) (firstOf ((c .before .before .before .before .before .before .before .before .before .before .before .before .before .before .before) .pre .1 .x)) (tailOf ((c .before .before .before .before .before .before .before .before .before .before .before .before .before .before .before) .pre .1 .x) ++ ((c .before .before .before .before .before .before .before .before .before .before .before .before .before .before .before) .pre .1 .rest))
+done : (t : ℕ) (c : build-lts.After-build (claims t) (build-at t) build.Post) → Done (now (c .before .before .before .before .before .before .before .before .before .before .before .before .before .before .before .args .row)) (now (c .before .before .before .before .before .before .before .before .before .before .before .before .before .before .before .args .s)) (c .before .before .before .before .before .before .before .before .head-of .result .next) (c .build .result .words) (c .build .result .next) (c .build .last .1 .1 .1 .0) (firstOf (c .before .before .before .before .before .before .before .before .before .before .before .before .before .before .before .pre .1 .x)) (tailOf (c .before .before .before .before .before .before .before .before .before .before .before .before .before .before .before .pre .1 .x) ++ (c .before .before .before .before .before .before .before .before .before .before .before .before .before .before .before .pre .1 .rest))
 done t c =
-    let at-before = c .before .before .before .before .before .before in
-    let before = c .before .before .before .before .before .before .before .before .before .before .before .before .before .before .before in
-    (c .build) .ensures (firstOf ((before) .pre .1 .x)) (tailOf ((before) .pre .1 .x) ++ ((before) .pre .1 .rest)) (first t (at-before))
+    let earlier = c .before .before .before .before .before .before in
+    let start = c .before .before .before .before .before .before .before .before .before .before .before .before .before .before .before in
+    (c .build) .ensures (firstOf (start .pre .1 .x)) (tailOf (start .pre .1 .x) ++ (start .pre .1 .rest)) (first t earlier)
 
 -- by the operator
-is-power : (t : ℕ) (c : build-lts.Then3 (claims t) (build-at t) build.Post) → kindOf ((c .before .before .before .before .before .before .before .before .before .before .before .before .before .before .before .before .before .before .before .before .before .before .before .before) .pre .1 .x) ≡ 4
+is-power : (t : ℕ) (c : build-lts.Then3 (claims t) (build-at t) build.Post) → kindOf (c .before .before .before .before .before .before .before .before .before .before .before .before .before .before .before .before .before .before .before .before .before .before .before .before .pre .1 .x) ≡ 4
 is-power t c =
-    let before = c .before .before .before .before .before .before .before .before .before .before .before .before .before .before .before .before .before in
-    sym ((head-is t (before)) .is-kind) ∙ c .if3 .taken
+    let earlier = c .before .before .before .before .before .before .before .before .before .before .before .before .before .before .before .before .before in
+    sym ((head-is t earlier) .is-kind) ∙ c .if3 .taken
 
-not-power : (t : ℕ) (c : build-lts.Else3 (claims t) (build-at t) build.Post) → kindOf ((c .before .before .before .before .before .before .before .before .before .before .before .before .before .before .before .before .before .before .before .before .before .before .before .before) .pre .1 .x) ≡ 4 → ⊥
+not-power : (t : ℕ) (c : build-lts.Else3 (claims t) (build-at t) build.Post) → kindOf (c .before .before .before .before .before .before .before .before .before .before .before .before .before .before .before .before .before .before .before .before .before .before .before .before .pre .1 .x) ≡ 4 → ⊥
 not-power t c =
-    let before = c .before .before .before .before .before .before .before .before .before .before .before .before .before .before .before .before .before in
-    λ q. c .if3 .left ((head-is t (before)) .is-kind ∙ q)
+    let earlier = c .before .before .before .before .before .before .before .before .before .before .before .before .before .before .before .before .before in
+    λ q. c .if3 .left ((head-is t earlier) .is-kind ∙ q)
 
 -- the second operand, and what is built of it
-no-close : (t : ℕ) (c : build-lts.Else4 (claims t) (build-at t) build.Post) → Passed (now ((c .before .before .before .before .before .before .before .before .before .before .before .before .before .before .before .before .before .before .before .before .before .before .before .before .before .before) .args .s)) ((c .before .before .before .before .before .before .before .before .before .before .before .build) .result .next) 0
+no-close : (t : ℕ) (c : build-lts.Else4 (claims t) (build-at t) build.Post) → Passed (now (c .before .before .before .before .before .before .before .before .before .before .before .before .before .before .before .before .before .before .before .before .before .before .before .before .before .before .args .s)) (c .before .before .before .before .before .before .before .before .before .before .before .build .result .next) 0
 no-close t c =
     let at-build = c .before .before .before .before .before .before .before .before .before .before .before .build in
-    let before = c .before .before .before .before .before .before .before .before .before .before .before .before .before .before .before .before .before .before .before .before .before .before .before .before .before .before in
-    subst (Passed (now ((before) .args .s)) ((at-build) .result .next)) (c .if4 .left) (c .before .past2 .ensures)
+    let start = c .before .before .before .before .before .before .before .before .before .before .before .before .before .before .before .before .before .before .before .before .before .before .before .before .before .before in
+    subst (Passed (now (start .args .s)) (at-build .result .next)) (c .if4 .left) (c .before .past2 .ensures)
 
-second : (t : ℕ) (c : build-lts.Else4 (claims t) (build-at t) build.Post) → Stands (now ((c .before .before .before .before .before .before .before .before .before .before .before .before .before .before .before .before .before .before .before .before .before .before .before .before .before .before) .args .row)) (now ((c .before .before .before .before .before .before .before .before .before .before .before .before .before .before .before .before .before .before .before .before .before .before .before .before .before .before) .args .s)) ((c .before .before .before .before .before .before .before .before .before .before .before .build) .result .next) (secondOf ((c .before .before .before .before .before .before .before .before .before .before .before .before .before .before .before .before .before .before .before .before .before .before .before .before .before .before) .pre .1 .x)) (closeOf ((c .before .before .before .before .before .before .before .before .before .before .before .before .before .before .before .before .before .before .before .before .before .before .before .before .before .before) .pre .1 .x) ++ ((c .before .before .before .before .before .before .before .before .before .before .before .before .before .before .before .before .before .before .before .before .before .before .before .before .before .before) .pre .1 .rest))
+second : (t : ℕ) (c : build-lts.Else4 (claims t) (build-at t) build.Post) → Stands (now (c .before .before .before .before .before .before .before .before .before .before .before .before .before .before .before .before .before .before .before .before .before .before .before .before .before .before .args .row)) (now (c .before .before .before .before .before .before .before .before .before .before .before .before .before .before .before .before .before .before .before .before .before .before .before .before .before .before .args .s)) (c .before .before .before .before .before .before .before .before .before .before .before .build .result .next) (secondOf (c .before .before .before .before .before .before .before .before .before .before .before .before .before .before .before .before .before .before .before .before .before .before .before .before .before .before .pre .1 .x)) (closeOf (c .before .before .before .before .before .before .before .before .before .before .before .before .before .before .before .before .before .before .before .before .before .before .before .before .before .before .pre .1 .x) ++ (c .before .before .before .before .before .before .before .before .before .before .before .before .before .before .before .before .before .before .before .before .before .before .before .before .before .before .pre .1 .rest))
 second t c =
-    let before-3 = c .before .before .before .before .before .before .before .before .before .before .before in
-    let at-before = c .before .before .before .before .before .before .before .before .before .before .before .before .before .before .before .before .before .before in
-    let before = c .before .before .before .before .before .before .before .before .before .before .before .before .before .before .before .before .before .before .before .before .before .before .before .before .before .before in
-    second-of ((before) .pre .1 .x) ((before) .pre .1 .rest) (node t (at-before)) (not-power t (c .before .before)) (((before) .pre .1) .stands) (done t (before-3)) (no-close t c)
+    let earlier-2 = c .before .before .before .before .before .before .before .before .before .before .before in
+    let earlier = c .before .before .before .before .before .before .before .before .before .before .before .before .before .before .before .before .before .before in
+    let start = c .before .before .before .before .before .before .before .before .before .before .before .before .before .before .before .before .before .before .before .before .before .before .before .before .before .before in
+    second-of (start .pre .1 .x) (start .pre .1 .rest) (node t earlier) (not-power t (c .before .before)) (start .pre .1 .stands) (done t earlier-2) (no-close t c)
 
-done-2 : (t : ℕ) (c : build-lts.After-build2 (claims t) (build-at t) build.Post) → Done (now ((c .before .before .before .before .before .before .before .before .before .before .before .before .before .before .before .before .before .before .before .before .before .before .before .before .before .before .before .before .before .before .before) .args .row)) (now ((c .before .before .before .before .before .before .before .before .before .before .before .before .before .before .before .before .before .before .before .before .before .before .before .before .before .before .before .before .before .before .before) .args .s)) ((c .before .before .before .before .before .before .before .before .before .before .before .before .before .before .before .before .build) .result .next) ((c .build2) .result .words) ((c .build2) .result .next) ((c .build2) .last .1 .1 .1 .0) (secondOf ((c .before .before .before .before .before .before .before .before .before .before .before .before .before .before .before .before .before .before .before .before .before .before .before .before .before .before .before .before .before .before .before) .pre .1 .x)) (closeOf ((c .before .before .before .before .before .before .before .before .before .before .before .before .before .before .before .before .before .before .before .before .before .before .before .before .before .before .before .before .before .before .before) .pre .1 .x) ++ ((c .before .before .before .before .before .before .before .before .before .before .before .before .before .before .before .before .before .before .before .before .before .before .before .before .before .before .before .before .before .before .before) .pre .1 .rest))
+done-2 : (t : ℕ) (c : build-lts.After-build2 (claims t) (build-at t) build.Post) → Done (now (c .before .before .before .before .before .before .before .before .before .before .before .before .before .before .before .before .before .before .before .before .before .before .before .before .before .before .before .before .before .before .before .args .row)) (now (c .before .before .before .before .before .before .before .before .before .before .before .before .before .before .before .before .before .before .before .before .before .before .before .before .before .before .before .before .before .before .before .args .s)) (c .before .before .before .before .before .before .before .before .before .before .before .before .before .before .before .before .build .result .next) (c .build2 .result .words) (c .build2 .result .next) (c .build2 .last .1 .1 .1 .0) (secondOf (c .before .before .before .before .before .before .before .before .before .before .before .before .before .before .before .before .before .before .before .before .before .before .before .before .before .before .before .before .before .before .before .pre .1 .x)) (closeOf (c .before .before .before .before .before .before .before .before .before .before .before .before .before .before .before .before .before .before .before .before .before .before .before .before .before .before .before .before .before .before .before .pre .1 .x) ++ (c .before .before .before .before .before .before .before .before .before .before .before .before .before .before .before .before .before .before .before .before .before .before .before .before .before .before .before .before .before .before .before .pre .1 .rest))
 done-2 t c =
-    let at-before = c .before .before .before .before .before in
-    let before = c .before .before .before .before .before .before .before .before .before .before .before .before .before .before .before .before .before .before .before .before .before .before .before .before .before .before .before .before .before .before .before in
-    (c .build2) .ensures (secondOf ((before) .pre .1 .x)) (closeOf ((before) .pre .1 .x) ++ ((before) .pre .1 .rest)) (second t (at-before))
+    let earlier = c .before .before .before .before .before in
+    let start = c .before .before .before .before .before .before .before .before .before .before .before .before .before .before .before .before .before .before .before .before .before .before .before .before .before .before .before .before .before .before .before in
+    (c .build2) .ensures (secondOf (start .pre .1 .x)) (closeOf (start .pre .1 .x) ++ (start .pre .1 .rest)) (second t earlier)
 
-both-at : (t : ℕ) (c : build-lts.After-stack5 (claims t) (build-at t) build.Post) → Both (now ((c .before .before .before .before .before .before .before .before .before .before .before .before .before .before .before .before .before .before .before .before .before .before .before .before .before .before .before .before .before .before .before .before) .args .row)) ((c .before .before .before .before .before .before .before .before .before .before .before .before .before .before .before .before .before .build) .result .words) ((c .before .build2) .result .words) (putMid ((c .before .before .before .before .before .before .before .before .before .before .before .before .before .before .before .before .before .build) .result .words) (length ((c .before .before .before .before .before .before .before .before .before .before .before .before .before .before .before .before .before .build) .last .1 .1 .1 .0) - ((c .before .before .before .before .before .before .before .before .before .before .before .before .before .before .before .before .before .build) .result .words)) ((c .before .before .before .before .before .before .before .before .before .before .before .before .before .before .before .before .before .build) .last .1 .1 .1 .0) ((c .before .build2) .last .1 .1 .1 .0)) (firstOf ((c .before .before .before .before .before .before .before .before .before .before .before .before .before .before .before .before .before .before .before .before .before .before .before .before .before .before .before .before .before .before .before .before) .pre .1 .x)) (secondOf ((c .before .before .before .before .before .before .before .before .before .before .before .before .before .before .before .before .before .before .before .before .before .before .before .before .before .before .before .before .before .before .before .before) .pre .1 .x))
+both-at : (t : ℕ) (c : build-lts.After-stack5 (claims t) (build-at t) build.Post) → Both (now (c .before .before .before .before .before .before .before .before .before .before .before .before .before .before .before .before .before .before .before .before .before .before .before .before .before .before .before .before .before .before .before .before .args .row)) (c .before .before .before .before .before .before .before .before .before .before .before .before .before .before .before .before .before .build .result .words) (c .before .build2 .result .words) (putMid (c .before .before .before .before .before .before .before .before .before .before .before .before .before .before .before .before .before .build .result .words) (length (c .before .before .before .before .before .before .before .before .before .before .before .before .before .before .before .before .before .build .last .1 .1 .1 .0) - (c .before .before .before .before .before .before .before .before .before .before .before .before .before .before .before .before .before .build .result .words)) (c .before .before .before .before .before .before .before .before .before .before .before .before .before .before .before .before .before .build .last .1 .1 .1 .0) (c .before .build2 .last .1 .1 .1 .0)) (firstOf (c .before .before .before .before .before .before .before .before .before .before .before .before .before .before .before .before .before .before .before .before .before .before .before .before .before .before .before .before .before .before .before .before .pre .1 .x)) (secondOf (c .before .before .before .before .before .before .before .before .before .before .before .before .before .before .before .before .before .before .before .before .before .before .before .before .before .before .before .before .before .before .before .before .pre .1 .x))
 both-at t c =
-    let before-4 = c .before .before .before .before .before .before in
-    let before-3 = c .before .before .before .before .before .before .before .before .before .before .before .before .before .before .before .before .before in
+    let earlier-3 = c .before .before .before .before .before .before in
+    let earlier-2 = c .before .before .before .before .before .before .before .before .before .before .before .before .before .before .before .before .before in
     let at-build = c .before .before .before .before .before .before .before .before .before .before .before .before .before .before .before .before .before .build in
-    let at-before = c .before .before .before .before .before .before .before .before .before .before .before .before .before .before .before .before .before .before .before .before .before .before .before in
-    let before = c .before .before .before .before .before .before .before .before .before .before .before .before .before .before .before .before .before .before .before .before .before .before .before .before .before .before .before .before .before .before .before .before in
-    both (((before) .pre .1) .proper) (first t (at-before)) (done t (before-3)) (second t (before-4)) (done-2 t (c .before)) ((c .before .build2) .kept .1 .1 .1 .0 ∙ length-tail-part ((at-build) .result .words) ((at-build) .last .1 .1 .1 .0)) (c .stack5 .given .1)
+    let earlier = c .before .before .before .before .before .before .before .before .before .before .before .before .before .before .before .before .before .before .before .before .before .before .before in
+    let start = c .before .before .before .before .before .before .before .before .before .before .before .before .before .before .before .before .before .before .before .before .before .before .before .before .before .before .before .before .before .before .before .before in
+    both (start .pre .1 .proper) (first t earlier) (done t earlier-2) (second t earlier-3) (done-2 t (c .before)) (c .before .build2 .kept .1 .1 .1 .0 ∙ length-tail-part (at-build .result .words) (at-build .last .1 .1 .1 .0)) (c .stack5 .given .1)
 
 build-head-of-requires : (t : ℕ) → build-lts.Need-head-of-requires (claims t) (build-at t) build.Post
-build-head-of-requires t c κs = ((c .before .before .before .before .before .before) .pre .1) .inside
+build-head-of-requires t c κs = (c .before .before .before .before .before .before .pre .1) .inside
 
 build-sub-leaf-form : (t : ℕ) → build-lts.Need-sub-leaf-form (claims t) (build-at t) build.Post
 build-sub-leaf-form t c =
-    let before = c .before .before .before .before .before .before .before .before in
-    omega (arith, leaf-some ((before) .pre .1) ((c .before .head-of) .ensures) (c .if1 .taken), head-inside ((before) .pre .1) ((c .before .head-of) .ensures))
+    let start = c .before .before .before .before .before .before .before .before in
+    omega (arith, leaf-some (start .pre .1) (c .before .head-of .ensures) (c .if1 .taken), head-inside (start .pre .1) (c .before .head-of .ensures))
 
 build-part-leaf-form-start : (t : ℕ) → build-lts.Need-part-leaf-form-start (claims t) (build-at t) build.Post
 build-part-leaf-form-start t c =
-    let before = c .before .before .before .before .before .before .before .before in
-    omega (arith, leaf-some ((before) .pre .1) ((c .before .head-of) .ensures) (c .if1 .taken), head-inside ((before) .pre .1) ((c .before .head-of) .ensures))
+    let start = c .before .before .before .before .before .before .before .before in
+    omega (arith, leaf-some (start .pre .1) (c .before .head-of .ensures) (c .if1 .taken), head-inside (start .pre .1) (c .before .head-of .ensures))
 
 build-part-leaf-form-end : (t : ℕ) → build-lts.Need-part-leaf-form-end (claims t) (build-at t) build.Post
 build-part-leaf-form-end t c =
-    let before = c .before .before .before .before .before .before .before .before in
-    omega (arith, leaf-some ((before) .pre .1) ((c .before .head-of) .ensures) (c .if1 .taken), head-inside ((before) .pre .1) ((c .before .head-of) .ensures))
+    let start = c .before .before .before .before .before .before .before .before in
+    omega (arith, leaf-some (start .pre .1) (c .before .head-of .ensures) (c .if1 .taken), head-inside (start .pre .1) (c .before .head-of .ensures))
 
 build-leaf-form-requires : (t : ℕ) → build-lts.Need-leaf-form-requires (claims t) (build-at t) build.Post
 build-leaf-form-requires t c κs =
-    let before = c .before .before .before .before .before .before .before .before .before .before in
-    leaf-asks ((before) .pre .1) ((c .before .before .before .head-of) .ensures) (c .before .before .if1 .taken)
+    let start = c .before .before .before .before .before .before .before .before .before .before in
+    leaf-asks (start .pre .1) (c .before .before .before .head-of .ensures) (c .before .before .if1 .taken)
 
 build-same-length : (t : ℕ) → build-lts.Need-same-length (claims t) (build-at t) build.Post
 build-same-length t c = search needs
@@ -134,244 +134,245 @@ build-returns : (t : ℕ) → build-lts.Need-returns (claims t) (build-at t) bui
 build-returns t c =
     let if1 = c .before .before .before .before .before .if1 in
     let head-of = c .before .before .before .before .before .before .head-of in
-    let before = c .before .before .before .before .before .before .before .before .before .before .before .before .before in
-    leaf-gives ((before) .pre .1) ((head-of) .ensures) (if1 .taken) (c .before .before .leaf-form .ensures)
+    let start = c .before .before .before .before .before .before .before .before .before .before .before .before .before in
+    leaf-gives (start .pre .1) (head-of .ensures) (if1 .taken) (c .before .before .leaf-form .ensures)
 
 build-zero-power-requires : (t : ℕ) → build-lts.Need-zero-power-requires (claims t) (build-at t) build.Post
-build-zero-power-requires t c κs = head-inside ((c .before .before .before .before .before .before .before .before) .pre .1) ((c .before .head-of) .ensures)
+build-zero-power-requires t c κs = head-inside (c .before .before .before .before .before .before .before .before .pre .1) (c .before .head-of .ensures)
 
 build-slice-write-stack : (t : ℕ) → build-lts.Need-slice-write-stack (claims t) (build-at t) build.Post
 build-slice-write-stack t c =
-    let before = c .before .before .before .before .before .before .before .before .before .before in
-    zero-room ((before) .pre .1) ((c .before .before .before .head-of) .ensures) (c .before .before .if1 .left) (c .before .zero-power .ensures) (c .if2 .taken)
+    let start = c .before .before .before .before .before .before .before .before .before .before in
+    zero-room (start .pre .1) (c .before .before .before .head-of .ensures) (c .before .before .if1 .left) (c .before .zero-power .ensures) (c .if2 .taken)
 
 build-same-length-2 : (t : ℕ) → build-lts.Need-same-length-2 (claims t) (build-at t) build.Post
 build-same-length-2 t c = search needs
 
 build-returns-2 : (t : ℕ) → build-lts.Need-returns-2 (claims t) (build-at t) build.Post
 build-returns-2 t c =
-    let before = c .before .before .before .before .before .before .before .before .before .before in
-    zero-gives ((before) .pre .1) ((c .before .before .before .head-of) .ensures) (c .before .before .if1 .left) (c .before .zero-power .ensures) (c .if2 .taken) (λ x. made-one 0 x ((before) .args .stack .now) (zero-room ((before) .pre .1) ((c .before .before .before .head-of) .ensures) (c .before .before .if1 .left) (c .before .zero-power .ensures) (c .if2 .taken)))
+    let start = c .before .before .before .before .before .before .before .before .before .before in
+    zero-gives (start .pre .1) (c .before .before .before .head-of .ensures) (c .before .before .if1 .left) (c .before .zero-power .ensures) (c .if2 .taken) (λ x. made-one 0 x (start .args .stack .now) (zero-room (start .pre .1) (c .before .before .before .head-of .ensures) (c .before .before .if1 .left) (c .before .zero-power .ensures) (c .if2 .taken)))
 
 build-build-requires : (t : ℕ) → build-lts.Need-build-requires (claims t) (build-at t) build.Post
 build-build-requires t c κs =
     let if2 = c .before .before .before .before .if2 in
     let zero-power = c .before .before .before .before .before .zero-power in
-    let at-before = c .before .before .before .before .before .before .before in
     let if1 = c .before .before .before .before .before .before .if1 in
+    let earlier = c .before .before .before .before .before .before .before in
     let head-of = c .before .before .before .before .before .before .before .head-of in
-    let before = c .before .before .before .before .before .before .before .before .before .before .before .before .before .before in
-    (omega (arith, (before) .pre .0, (head-is t (at-before)) .onto .later, (head-is t (at-before)) .onto .inside), first-ready ((before) .pre .1) ((head-of) .ensures) (if1 .left) (zero-power .ensures) (if2 .left))
+    let start = c .before .before .before .before .before .before .before .before .before .before .before .before .before .before in
+    (omega (arith, (start) .pre .0, (head-is t earlier) .onto .later, (head-is t earlier) .onto .inside), first-ready (start .pre .1) (head-of .ensures) (if1 .left) (zero-power .ensures) (if2 .left))
 
 build-exponent-at-requires : (t : ℕ) → build-lts.Need-exponent-at-requires (claims t) (build-at t) build.Post
 build-exponent-at-requires t c κs =
-    let at-before = c .before .before .before .before .before .before .before .before .before in
-    let before = c .before .before .before .before .before .before .before .before .before .before .before .before .before .before .before .before .before .before .before .before .before .before .before .before in
-    exponent-stands ((before) .pre .1 .x) ((before) .pre .1 .rest) (is-power t c) ((done t (at-before)) .inside) ((done t (at-before)) .behind)
+    let earlier = c .before .before .before .before .before .before .before .before .before in
+    let start = c .before .before .before .before .before .before .before .before .before .before .before .before .before .before .before .before .before .before .before .before .before .before .before .before in
+    exponent-stands (start .pre .1 .x) (start .pre .1 .rest) (is-power t c) ((done t earlier) .inside) ((done t earlier) .behind)
 
 build-raise-requires : (t : ℕ) → build-lts.Need-raise-requires (claims t) (build-at t) build.Post
 build-raise-requires t c κs =
-    let at-before = c .before .before .before .before .before in
     let exponent-at = c .before .before .before .before .exponent-at in
-    let before-4 = c .before .before .before .before .before .before .before .before .before .before .before .before .before .before in
+    let earlier = c .before .before .before .before .before in
+    let earlier-3 = c .before .before .before .before .before .before .before .before .before .before .before .before .before .before in
     let at-build = c .before .before .before .before .before .before .before .before .before .before .before .before .before .before .build in
     let if2 = c .before .before .before .before .before .before .before .before .before .before .before .before .before .before .before .before .before .before .before .if2 in
-    let before-3 = c .before .before .before .before .before .before .before .before .before .before .before .before .before .before .before .before .before .before .before .before in
     let zero-power = c .before .before .before .before .before .before .before .before .before .before .before .before .before .before .before .before .before .before .before .before .zero-power in
+    let earlier-2 = c .before .before .before .before .before .before .before .before .before .before .before .before .before .before .before .before .before .before .before .before in
     let if1 = c .before .before .before .before .before .before .before .before .before .before .before .before .before .before .before .before .before .before .before .before .before .if1 in
     let head-of = c .before .before .before .before .before .before .before .before .before .before .before .before .before .before .before .before .before .before .before .before .before .before .head-of in
-    let before = c .before .before .before .before .before .before .before .before .before .before .before .before .before .before .before .before .before .before .before .before .before .before .before .before .before .before .before .before .before in
-    raise-asks (((before) .pre .1) .proper) ((before) .pre .1 .x) ((before) .pre .1 .rest) (is-power t (at-before)) (zero-is ((before) .pre .1) ((head-of) .ensures) (if1 .left) (zero-power .ensures) .no (if2 .left)) (((before) .pre .1) .stands) (first t (before-3)) (done t (before-4)) (exponent-at .ensures) (omega (arith, ((before) .pre .1) .room, ((at-build) .kept .1 .1 .1 .0))) (tables-as ((at-build) .kept .1 .1 .1 .1 .0) ((at-build) .kept .1 .1 .1 .1 .1 .0) ((at-build) .kept .1 .1 .1 .1 .1 .1 .0) (((before) .pre .1) .tables))
+    let start = c .before .before .before .before .before .before .before .before .before .before .before .before .before .before .before .before .before .before .before .before .before .before .before .before .before .before .before .before .before in
+    raise-asks (start .pre .1 .proper) (start .pre .1 .x) (start .pre .1 .rest) (is-power t earlier) (zero-is (start .pre .1) (head-of .ensures) (if1 .left) (zero-power .ensures) .no (if2 .left)) (start .pre .1 .stands) (first t earlier-2) (done t earlier-3) (exponent-at .ensures) (omega (arith, (start .pre .1) .room, (at-build .kept .1 .1 .1 .0))) (tables-as (at-build .kept .1 .1 .1 .1 .0) (at-build .kept .1 .1 .1 .1 .1 .0) (at-build .kept .1 .1 .1 .1 .1 .1 .0) (start .pre .1 .tables))
 
 build-past-requires : (t : ℕ) → build-lts.Need-past-requires (claims t) (build-at t) build.Post
 build-past-requires t c κs =
-    let at-before = c .before .before .before .before .before .before .before .before .before .before .before .before .before .before in
     let exponent-at = c .before .before .before .before .before .before .before .before .before .before .before .before .before .exponent-at in
-    let before-3 = c .before .before .before .before .before .before .before .before .before .before .before .before .before .before .before .before .before .before .before .before .before .before .before in
-    let before = c .before .before .before .before .before .before .before .before .before .before .before .before .before .before .before .before .before .before .before .before .before .before .before .before .before .before .before .before .before .before .before .before .before .before .before .before .before .before in
-    exponent-inside ((before) .pre .1 .x) ((before) .pre .1 .rest) (is-power t (at-before)) ((done t (before-3)) .behind) (exponent-at .ensures)
+    let earlier = c .before .before .before .before .before .before .before .before .before .before .before .before .before .before in
+    let earlier-2 = c .before .before .before .before .before .before .before .before .before .before .before .before .before .before .before .before .before .before .before .before .before .before .before in
+    let start = c .before .before .before .before .before .before .before .before .before .before .before .before .before .before .before .before .before .before .before .before .before .before .before .before .before .before .before .before .before .before .before .before .before .before .before .before .before .before in
+    exponent-inside (start .pre .1 .x) (start .pre .1 .rest) (is-power t earlier) ((done t earlier-2) .behind) (exponent-at .ensures)
 
 build-same-length-3 : (t : ℕ) → build-lts.Need-same-length-3 (claims t) (build-at t) build.Post
 build-same-length-3 t c =
     let raise = c .before .before .before .before .before .before .before .before .before .raise in
     let at-build = c .before .before .before .before .before .before .before .before .before .before .before .before .before .before .before .before .before .before .before .before .before .before .before .before .build in
-    raise .kept .1 .0 ∙ ((at-build) .kept .1 .1 .1 .0)
+    raise .kept .1 .0 ∙ (at-build .kept .1 .1 .1 .0)
 
 build-same-length-4 : (t : ℕ) → build-lts.Need-same-length-4 (claims t) (build-at t) build.Post
 build-same-length-4 t c =
     let raise = c .before .before .before .before .before .before .before .before .before .raise in
     let at-build = c .before .before .before .before .before .before .before .before .before .before .before .before .before .before .before .before .before .before .before .before .before .before .before .before .build in
-    raise .kept .1 .1 .1 .1 .0 ∙ ((at-build) .kept .1 .1 .1 .1 .0)
+    raise .kept .1 .1 .1 .1 .0 ∙ (at-build .kept .1 .1 .1 .1 .0)
 
 build-same-length-5 : (t : ℕ) → build-lts.Need-same-length-5 (claims t) (build-at t) build.Post
 build-same-length-5 t c =
     let raise = c .before .before .before .before .before .before .before .before .before .raise in
     let at-build = c .before .before .before .before .before .before .before .before .before .before .before .before .before .before .before .before .before .before .before .before .before .before .before .before .build in
-    raise .kept .1 .1 .1 .1 .1 .0 ∙ ((at-build) .kept .1 .1 .1 .1 .1 .0)
+    raise .kept .1 .1 .1 .1 .1 .0 ∙ (at-build .kept .1 .1 .1 .1 .1 .0)
 
 build-same-length-6 : (t : ℕ) → build-lts.Need-same-length-6 (claims t) (build-at t) build.Post
 build-same-length-6 t c =
     let raise = c .before .before .before .before .before .before .before .before .before .raise in
     let at-build = c .before .before .before .before .before .before .before .before .before .before .before .before .before .before .before .before .before .before .before .before .before .before .before .before .build in
-    raise .kept .1 .1 .1 .1 .1 .1 .0 ∙ ((at-build) .kept .1 .1 .1 .1 .1 .1 .0)
+    raise .kept .1 .1 .1 .1 .1 .1 .0 ∙ (at-build .kept .1 .1 .1 .1 .1 .1 .0)
 
 build-returns-3 : (t : ℕ) → build-lts.Need-returns-3 (claims t) (build-at t) build.Post
 build-returns-3 t c =
     let raise = c .before .before .before .before .before .before .before .before .before .raise in
-    let at-before = c .before .before .before .before .before .before .before .before .before .before .before .before .before .before .before in
     let exponent-at = c .before .before .before .before .before .before .before .before .before .before .before .before .before .before .exponent-at in
-    let before-5 = c .before .before .before .before .before .before .before .before .before .before .before .before .before .before .before .before .before .before .before .before .before .before .before .before in
-    let before-3 = c .before .before .before .before .before .before .before .before .before .before .before .before .before .before .before .before .before .before .before .before .before .before .before .before .before .before .before .before .before .before in
-    let before-4 = c .before .before .before .before .before .before .before .before .before .before .before .before .before .before .before .before .before .before .before .before .before .before .before .before .before .before .before .before .before .before .before .before in
-    let before = c .before .before .before .before .before .before .before .before .before .before .before .before .before .before .before .before .before .before .before .before .before .before .before .before .before .before .before .before .before .before .before .before .before .before .before .before .before .before .before in
-    finished (((before) .pre .1) .stands) (raise-gives (((before) .pre .1) .proper) ((before) .pre .1 .x) ((before) .pre .1 .rest) (is-power t (at-before)) (((before) .pre .1) .stands) (first t (before-3)) ((head-is t (before-4)) .onto .later) (done t (before-5)) (exponent-at .ensures) (raise .ensures) (c .past .ensures))
+    let earlier = c .before .before .before .before .before .before .before .before .before .before .before .before .before .before .before in
+    let earlier-4 = c .before .before .before .before .before .before .before .before .before .before .before .before .before .before .before .before .before .before .before .before .before .before .before .before in
+    let earlier-2 = c .before .before .before .before .before .before .before .before .before .before .before .before .before .before .before .before .before .before .before .before .before .before .before .before .before .before .before .before .before .before in
+    let earlier-3 = c .before .before .before .before .before .before .before .before .before .before .before .before .before .before .before .before .before .before .before .before .before .before .before .before .before .before .before .before .before .before .before .before in
+    let start = c .before .before .before .before .before .before .before .before .before .before .before .before .before .before .before .before .before .before .before .before .before .before .before .before .before .before .before .before .before .before .before .before .before .before .before .before .before .before .before in
+    finished (start .pre .1 .stands) (raise-gives (start .pre .1 .proper) (start .pre .1 .x) (start .pre .1 .rest) (is-power t earlier) (start .pre .1 .stands) (first t earlier-2) ((head-is t earlier-3) .onto .later) (done t earlier-4) (exponent-at .ensures) (raise .ensures) (c .past .ensures))
 
 build-past-requires-2 : (t : ℕ) → build-lts.Need-past-requires-2 (claims t) (build-at t) build.Post
 build-past-requires-2 t c κs = (done t (c .before .before .before .before .before .before .before .before .before)) .inside
 
 build-negate-front-requires : (t : ℕ) → build-lts.Need-negate-front-requires (claims t) (build-at t) build.Post
 build-negate-front-requires t c κs =
-    let before = c .before .before .before .before .before .before .before .before .before .before .before .before .before in
+    let earlier = c .before .before .before .before .before .before .before .before .before .before .before .before .before in
     let at-build = c .before .before .before .before .before .before .before .before .before .before .before .before .before .build in
-    let before-3 = c .before .before .before .before .before .before .before .before .before .before .before .before .before .before .before .before .before .before .before in
-    let at-before = c .before .before .before .before .before .before .before .before .before .before .before .before .before .before .before .before .before .before .before .before .before .before .before .before .before .before .before .before in
-    ((begins-le ((done t (before)) .made), omega (arith, (done t (before)) .made .size, few-words (((at-before) .pre .1) .proper) (first t (before-3)), ((at-before) .pre .1) .tables .first, ((at-build) .kept .1 .1 .1 .1 .0))), coded (first-codes (((at-before) .pre .1) .proper) (first t (before-3)) (done t (before))))
+    let earlier-2 = c .before .before .before .before .before .before .before .before .before .before .before .before .before .before .before .before .before .before .before in
+    let start = c .before .before .before .before .before .before .before .before .before .before .before .before .before .before .before .before .before .before .before .before .before .before .before .before .before .before .before .before in
+    ((begins-le ((done t earlier) .made), omega (arith, (done t earlier) .made .size, few-words (start .pre .1 .proper) (first t earlier-2), (start .pre .1) .tables .first, (at-build .kept .1 .1 .1 .1 .0))), coded (first-codes (start .pre .1 .proper) (first t earlier-2) (done t earlier)))
 
 build-same-length-7 : (t : ℕ) → build-lts.Need-same-length-7 (claims t) (build-at t) build.Post
 build-same-length-7 t c =
     let negate-front = c .before .before .before .before .negate-front in
     let at-build = c .before .before .before .before .before .before .before .before .before .before .before .before .before .before .before .before .before .before .build in
-    negate-front .kept .0 ∙ ((at-build) .kept .1 .1 .1 .0)
+    negate-front .kept .0 ∙ (at-build .kept .1 .1 .1 .0)
 
 build-same-length-8 : (t : ℕ) → build-lts.Need-same-length-8 (claims t) (build-at t) build.Post
 build-same-length-8 t c =
     let negate-front = c .before .before .before .before .negate-front in
     let at-build = c .before .before .before .before .before .before .before .before .before .before .before .before .before .before .before .before .before .before .build in
-    negate-front .kept .1 .1 .0 ∙ ((at-build) .kept .1 .1 .1 .1 .0)
+    negate-front .kept .1 .1 .0 ∙ (at-build .kept .1 .1 .1 .1 .0)
 
 build-same-length-9 : (t : ℕ) → build-lts.Need-same-length-9 (claims t) (build-at t) build.Post
 build-same-length-9 t c =
     let at-build = c .before .before .before .before .before .before .before .before .before .before .before .before .before .before .before .before .before .before .build in
-    ((at-build) .kept .1 .1 .1 .1 .1 .0)
+    (at-build .kept .1 .1 .1 .1 .1 .0)
 
 build-same-length-10 : (t : ℕ) → build-lts.Need-same-length-10 (claims t) (build-at t) build.Post
 build-same-length-10 t c =
     let at-build = c .before .before .before .before .before .before .before .before .before .before .before .before .before .before .before .before .before .before .build in
-    ((at-build) .kept .1 .1 .1 .1 .1 .1 .0)
+    (at-build .kept .1 .1 .1 .1 .1 .1 .0)
 
 build-returns-4 : (t : ℕ) → build-lts.Need-returns-4 (claims t) (build-at t) build.Post
 build-returns-4 t c =
     let negate-front = c .before .before .before .before .negate-front in
     let if4 = c .before .before .before .before .before .before .before .if4 in
-    let before-3 = c .before .before .before .before .before .before .before .before .before in
     let past2 = c .before .before .before .before .before .before .before .before .past2 in
-    let before-6 = c .before .before .before .before .before .before .before .before .before .before .before .before .before .before .before .before .before .before in
-    let before-4 = c .before .before .before .before .before .before .before .before .before .before .before .before .before .before .before .before .before .before .before .before .before .before .before .before in
-    let at-before = c .before .before .before .before .before .before .before .before .before .before .before .before .before .before .before .before .before .before .before .before .before .before .before .before .before in
-    let before-5 = c .before .before .before .before .before .before .before .before .before .before .before .before .before .before .before .before .before .before .before .before .before .before .before .before .before .before in
-    let before = c .before .before .before .before .before .before .before .before .before .before .before .before .before .before .before .before .before .before .before .before .before .before .before .before .before .before .before .before .before .before .before .before .before in
-    finished (((before) .pre .1) .stands) (negate-gives (((before) .pre .1) .proper) ((before) .pre .1 .x) ((before) .pre .1 .rest) (node t (at-before)) (not-power t (before-3)) (first t (before-4)) ((head-is t (before-5)) .onto .later) (done t (before-6)) (past2 .ensures) (if4 .taken) (negate-front .ensures))
+    let earlier-2 = c .before .before .before .before .before .before .before .before .before in
+    let earlier-5 = c .before .before .before .before .before .before .before .before .before .before .before .before .before .before .before .before .before .before in
+    let earlier-3 = c .before .before .before .before .before .before .before .before .before .before .before .before .before .before .before .before .before .before .before .before .before .before .before .before in
+    let earlier = c .before .before .before .before .before .before .before .before .before .before .before .before .before .before .before .before .before .before .before .before .before .before .before .before .before in
+    let earlier-4 = c .before .before .before .before .before .before .before .before .before .before .before .before .before .before .before .before .before .before .before .before .before .before .before .before .before .before in
+    let start = c .before .before .before .before .before .before .before .before .before .before .before .before .before .before .before .before .before .before .before .before .before .before .before .before .before .before .before .before .before .before .before .before .before in
+    finished (start .pre .1 .stands) (negate-gives (start .pre .1 .proper) (start .pre .1 .x) (start .pre .1 .rest) (node t earlier) (not-power t earlier-2) (first t earlier-3) ((head-is t earlier-4) .onto .later) (done t earlier-5) (past2 .ensures) (if4 .taken) (negate-front .ensures))
 
 build-mul-build : (t : ℕ) → build-lts.Need-mul-build (claims t) (build-at t) build.Post
 build-mul-build t c =
-    let before = c .before .before .before .before .before .before .before .before .before .before .before in
+    let earlier = c .before .before .before .before .before .before .before .before .before .before .before in
     let at-build = c .before .before .before .before .before .before .before .before .before .before .before .build in
-    let at-before = c .before .before .before .before .before .before .before .before .before .before .before .before .before .before .before .before .before .before .before .before .before .before .before .before .before .before in
-    omega (arith, begins-le ((done t (before)) .made), ((at-build) .kept .1 .1 .1 .0), (at-before) .good .1 .1 .1 .0)
+    let earlier-2 = c .before .before .before .before .before .before .before .before .before .before .before .before .before .before .before .before .before .before .before .before .before .before .before .before .before .before in
+    omega (arith, begins-le ((done t earlier) .made), (at-build .kept .1 .1 .1 .0), (earlier-2) .good .1 .1 .1 .0)
 
 build-sub-build : (t : ℕ) → build-lts.Need-sub-build (claims t) (build-at t) build.Post
 build-sub-build t c =
-    let before = c .before .before .before .before .before .before .before .before .before .before .before in
+    let earlier = c .before .before .before .before .before .before .before .before .before .before .before in
     let at-build = c .before .before .before .before .before .before .before .before .before .before .before .build in
-    let at-before = c .before .before .before .before .before .before .before .before .before .before .before .before .before .before .before .before .before .before .before .before .before .before .before .before .before .before in
-    omega (arith, begins-le ((done t (before)) .made), ((at-build) .kept .1 .1 .1 .0), (at-before) .good .1 .1 .1 .0)
+    let earlier-2 = c .before .before .before .before .before .before .before .before .before .before .before .before .before .before .before .before .before .before .before .before .before .before .before .before .before .before in
+    omega (arith, begins-le ((done t earlier) .made), (at-build .kept .1 .1 .1 .0), (earlier-2) .good .1 .1 .1 .0)
 
 build-part-build-start : (t : ℕ) → build-lts.Need-part-build-start (claims t) (build-at t) build.Post
 build-part-build-start t c =
-    let before = c .before .before .before .before .before .before .before .before .before .before .before in
+    let earlier = c .before .before .before .before .before .before .before .before .before .before .before in
     let at-build = c .before .before .before .before .before .before .before .before .before .before .before .build in
-    let at-before = c .before .before .before .before .before .before .before .before .before .before .before .before .before .before .before .before .before .before .before .before .before .before .before .before .before .before in
-    omega (arith, begins-le ((done t (before)) .made), ((at-build) .kept .1 .1 .1 .0), (at-before) .good .1 .1 .1 .0)
+    let earlier-2 = c .before .before .before .before .before .before .before .before .before .before .before .before .before .before .before .before .before .before .before .before .before .before .before .before .before .before in
+    omega (arith, begins-le ((done t earlier) .made), (at-build .kept .1 .1 .1 .0), (earlier-2) .good .1 .1 .1 .0)
 
 build-part-build-end : (t : ℕ) → build-lts.Need-part-build-end (claims t) (build-at t) build.Post
 build-part-build-end t c =
-    let before = c .before .before .before .before .before .before .before .before .before .before .before in
+    let earlier = c .before .before .before .before .before .before .before .before .before .before .before in
     let at-build = c .before .before .before .before .before .before .before .before .before .before .before .build in
-    let at-before = c .before .before .before .before .before .before .before .before .before .before .before .before .before .before .before .before .before .before .before .before .before .before .before .before .before .before in
-    omega (arith, begins-le ((done t (before)) .made), ((at-build) .kept .1 .1 .1 .0), (at-before) .good .1 .1 .1 .0)
+    let earlier-2 = c .before .before .before .before .before .before .before .before .before .before .before .before .before .before .before .before .before .before .before .before .before .before .before .before .before .before in
+    omega (arith, begins-le ((done t earlier) .made), (at-build .kept .1 .1 .1 .0), (earlier-2) .good .1 .1 .1 .0)
 
 build-build-requires-2 : (t : ℕ) → build-lts.Need-build-requires-2 (claims t) (build-at t) build.Post
 build-build-requires-2 t c κs =
-    let before-5 = c .before .before .before .before .before .before in
-    let before-3 = c .before .before .before .before .before .before .before .before .before .before .before .before .before .before .before in
+    let earlier-5 = c .before .before .before .before in
+    let earlier-4 = c .before .before .before .before .before .before in
+    let earlier-2 = c .before .before .before .before .before .before .before .before .before .before .before .before .before .before .before in
     let at-build = c .before .before .before .before .before .before .before .before .before .before .before .before .before .before .before .build in
-    let before-4 = c .before .before .before .before .before .before .before .before .before .before .before .before .before .before .before .before .before .before .before .before .before .before in
-    let at-before = c .before .before .before .before .before .before .before .before .before .before .before .before .before .before .before .before .before .before .before .before .before .before .before in
-    let before = c .before .before .before .before .before .before .before .before .before .before .before .before .before .before .before .before .before .before .before .before .before .before .before .before .before .before .before .before .before .before in
-    (omega (arith, (before) .pre .0, (head-is t (at-before)) .onto .later, (done t (before-3)) .later, (done t (before-3)) .inside), ready-as (sym (length-tail-part ((at-build) .result .words) ((at-build) .last .1 .1 .1 .0))) refl refl refl (second-ready (((before) .pre .1) .proper) ((before) .pre .1 .x) ((before) .pre .1 .rest) (node t (before-4)) (not-power t (before-5)) (((before) .pre .1) .stands) (done t (before-3)) (no-close t (c .before .before .before .before)) (omega (arith, ((before) .pre .1) .room, ((at-build) .kept .1 .1 .1 .0))) (tables-as ((at-build) .kept .1 .1 .1 .1 .0) ((at-build) .kept .1 .1 .1 .1 .1 .0) ((at-build) .kept .1 .1 .1 .1 .1 .1 .0) (((before) .pre .1) .tables))))
+    let earlier-3 = c .before .before .before .before .before .before .before .before .before .before .before .before .before .before .before .before .before .before .before .before .before .before in
+    let earlier = c .before .before .before .before .before .before .before .before .before .before .before .before .before .before .before .before .before .before .before .before .before .before .before in
+    let start = c .before .before .before .before .before .before .before .before .before .before .before .before .before .before .before .before .before .before .before .before .before .before .before .before .before .before .before .before .before .before in
+    (omega (arith, (start) .pre .0, (head-is t earlier) .onto .later, (done t earlier-2) .later, (done t earlier-2) .inside), ready-as (sym (length-tail-part (at-build .result .words) (at-build .last .1 .1 .1 .0))) refl refl refl (second-ready (start .pre .1 .proper) (start .pre .1 .x) (start .pre .1 .rest) (node t earlier-3) (not-power t earlier-4) (start .pre .1 .stands) (done t earlier-2) (no-close t earlier-5) (omega (arith, (start .pre .1) .room, (at-build .kept .1 .1 .1 .0))) (tables-as (at-build .kept .1 .1 .1 .1 .0) (at-build .kept .1 .1 .1 .1 .1 .0) (at-build .kept .1 .1 .1 .1 .1 .1 .0) (start .pre .1 .tables))))
 
 build-combine-requires : (t : ℕ) → build-lts.Need-combine-requires (claims t) (build-at t) build.Post
 build-combine-requires t c κs =
-    let before = c .before .before .before .before .before .before .before .before .before .before .before in
-    let before-9 = c .before .before .before .before .before .before .before .before .before .before .before .before in
+    let earlier = c .before .before .before .before .before .before .before .before .before .before .before in
     let stack5 = c .before .before .before .before .before .before .before .before .before .before .before .stack5 in
+    let earlier-8 = c .before .before .before .before .before .before .before .before .before .before .before .before in
     let build2 = c .before .before .before .before .before .before .before .before .before .before .before .before .build2 in
-    let before-7 = c .before .before .before .before .before .before .before .before .before .before .before .before .before .before .before .before .before in
-    let before-5 = c .before .before .before .before .before .before .before .before .before .before .before .before .before .before .before .before .before .before .before in
-    let before-8 = c .before .before .before .before .before .before .before .before .before .before .before .before .before .before .before .before .before .before .before .before .before .before .before .before .before .before .before .before in
+    let earlier-6 = c .before .before .before .before .before .before .before .before .before .before .before .before .before .before .before .before .before in
+    let earlier-4 = c .before .before .before .before .before .before .before .before .before .before .before .before .before .before .before .before .before .before .before in
+    let earlier-7 = c .before .before .before .before .before .before .before .before .before .before .before .before .before .before .before .before .before .before .before .before .before .before .before .before .before .before .before .before in
     let at-build = c .before .before .before .before .before .before .before .before .before .before .before .before .before .before .before .before .before .before .before .before .before .before .before .before .before .before .before .before .build in
-    let before-6 = c .before .before .before .before .before .before .before .before .before .before .before .before .before .before .before .before .before .before .before .before .before .before .before .before .before .before .before .before .before .before .before .before .before .before in
-    let before-4 = c .before .before .before .before .before .before .before .before .before .before .before .before .before .before .before .before .before .before .before .before .before .before .before .before .before .before .before .before .before .before .before .before .before .before .before in
-    let before-3 = c .before .before .before .before .before .before .before .before .before .before .before .before .before .before .before .before .before .before .before .before .before .before .before .before .before .before .before .before .before .before .before .before .before .before .before .before in
-    let at-before = c .before .before .before .before .before .before .before .before .before .before .before .before .before .before .before .before .before .before .before .before .before .before .before .before .before .before .before .before .before .before .before .before .before .before .before .before .before .before .before .before .before .before .before in
-    ((both-at t (before)) .pair, both-combining (both-at t (before)) (combining (((at-before) .pre .1) .proper) ((at-before) .pre .1 .x) ((at-before) .pre .1 .rest) ((head-is t (before-3)) .is-kind) (node t (before-4)) (not-power t (before-5)) (((at-before) .pre .1) .stands) (first t (before-6)) (second t (before-7)) ((done t (before-8)) .made .size) ((done-2 t (before-9)) .made .size) (omega (arith, ((at-before) .pre .1) .room, ((at-build) .kept .1 .1 .1 .0), (stack5 .given .1))) (tables-as ((build2) .kept .1 .1 .1 .1 .0 ∙ ((at-build) .kept .1 .1 .1 .1 .0)) ((build2) .kept .1 .1 .1 .1 .1 .0 ∙ ((at-build) .kept .1 .1 .1 .1 .1 .0)) ((build2) .kept .1 .1 .1 .1 .1 .1 .0 ∙ ((at-build) .kept .1 .1 .1 .1 .1 .1 .0)) (((at-before) .pre .1) .tables))))
+    let earlier-5 = c .before .before .before .before .before .before .before .before .before .before .before .before .before .before .before .before .before .before .before .before .before .before .before .before .before .before .before .before .before .before .before .before .before .before in
+    let earlier-3 = c .before .before .before .before .before .before .before .before .before .before .before .before .before .before .before .before .before .before .before .before .before .before .before .before .before .before .before .before .before .before .before .before .before .before .before in
+    let earlier-2 = c .before .before .before .before .before .before .before .before .before .before .before .before .before .before .before .before .before .before .before .before .before .before .before .before .before .before .before .before .before .before .before .before .before .before .before .before in
+    let start = c .before .before .before .before .before .before .before .before .before .before .before .before .before .before .before .before .before .before .before .before .before .before .before .before .before .before .before .before .before .before .before .before .before .before .before .before .before .before .before .before .before .before .before in
+    ((both-at t earlier) .pair, both-combining (both-at t earlier) (combining (start .pre .1 .proper) (start .pre .1 .x) (start .pre .1 .rest) ((head-is t earlier-2) .is-kind) (node t earlier-3) (not-power t earlier-4) (start .pre .1 .stands) (first t earlier-5) (second t earlier-6) ((done t earlier-7) .made .size) ((done-2 t earlier-8) .made .size) (omega (arith, (start .pre .1) .room, (at-build .kept .1 .1 .1 .0), (stack5 .given .1))) (tables-as (build2 .kept .1 .1 .1 .1 .0 ∙ (at-build .kept .1 .1 .1 .1 .0)) (build2 .kept .1 .1 .1 .1 .1 .0 ∙ (at-build .kept .1 .1 .1 .1 .1 .0)) (build2 .kept .1 .1 .1 .1 .1 .1 .0 ∙ (at-build .kept .1 .1 .1 .1 .1 .1 .0)) (start .pre .1 .tables))))
 
 build-past-requires-3 : (t : ℕ) → build-lts.Need-past-requires-3 (claims t) (build-at t) build.Post
 build-past-requires-3 t c κs =
-    let before = c .before .before .before .before .before .before .before .before .before .before .before .before .before .before .before .before .before .before .before .before .before in
-    (done-2 t (before)) .inside
+    let earlier = c .before .before .before .before .before .before .before .before .before .before .before .before .before .before .before .before .before .before .before .before .before in
+    (done-2 t earlier) .inside
 
 build-same-length-11 : (t : ℕ) → build-lts.Need-same-length-11 (claims t) (build-at t) build.Post
 build-same-length-11 t c =
     let combine = c .before .before .before .before .before .before .before .before .before .combine in
     let stack5 = c .before .before .before .before .before .before .before .before .before .before .before .before .before .before .before .before .before .before .before .before .before .stack5 in
     let at-build = c .before .before .before .before .before .before .before .before .before .before .before .before .before .before .before .before .before .before .before .before .before .before .before .before .before .before .before .before .before .before .before .before .before .before .before .before .before .before .build in
-    combine .kept .1 .0 ∙ (stack5 .given .1) ∙ ((at-build) .kept .1 .1 .1 .0)
+    combine .kept .1 .0 ∙ (stack5 .given .1) ∙ (at-build .kept .1 .1 .1 .0)
 
 build-same-length-12 : (t : ℕ) → build-lts.Need-same-length-12 (claims t) (build-at t) build.Post
 build-same-length-12 t c =
     let combine = c .before .before .before .before .before .before .before .before .before .combine in
     let build2 = c .before .before .before .before .before .before .before .before .before .before .before .before .before .before .before .before .before .before .before .before .before .before .build2 in
     let at-build = c .before .before .before .before .before .before .before .before .before .before .before .before .before .before .before .before .before .before .before .before .before .before .before .before .before .before .before .before .before .before .before .before .before .before .before .before .before .before .build in
-    combine .kept .1 .1 .1 .1 .0 ∙ ((build2) .kept .1 .1 .1 .1 .0 ∙ ((at-build) .kept .1 .1 .1 .1 .0))
+    combine .kept .1 .1 .1 .1 .0 ∙ (build2 .kept .1 .1 .1 .1 .0 ∙ (at-build .kept .1 .1 .1 .1 .0))
 
 build-same-length-13 : (t : ℕ) → build-lts.Need-same-length-13 (claims t) (build-at t) build.Post
 build-same-length-13 t c =
     let combine = c .before .before .before .before .before .before .before .before .before .combine in
     let build2 = c .before .before .before .before .before .before .before .before .before .before .before .before .before .before .before .before .before .before .before .before .before .before .build2 in
     let at-build = c .before .before .before .before .before .before .before .before .before .before .before .before .before .before .before .before .before .before .before .before .before .before .before .before .before .before .before .before .before .before .before .before .before .before .before .before .before .before .build in
-    combine .kept .1 .1 .1 .1 .1 .0 ∙ ((build2) .kept .1 .1 .1 .1 .1 .0 ∙ ((at-build) .kept .1 .1 .1 .1 .1 .0))
+    combine .kept .1 .1 .1 .1 .1 .0 ∙ (build2 .kept .1 .1 .1 .1 .1 .0 ∙ (at-build .kept .1 .1 .1 .1 .1 .0))
 
 build-same-length-14 : (t : ℕ) → build-lts.Need-same-length-14 (claims t) (build-at t) build.Post
 build-same-length-14 t c =
     let combine = c .before .before .before .before .before .before .before .before .before .combine in
     let build2 = c .before .before .before .before .before .before .before .before .before .before .before .before .before .before .before .before .before .before .before .before .before .before .build2 in
     let at-build = c .before .before .before .before .before .before .before .before .before .before .before .before .before .before .before .before .before .before .before .before .before .before .before .before .before .before .before .before .before .before .before .before .before .before .before .before .before .before .build in
-    combine .kept .1 .1 .1 .1 .1 .1 .0 ∙ ((build2) .kept .1 .1 .1 .1 .1 .1 .0 ∙ ((at-build) .kept .1 .1 .1 .1 .1 .1 .0))
+    combine .kept .1 .1 .1 .1 .1 .1 .0 ∙ (build2 .kept .1 .1 .1 .1 .1 .1 .0 ∙ (at-build .kept .1 .1 .1 .1 .1 .1 .0))
 
 build-returns-5 : (t : ℕ) → build-lts.Need-returns-5 (claims t) (build-at t) build.Post
 build-returns-5 t c =
     let combine = c .before .before .before .before .before .before .before .before .before .combine in
-    let before-8 = c .before .before .before .before .before .before .before .before .before .before .before .before .before .before .before .before .before .before .before .before .before in
-    let before-7 = c .before .before .before .before .before .before .before .before .before .before .before .before .before .before .before .before .before .before .before .before .before .before in
-    let before-6 = c .before .before .before .before .before .before .before .before .before .before .before .before .before .before .before .before .before .before .before .before .before .before .before .before .before .before .before in
-    let before-4 = c .before .before .before .before .before .before .before .before .before .before .before .before .before .before .before .before .before .before .before .before .before .before .before .before .before .before .before .before .before in
-    let before-5 = c .before .before .before .before .before .before .before .before .before .before .before .before .before .before .before .before .before .before .before .before .before .before .before .before .before .before .before .before .before .before .before .before .before .before .before .before .before .before in
-    let before-3 = c .before .before .before .before .before .before .before .before .before .before .before .before .before .before .before .before .before .before .before .before .before .before .before .before .before .before .before .before .before .before .before .before .before .before .before .before .before .before .before .before .before .before .before .before .before in
-    let at-before = c .before .before .before .before .before .before .before .before .before .before .before .before .before .before .before .before .before .before .before .before .before .before .before .before .before .before .before .before .before .before .before .before .before .before .before .before .before .before .before .before .before .before .before .before .before .before in
+    let earlier-7 = c .before .before .before .before .before .before .before .before .before .before .before .before .before .before .before .before .before .before .before .before .before in
+    let earlier-6 = c .before .before .before .before .before .before .before .before .before .before .before .before .before .before .before .before .before .before .before .before .before .before in
+    let earlier-5 = c .before .before .before .before .before .before .before .before .before .before .before .before .before .before .before .before .before .before .before .before .before .before .before .before .before .before .before in
+    let earlier-3 = c .before .before .before .before .before .before .before .before .before .before .before .before .before .before .before .before .before .before .before .before .before .before .before .before .before .before .before .before .before in
+    let earlier-4 = c .before .before .before .before .before .before .before .before .before .before .before .before .before .before .before .before .before .before .before .before .before .before .before .before .before .before .before .before .before .before .before .before .before .before .before .before .before .before in
+    let earlier-2 = c .before .before .before .before .before .before .before .before .before .before .before .before .before .before .before .before .before .before .before .before .before .before .before .before .before .before .before .before .before .before .before .before .before .before .before .before .before .before .before .before .before .before .before .before .before in
+    let earlier = c .before .before .before .before .before .before .before .before .before .before .before .before .before .before .before .before .before .before .before .before .before .before .before .before .before .before .before .before .before .before .before .before .before .before .before .before .before .before .before .before .before .before .before .before .before .before in
     let head-of = c .before .before .before .before .before .before .before .before .before .before .before .before .before .before .before .before .before .before .before .before .before .before .before .before .before .before .before .before .before .before .before .before .before .before .before .before .before .before .before .before .before .before .before .before .before .before .head-of in
-    let before = c .before .before .before .before .before .before .before .before .before .before .before .before .before .before .before .before .before .before .before .before .before .before .before .before .before .before .before .before .before .before .before .before .before .before .before .before .before .before .before .before .before .before .before .before .before .before .before .before .before .before .before .before .before in
-    finished (((before) .pre .1) .stands) (combine-gives ((before) .pre .1 .x) ((before) .pre .1 .rest) ((head-is t (at-before)) .is-kind) (node t (before-3)) (not-power t (before-4)) ((head-is t (at-before)) .onto .later) (done t (before-5)) (no-close t (before-6)) (done-2 t (before-7)) (both-made (both-at t (before-8)) ((head-of) .result .kind) (combine .ensures)) (c .past3 .ensures))
+    let start = c .before .before .before .before .before .before .before .before .before .before .before .before .before .before .before .before .before .before .before .before .before .before .before .before .before .before .before .before .before .before .before .before .before .before .before .before .before .before .before .before .before .before .before .before .before .before .before .before .before .before .before .before .before in
+    finished (start .pre .1 .stands) (combine-gives (start .pre .1 .x) (start .pre .1 .rest) ((head-is t earlier) .is-kind) (node t earlier-2) (not-power t earlier-3) ((head-is t earlier) .onto .later) (done t earlier-4) (no-close t earlier-5) (done-2 t earlier-6) (both-made (both-at t earlier-7) (head-of .result .kind) (combine .ensures)) (c .past3 .ensures))
 
 pub +build-spec : {M : Type 1} → statement M
 +build-spec = close μ-build λ t. build-lts.spec (claims t) (build-at t)

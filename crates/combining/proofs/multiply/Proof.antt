@@ -38,16 +38,16 @@ slice-reshare-prefix-copy c = begins-le (made (c .before .before .before .before
 
 slice-aggregate-copy : tie.Need-slice-aggregate-copy
 slice-aggregate-copy c =
-    let before = c .before .before .before .before .before .before .before in
     let product-parts = c .before .before .before .before .before .before .before .product-parts in
-    sym (length-take-le (product-parts .result) (product-parts .last .1 .1 .0) (begins-le (made (before))))
+    let earlier = c .before .before .before .before .before .before .before in
+    sym (length-take-le (product-parts .result) (product-parts .last .1 .1 .0) (begins-le (made earlier)))
 
 copy-requires : tie.Need-copy-requires
 copy-requires c κs =
-    let before = c .before .before .before .before .before .before .before .before in
     let product-parts = c .before .before .before .before .before .before .before .before .product-parts in
+    let earlier = c .before .before .before .before .before .before .before .before in
     let start = c .before .before .before .before .before .before .before .before .before .before .before .before .before .before .before .before .before in
-    omega (arith, length-take-le (product-parts .result) (product-parts .last .1 .1 .0) (begins-le (made (before))), made (before) .size, start .pre .1 .1)
+    omega (arith, length-take-le (product-parts .result) (product-parts .last .1 .1 .0) (begins-le (made earlier)), made (earlier) .size, start .pre .1 .1)
 
 same-length : tie.Need-same-length
 same-length c = search needs
@@ -63,10 +63,10 @@ same-length-4 c = search needs
 
 returns : tie.Need-returns
 returns c =
-    let before = c .before .before .before .before .before .before .before .before .before .before .before in
     let product-parts = c .before .before .before .before .before .before .before .before .before .before .before .product-parts in
+    let earlier = c .before .before .before .before .before .before .before .before .before .before .before in
     let start = c .before .before .before .before .before .before .before .before .before .before .before .before .before .before .before .before .before .before .before .before in
-    copied-front (drop (length (take (product-parts .result) (product-parts .last .1 .1 .0))) (start .args .stack .now)) (made (before)) (c .before .before .copy .ensures)
+    copied-front (drop (length (take (product-parts .result) (product-parts .last .1 .1 .0))) (start .args .stack .now)) (made earlier) (c .before .before .copy .ensures)
 
 pub multiply-spec : {M : Type 1} → statement M
 multiply-spec =

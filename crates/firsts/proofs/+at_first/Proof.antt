@@ -60,9 +60,10 @@ lent t c = (c .at-first .kept .1 .1 .1 .0, c .at-first .kept .1 .1 .1 .1 .0)
 n-size : (t : ℕ) (c : After-at-first·at-first t) →
     (c .at-first .result) ≤ length (first (c .before .before .before .before .before .before .before .before .before .before .args .x .now))
 n-size t c =
-    let before = c .before .before .before .before .before .before .before .before .before .before in
-    let s = before in
-    let v = is-pow t (c .before .before .before .before) in
+    let earlier-2 = c .before .before .before .before in
+    let earlier = c .before .before .before .before .before .before .before .before .before .before in
+    let s = earlier in
+    let v = is-pow t earlier-2 in
     omega (arith, c .at-first .ensures .size, first-length (s .args .width) (dec (s .args .width) (first (s .args .x .now))) (s .args .a), codes-length (v .left))
 
 made : (t : ℕ) (c : After-at-first·at-first t) →
@@ -93,10 +94,10 @@ m-size : (t : ℕ) (c : After-scale·at-first t) →
     length (take (c .scale .result) (c .scale .last .1 .1 .1 .0)) ≤ length
     (first (c .before .before .before .before .before .before .before .before .before .before .before .before .before .before .before .before .before .before .args .x .now))
 m-size t c =
-    let at-before = c .before .before .before .before .before .before .before .before .before .before .before .before in
-    let before = c .before .before .before .before .before .before .before .before .before .before .before .before .before .before .before .before .before .before in
-    let s = before in
-    let v = is-pow t (at-before) in
+    let earlier-2 = c .before .before .before .before .before .before .before .before .before .before .before .before in
+    let earlier = c .before .before .before .before .before .before .before .before .before .before .before .before .before .before .before .before .before .before in
+    let s = earlier in
+    let v = is-pow t earlier-2 in
     omega (arith, codes-length (made2 t c), scale-length (s .args .width) (c .before .before .before .leaf-power .result) (atFirstOf (s .args .width) (dec (s .args .width) (first (s .args .x .now))) (s .args .a)), first-length (s .args .width) (dec (s .args .width) (first (s .args .x .now))) (s .args .a), codes-length (v .left))
 
 pub +at-first-spec : {M : Type 1} → statement M

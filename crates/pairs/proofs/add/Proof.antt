@@ -41,8 +41,9 @@ slice-aggregate-copy c = sym (length-take-le (c .before .before .before .sum-par
 copy-requires : tie.Need-copy-requires
 copy-requires c κs =
     let sum-parts = c .before .before .before .before .sum-parts in
+    let earlier = c .before .before .before .before in
     let start = c .before .before .before .before .before .before .before .before .before in
-    omega (arith, length-take-le (sum-parts .result) (sum-parts .last .1 .1 .0) (begins-le (made (c .before .before .before .before))), made (c .before .before .before .before) .size, sum-fits (start .pre .0))
+    omega (arith, length-take-le (sum-parts .result) (sum-parts .last .1 .1 .0) (begins-le (made earlier)), made (earlier) .size, sum-fits (start .pre .0))
 
 same-length : tie.Need-same-length
 same-length c = search needs
@@ -52,10 +53,10 @@ same-length-2 c = search needs
 
 returns : tie.Need-returns
 returns c =
-    let before = c .before .before .before .before .before .before .before in
     let sum-parts = c .before .before .before .before .before .before .before .sum-parts in
+    let earlier = c .before .before .before .before .before .before .before in
     let start = c .before .before .before .before .before .before .before .before .before .before .before .before in
-    copied-front (drop (length (take (sum-parts .result) (sum-parts .last .1 .1 .0))) (start .args .stack .now)) (made (before)) (c .before .before .copy .ensures)
+    copied-front (drop (length (take (sum-parts .result) (sum-parts .last .1 .1 .0))) (start .args .stack .now)) (made earlier) (c .before .before .copy .ensures)
 
 pub add-spec : {M : Type 1} → statement M
 add-spec =

@@ -52,8 +52,8 @@ After-carry2·carry t = carry-lts.After-carry2 (leaf-carried-reads.Asked, leaf-c
 n-size : (t : ℕ) (c : After-carry2·carry t) →
     (c .carry2 .result) ≤ length (first (c .before .before .before .before .before .before .before .before .args .y .now))
 n-size t c =
-    let before = c .before .before .before .before .before .before .before .before in
-    let s = before in
+    let earlier = c .before .before .before .before .before .before .before .before in
+    let s = earlier in
     let v = is-pow t (c .before .before .before) in
     omega (arith, c .carry2 .ensures .size, carry-length (s .args .from) (s .args .width) (s .args .a) (dec (s .args .from) (first (s .args .y .now))), codes-length (v .left))
 
@@ -64,10 +64,10 @@ m-size : (t : ℕ) (c : After-out4·carry t) →
     (c .before .carry3 .result) ≤ length
     (rest (c .before .before .before .before .before .before .before .before .before .before .before .before .before .before .args .y .now))
 m-size t c =
-    let at-before = c .before .before .before .before .before .before .before .before .before in
-    let before = c .before .before .before .before .before .before .before .before .before .before .before .before .before .before in
-    let s = before in
-    let v = is-pow t (at-before) in
+    let earlier-2 = c .before .before .before .before .before .before .before .before .before in
+    let earlier = c .before .before .before .before .before .before .before .before .before .before .before .before .before .before in
+    let s = earlier in
+    let v = is-pow t earlier-2 in
     omega (arith, c .before .carry3 .ensures .size, carry-length (s .args .from) (s .args .width) (s .args .a) (dec (s .args .from) (rest (s .args .y .now))), codes-length (v .right))
 
 pub +carry-spec : {M : Type 1} → statement M
