@@ -46,56 +46,81 @@ abbrev claims : ℕ → build-lts.Claims
 claims t = (head-of-reads.Asked, head-of-reads.Learnt, leaf-form-reads.Asked, leaf-form-reads.Learnt, zero-power-reads.Asked, zero-power-reads.Learnt, build-below t, build.Post, exponent-at-reads.Asked, exponent-at-reads.Learnt, raise-reads.Asked, raise-reads.Learnt, past-reads.Asked, past-reads.Learnt, negate-front-reads.Asked, negate-front-reads.Learnt, combine-reads.Asked, combine-reads.Learnt)
 
 -- what the first tokens say of the term
-head-is : (t : ℕ) (c : build-lts.After-head-of (claims t) (build-at t) build.Post) → HeadIs (now (c .before .before .before .before .before .before .before .args .s)) (c .before .before .before .before .before .before .before .args .at) (c .head-of .result .kind) (c .head-of .result .from) (c .head-of .result .next) (c .before .before .before .before .before .before .before .pre .1 .x) (c .before .before .before .before .before .before .before .pre .1 .rest)
+head-is : (t : ℕ) (c : build-lts.After-head-of (claims t) (build-at t) build.Post) →
+    let start = c .before .before .before .before .before .before .before in
+    HeadIs (now (start .args .s)) (start .args .at) (c .head-of .result .kind) (c .head-of .result .from) (c .head-of .result .next) (start .pre .1 .x) (start .pre .1 .rest)
 head-is t c = head (c .before .before .before .before .before .before .before .pre .1) (c .head-of .ensures)
 
-node : (t : ℕ) (c : build-lts.Else1 (claims t) (build-at t) build.Post) → kindOf (c .before .before .before .before .before .before .before .before .pre .1 .x) ≡ 0 → ⊥
+node : (t : ℕ) (c : build-lts.Else1 (claims t) (build-at t) build.Post) →
+    let start = c .before .before .before .before .before .before .before .before in
+    kindOf (start .pre .1 .x) ≡ 0 → ⊥
 node t c = λ q. (c .if1 .left) ((head-is t (c .before)) .is-kind ∙ q)
 
 -- the first operand, and what is built of it
-first : (t : ℕ) (c : build-lts.After-zero-power (claims t) (build-at t) build.Post) → Stands (now (c .before .before .before .before .before .before .before .before .before .args .row)) (now (c .before .before .before .before .before .before .before .before .before .args .s)) (c .before .before .head-of .result .next) (firstOf (c .before .before .before .before .before .before .before .before .before .pre .1 .x)) (tailOf (c .before .before .before .before .before .before .before .before .before .pre .1 .x) ++ (c .before .before .before .before .before .before .before .before .before .pre .1 .rest))
+first : (t : ℕ) (c : build-lts.After-zero-power (claims t) (build-at t) build.Post) →
+    let start = c .before .before .before .before .before .before .before .before .before in
+    Stands (now (start .args .row)) (now (start .args .s)) (c .before .before .head-of .result .next) (firstOf (start .pre .1 .x)) (tailOf (start .pre .1 .x) ++ (start .pre .1 .rest))
 first t c =
     let start = c .before .before .before .before .before .before .before .before .before in
     first-of (start .pre .1) (c .before .before .head-of .ensures) (c .before .if1 .left) (c .zero-power .ensures)
 
-done : (t : ℕ) (c : build-lts.After-build (claims t) (build-at t) build.Post) → Done (now (c .before .before .before .before .before .before .before .before .before .before .before .before .before .before .before .args .row)) (now (c .before .before .before .before .before .before .before .before .before .before .before .before .before .before .before .args .s)) (c .before .before .before .before .before .before .before .before .head-of .result .next) (c .build .result .words) (c .build .result .next) (c .build .last .1 .1 .1 .0) (firstOf (c .before .before .before .before .before .before .before .before .before .before .before .before .before .before .before .pre .1 .x)) (tailOf (c .before .before .before .before .before .before .before .before .before .before .before .before .before .before .before .pre .1 .x) ++ (c .before .before .before .before .before .before .before .before .before .before .before .before .before .before .before .pre .1 .rest))
+done : (t : ℕ) (c : build-lts.After-build (claims t) (build-at t) build.Post) →
+    let head-of = c .before .before .before .before .before .before .before .before .head-of in
+    let start = c .before .before .before .before .before .before .before .before .before .before .before .before .before .before .before in
+    Done (now (start .args .row)) (now (start .args .s)) (head-of .result .next) (c .build .result .words) (c .build .result .next) (c .build .last .1 .1 .1 .0) (firstOf (start .pre .1 .x)) (tailOf (start .pre .1 .x) ++ (start .pre .1 .rest))
 done t c =
     let earlier = c .before .before .before .before .before .before in
     let start = c .before .before .before .before .before .before .before .before .before .before .before .before .before .before .before in
     (c .build) .ensures (firstOf (start .pre .1 .x)) (tailOf (start .pre .1 .x) ++ (start .pre .1 .rest)) (first t earlier)
 
 -- by the operator
-is-power : (t : ℕ) (c : build-lts.Then3 (claims t) (build-at t) build.Post) → kindOf (c .before .before .before .before .before .before .before .before .before .before .before .before .before .before .before .before .before .before .before .before .before .before .before .before .pre .1 .x) ≡ 4
+is-power : (t : ℕ) (c : build-lts.Then3 (claims t) (build-at t) build.Post) →
+    let start = c .before .before .before .before .before .before .before .before .before .before .before .before .before .before .before .before .before .before .before .before .before .before .before .before in
+    kindOf (start .pre .1 .x) ≡ 4
 is-power t c =
     let earlier = c .before .before .before .before .before .before .before .before .before .before .before .before .before .before .before .before .before in
     sym ((head-is t earlier) .is-kind) ∙ c .if3 .taken
 
-not-power : (t : ℕ) (c : build-lts.Else3 (claims t) (build-at t) build.Post) → kindOf (c .before .before .before .before .before .before .before .before .before .before .before .before .before .before .before .before .before .before .before .before .before .before .before .before .pre .1 .x) ≡ 4 → ⊥
+not-power : (t : ℕ) (c : build-lts.Else3 (claims t) (build-at t) build.Post) →
+    let start = c .before .before .before .before .before .before .before .before .before .before .before .before .before .before .before .before .before .before .before .before .before .before .before .before in
+    kindOf (start .pre .1 .x) ≡ 4 → ⊥
 not-power t c =
     let earlier = c .before .before .before .before .before .before .before .before .before .before .before .before .before .before .before .before .before in
     λ q. c .if3 .left ((head-is t earlier) .is-kind ∙ q)
 
 -- the second operand, and what is built of it
-no-close : (t : ℕ) (c : build-lts.Else4 (claims t) (build-at t) build.Post) → Passed (now (c .before .before .before .before .before .before .before .before .before .before .before .before .before .before .before .before .before .before .before .before .before .before .before .before .before .before .args .s)) (c .before .before .before .before .before .before .before .before .before .before .before .build .result .next) 0
+no-close : (t : ℕ) (c : build-lts.Else4 (claims t) (build-at t) build.Post) →
+    let at-build = c .before .before .before .before .before .before .before .before .before .before .before .build in
+    let start = c .before .before .before .before .before .before .before .before .before .before .before .before .before .before .before .before .before .before .before .before .before .before .before .before .before .before in
+    Passed (now (start .args .s)) (at-build .result .next) 0
 no-close t c =
     let at-build = c .before .before .before .before .before .before .before .before .before .before .before .build in
     let start = c .before .before .before .before .before .before .before .before .before .before .before .before .before .before .before .before .before .before .before .before .before .before .before .before .before .before in
     subst (Passed (now (start .args .s)) (at-build .result .next)) (c .if4 .left) (c .before .past2 .ensures)
 
-second : (t : ℕ) (c : build-lts.Else4 (claims t) (build-at t) build.Post) → Stands (now (c .before .before .before .before .before .before .before .before .before .before .before .before .before .before .before .before .before .before .before .before .before .before .before .before .before .before .args .row)) (now (c .before .before .before .before .before .before .before .before .before .before .before .before .before .before .before .before .before .before .before .before .before .before .before .before .before .before .args .s)) (c .before .before .before .before .before .before .before .before .before .before .before .build .result .next) (secondOf (c .before .before .before .before .before .before .before .before .before .before .before .before .before .before .before .before .before .before .before .before .before .before .before .before .before .before .pre .1 .x)) (closeOf (c .before .before .before .before .before .before .before .before .before .before .before .before .before .before .before .before .before .before .before .before .before .before .before .before .before .before .pre .1 .x) ++ (c .before .before .before .before .before .before .before .before .before .before .before .before .before .before .before .before .before .before .before .before .before .before .before .before .before .before .pre .1 .rest))
+second : (t : ℕ) (c : build-lts.Else4 (claims t) (build-at t) build.Post) →
+    let at-build = c .before .before .before .before .before .before .before .before .before .before .before .build in
+    let start = c .before .before .before .before .before .before .before .before .before .before .before .before .before .before .before .before .before .before .before .before .before .before .before .before .before .before in
+    Stands (now (start .args .row)) (now (start .args .s)) (at-build .result .next) (secondOf (start .pre .1 .x)) (closeOf (start .pre .1 .x) ++ (start .pre .1 .rest))
 second t c =
     let earlier-2 = c .before .before .before .before .before .before .before .before .before .before .before in
     let earlier = c .before .before .before .before .before .before .before .before .before .before .before .before .before .before .before .before .before .before in
     let start = c .before .before .before .before .before .before .before .before .before .before .before .before .before .before .before .before .before .before .before .before .before .before .before .before .before .before in
     second-of (start .pre .1 .x) (start .pre .1 .rest) (node t earlier) (not-power t (c .before .before)) (start .pre .1 .stands) (done t earlier-2) (no-close t c)
 
-done-2 : (t : ℕ) (c : build-lts.After-build2 (claims t) (build-at t) build.Post) → Done (now (c .before .before .before .before .before .before .before .before .before .before .before .before .before .before .before .before .before .before .before .before .before .before .before .before .before .before .before .before .before .before .before .args .row)) (now (c .before .before .before .before .before .before .before .before .before .before .before .before .before .before .before .before .before .before .before .before .before .before .before .before .before .before .before .before .before .before .before .args .s)) (c .before .before .before .before .before .before .before .before .before .before .before .before .before .before .before .before .build .result .next) (c .build2 .result .words) (c .build2 .result .next) (c .build2 .last .1 .1 .1 .0) (secondOf (c .before .before .before .before .before .before .before .before .before .before .before .before .before .before .before .before .before .before .before .before .before .before .before .before .before .before .before .before .before .before .before .pre .1 .x)) (closeOf (c .before .before .before .before .before .before .before .before .before .before .before .before .before .before .before .before .before .before .before .before .before .before .before .before .before .before .before .before .before .before .before .pre .1 .x) ++ (c .before .before .before .before .before .before .before .before .before .before .before .before .before .before .before .before .before .before .before .before .before .before .before .before .before .before .before .before .before .before .before .pre .1 .rest))
+done-2 : (t : ℕ) (c : build-lts.After-build2 (claims t) (build-at t) build.Post) →
+    let at-build = c .before .before .before .before .before .before .before .before .before .before .before .before .before .before .before .before .build in
+    let start = c .before .before .before .before .before .before .before .before .before .before .before .before .before .before .before .before .before .before .before .before .before .before .before .before .before .before .before .before .before .before .before in
+    Done (now (start .args .row)) (now (start .args .s)) (at-build .result .next) (c .build2 .result .words) (c .build2 .result .next) (c .build2 .last .1 .1 .1 .0) (secondOf (start .pre .1 .x)) (closeOf (start .pre .1 .x) ++ (start .pre .1 .rest))
 done-2 t c =
     let earlier = c .before .before .before .before .before in
     let start = c .before .before .before .before .before .before .before .before .before .before .before .before .before .before .before .before .before .before .before .before .before .before .before .before .before .before .before .before .before .before .before in
     (c .build2) .ensures (secondOf (start .pre .1 .x)) (closeOf (start .pre .1 .x) ++ (start .pre .1 .rest)) (second t earlier)
 
-both-at : (t : ℕ) (c : build-lts.After-stack5 (claims t) (build-at t) build.Post) → Both (now (c .before .before .before .before .before .before .before .before .before .before .before .before .before .before .before .before .before .before .before .before .before .before .before .before .before .before .before .before .before .before .before .before .args .row)) (c .before .before .before .before .before .before .before .before .before .before .before .before .before .before .before .before .before .build .result .words) (c .before .build2 .result .words) (putMid (c .before .before .before .before .before .before .before .before .before .before .before .before .before .before .before .before .before .build .result .words) (length (c .before .before .before .before .before .before .before .before .before .before .before .before .before .before .before .before .before .build .last .1 .1 .1 .0) - (c .before .before .before .before .before .before .before .before .before .before .before .before .before .before .before .before .before .build .result .words)) (c .before .before .before .before .before .before .before .before .before .before .before .before .before .before .before .before .before .build .last .1 .1 .1 .0) (c .before .build2 .last .1 .1 .1 .0)) (firstOf (c .before .before .before .before .before .before .before .before .before .before .before .before .before .before .before .before .before .before .before .before .before .before .before .before .before .before .before .before .before .before .before .before .pre .1 .x)) (secondOf (c .before .before .before .before .before .before .before .before .before .before .before .before .before .before .before .before .before .before .before .before .before .before .before .before .before .before .before .before .before .before .before .before .pre .1 .x))
+both-at : (t : ℕ) (c : build-lts.After-stack5 (claims t) (build-at t) build.Post) →
+    let at-build = c .before .before .before .before .before .before .before .before .before .before .before .before .before .before .before .before .before .build in
+    let start = c .before .before .before .before .before .before .before .before .before .before .before .before .before .before .before .before .before .before .before .before .before .before .before .before .before .before .before .before .before .before .before .before in
+    Both (now (start .args .row)) (at-build .result .words) (c .before .build2 .result .words) (putMid (at-build .result .words) (length (at-build .last .1 .1 .1 .0) - (at-build .result .words)) (at-build .last .1 .1 .1 .0) (c .before .build2 .last .1 .1 .1 .0)) (firstOf (start .pre .1 .x)) (secondOf (start .pre .1 .x))
 both-at t c =
     let earlier-3 = c .before .before .before .before .before .before in
     let earlier-2 = c .before .before .before .before .before .before .before .before .before .before .before .before .before .before .before .before .before in

@@ -14,7 +14,9 @@ use borrow.Author.Needs.{needs}
 use Rattle.combining.proofs.multiply.Statement.{statement}
 use Rattle.combining.proofs.multiply.Tie as tie
 
-made : (c : tie.After-product-parts) → Begins (c .product-parts .result) (enc 0 (prodOf 0 (left (c .before .before .before .before .before .before .before .before .before .args .a) (c .before .before .before .before .before .before .before .before .before .args .stack .now)) (right (c .before .before .before .before .before .before .before .before .before .args .a) (c .before .before .before .before .before .before .before .before .before .args .b) (c .before .before .before .before .before .before .before .before .before .args .stack .now)))) (c .product-parts .last .1 .1 .0)
+made : (c : tie.After-product-parts) →
+    let start = c .before .before .before .before .before .before .before .before .before in
+    Begins (c .product-parts .result) (enc 0 (prodOf 0 (left (start .args .a) (start .args .stack .now)) (right (start .args .a) (start .args .b) (start .args .stack .now)))) (c .product-parts .last .1 .1 .0)
 made c =
     let start = c .before .before .before .before .before .before .before .before .before in
     begins-as (c .product-parts .ensures) (both-product (start .args .a) (start .args .b) (start .args .stack .now))

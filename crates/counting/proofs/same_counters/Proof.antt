@@ -24,17 +24,23 @@ reduce-length : (w : ℕ) (x : Form (Leaf 0)) → length (enc w (reduceOf w x)) 
 reduce-length w x = subst (λ h. length (enc w h) ≤ length (enc 0 x)) (carry-reduce w x) (carry-length 0 w 1 x)
 
 -- ---- what the tables hold after each call
-left : (c : tie.After-reduce) → let s = c .before .before .before .before .before .before .before in Codes (s .args .width) (reduceOf (s .args .width) (dec 0 (s .args .x .now))) (take (c .reduce .result) (c .reduce .last .1 .1 .0))
+left : (c : tie.After-reduce) →
+    let earlier = c .before .before .before .before .before .before .before in
+    let s = earlier in Codes (s .args .width) (reduceOf (s .args .width) (dec 0 (s .args .x .now))) (take (c .reduce .result) (c .reduce .last .1 .1 .0))
 left c =
     let earlier = c .before .before .before .before .before .before .before in
     let s = earlier in front-codes (c .reduce .ensures) (reduce-good (s .args .width) (dec 0 (s .args .x .now)) (s .pre .0 .0 .good))
 
-right : (c : tie.After-reduce2) → let s = c .before .before .before .before .before .before .before .before .before .before .before in Codes (s .args .width) (reduceOf (s .args .width) (dec 0 (s .args .y .now))) (take (c .reduce2 .result) (c .reduce2 .last .1 .1 .0))
+right : (c : tie.After-reduce2) →
+    let earlier = c .before .before .before .before .before .before .before .before .before .before .before in
+    let s = earlier in Codes (s .args .width) (reduceOf (s .args .width) (dec 0 (s .args .y .now))) (take (c .reduce2 .result) (c .reduce2 .last .1 .1 .0))
 right c =
     let earlier = c .before .before .before .before .before .before .before .before .before .before .before in
     let s = earlier in front-codes (c .reduce2 .ensures) (reduce-good (s .args .width) (dec 0 (s .args .y .now)) (s .pre .0 .1 .good))
 
-negative : (c : tie.After-negate) → let s = c .before .before .before .before .before .before .before .before .before .before .before .before .before .before .before .before in
+negative : (c : tie.After-negate) →
+    let earlier = c .before .before .before .before .before .before .before .before .before .before .before .before .before .before .before .before in
+    let s = earlier in
     Codes (s .args .width) (negateOf (s .args .width) (reduceOf (s .args .width) (dec 0 (s .args .y .now)))) (take (c .negate .result) (c .negate .last .1 .1 .0))
 negative c =
     let earlier-2 = c .before .before .before .before .before in
@@ -42,7 +48,9 @@ negative c =
     let s = earlier in
     front-codes (begins-as (c .negate .ensures) (ap (λ h. enc (s .args .width) (negateOf (s .args .width) h)) (dec-enc (right earlier-2)))) (negate-good (right (earlier-2) .good))
 
-difference : (c : tie.After-sum) → let s = c .before .before .before .before .before .before .before .before .before .before .before .before .before .before .before .before .before .before .before .before .before .before in
+difference : (c : tie.After-sum) →
+    let earlier = c .before .before .before .before .before .before .before .before .before .before .before .before .before .before .before .before .before .before .before .before .before .before in
+    let s = earlier in
     Codes (s .args .width) (sumOf (s .args .width) (reduceOf (s .args .width) (dec 0 (s .args .x .now))) (negateOf (s .args .width) (reduceOf (s .args .width) (dec 0 (s .args .y .now)))))
     (take (c .sum .result) (c .sum .last .1 .1 .1 .0))
 difference c =
@@ -55,17 +63,23 @@ difference c =
     front-codes (begins-as (c .sum .ensures) (ap₂ (λ g h. enc (s .args .width) (sumOf (s .args .width) g h)) (dec-enc l) (dec-enc r))) (sum-good (l .good) (r .good))
 
 -- ---- how long they are
-left-size : (c : tie.After-reduce) → length (take (c .reduce .result) (c .reduce .last .1 .1 .0)) ≤ length (c .before .before .before .before .before .before .before .args .x .now)
+left-size : (c : tie.After-reduce) →
+    let start = c .before .before .before .before .before .before .before in
+    length (take (c .reduce .result) (c .reduce .last .1 .1 .0)) ≤ length (start .args .x .now)
 left-size c =
     let earlier = c .before .before .before .before .before .before .before in
     let s = earlier in omega (arith, codes-length (left c), reduce-length (s .args .width) (dec 0 (s .args .x .now)), codes-length (s .pre .0 .0))
 
-right-size : (c : tie.After-reduce2) → length (take (c .reduce2 .result) (c .reduce2 .last .1 .1 .0)) ≤ length (c .before .before .before .before .before .before .before .before .before .before .before .args .y .now)
+right-size : (c : tie.After-reduce2) →
+    let start = c .before .before .before .before .before .before .before .before .before .before .before in
+    length (take (c .reduce2 .result) (c .reduce2 .last .1 .1 .0)) ≤ length (start .args .y .now)
 right-size c =
     let earlier = c .before .before .before .before .before .before .before .before .before .before .before in
     let s = earlier in omega (arith, codes-length (right c), reduce-length (s .args .width) (dec 0 (s .args .y .now)), codes-length (s .pre .0 .1))
 
-negative-size : (c : tie.After-negate) → length (take (c .negate .result) (c .negate .last .1 .1 .0)) ≤ length (c .before .before .before .before .before .before .before .before .before .before .before .before .before .before .before .before .args .y .now)
+negative-size : (c : tie.After-negate) →
+    let start = c .before .before .before .before .before .before .before .before .before .before .before .before .before .before .before .before in
+    length (take (c .negate .result) (c .negate .last .1 .1 .0)) ≤ length (start .args .y .now)
 negative-size c =
     let earlier-2 = c .before .before .before .before .before in
     let earlier = c .before .before .before .before .before .before .before .before .before .before .before .before .before .before .before .before in
@@ -80,7 +94,10 @@ same-counters-spec =
     (λ c κs. let s = c .before .before .before .before .before .before .before .before .before .before in (s .pre .0 .1, omega (arith, some (s .pre .0 .0), s .pre .1 .1 .0)))
     (λ c. begins-le (c .before .before .reduce2 .ensures))
     (λ c. let s = c .before .before .before in sym (length-take-le (s .reduce2 .result) (s .reduce2 .last .1 .1 .0) (begins-le (s .reduce2 .ensures))))
-    (λ c κs. (coded (right (c .before .before .before .before)), omega (arith, right-size (c .before .before .before .before), c .before .before .before .before .before .before .before .before .before .before .before .before .before .before .before .pre .1 .1 .1)))
+    (λ c κs.
+    let earlier = c .before .before .before .before in
+    let start = c .before .before .before .before .before .before .before .before .before .before .before .before .before .before .before in
+    (coded (right earlier), omega (arith, right-size earlier, start .pre .1 .1 .1)))
     (λ c. begins-le (c .before .before .before .before .before .before .before .before .before .before .before .reduce .ensures))
     (λ c. let s = c .before .before .before .before .before .before .before .before .before .before .before .before in sym (length-take-le (s .reduce .result) (s .reduce .last .1 .1 .0) (begins-le (s .reduce .ensures))))
     (λ c. begins-le (c .before .before .before .negate .ensures))

@@ -35,12 +35,16 @@ abbrev claims : ℕ → build-at-lts.Claims
 claims t = (head-at-reads.Asked, head-at-reads.Learnt, leaf-word-reads.Asked, leaf-word-reads.Learnt, build-at-below t, build-at.Post)
 
 -- behind p: the head and p's code are not too long
-fits : (t : ℕ) (c : build-at-lts.After-build-at (claims t) (build-at-at t) build-at.Post) → NodeFits (length (c .before .before .before .before .before .before .args .out .now)) (c .build-at .result .words) (c .before .before .before .head-at .result .number)
+fits : (t : ℕ) (c : build-at-lts.After-build-at (claims t) (build-at-at t) build-at.Post) →
+    let start = c .before .before .before .before .before .before in
+    NodeFits (length (start .args .out .now)) (c .build-at .result .words) (c .before .before .before .head-at .result .number)
 fits t c =
     let start = c .before .before .before .before .before .before in
     node-fits (c .before .before .before .head-at .ensures) (c .build-at .ensures) (c .before .before .if1 .left) (start .pre .1)
 
-is-pow : (t : ℕ) (c : build-at-lts.Else2 (claims t) (build-at-at t) build-at.Post) → c .before .before .before .before .before .before .before .head-at .result .kind ≡ 3
+is-pow : (t : ℕ) (c : build-at-lts.Else2 (claims t) (build-at-at t) build-at.Post) →
+    let head-at = c .before .before .before .before .before .before .before .head-at in
+    head-at .result .kind ≡ 3
 is-pow t c =
     let if1 = c .before .before .before .before .before .before .if1 in
     let head-at = c .before .before .before .before .before .before .before .head-at in
@@ -55,7 +59,9 @@ table t c =
     let start = c .before .before .before .before .before .before .before .before .before .before in
     set (putMid 1 (length (start .args .out .now) - 1) (start .args .out .now) (at-build-at .last .1 .1 .0)) 0 (2147483648 + 64 * (at-build-at .result .words) + (head-at .result .number))
 
-table-length : (t : ℕ) (c : build-at-lts.Else2 (claims t) (build-at-at t) build-at.Post) → length (table t c) ≡ length (c .before .before .before .before .before .before .before .before .before .before .args .out .now)
+table-length : (t : ℕ) (c : build-at-lts.Else2 (claims t) (build-at-at t) build-at.Post) →
+    let start = c .before .before .before .before .before .before .before .before .before .before in
+    length (table t c) ≡ length (start .args .out .now)
 table-length t c = simp length-set (c .before .before .before .out .given .1)
 
 pub +build-at-spec : {M : Type 1} → statement M
@@ -66,7 +72,9 @@ pub +build-at-spec : {M : Type 1} → statement M
     (λ c. omega (arith, ready-room (c .before .before .before .before .before .pre .1)))
     (λ c. search needs)
     -- returns
-    (λ c. leaf-built (c .before .before .head-at .ensures) (c .before .if1 .taken) (c .before .before .before .before .before .args .out .now) (ready-room (c .before .before .before .before .before .pre .1)) _ (c .leaf-word .ensures))
+    (λ c.
+    let start = c .before .before .before .before .before in
+    leaf-built (c .before .before .head-at .ensures) (c .before .if1 .taken) (start .args .out .now) (ready-room (start .pre .1)) _ (c .leaf-word .ensures))
     (λ c. omega (arith, ready-room (c .before .before .before .before .pre .1)))
     (λ c. omega (arith, ready-room (c .before .before .before .before .pre .1)))
     (λ c. search needs)
@@ -75,18 +83,31 @@ pub +build-at-spec : {M : Type 1} → statement M
     let r = ready-standing (c .before .before .before .before .before .pre .1) in
     (omega (arith, c .before .before .before .before .before .pre .0, head-later (c .before .before .head-at .ensures) (c .before .if1 .left) r, standing-some r), ready-first (c .before .before .head-at .ensures) (c .before .if1 .left) _ (length-tail-part 1 (c .before .before .before .before .before .args .out .now)) (c .before .before .before .before .before .pre .1)))
     -- add-mid
-    (λ c. omega (arith, part-inside (c .before .before .before .before .before .before .head-at .ensures) (c .before .before .before .before .before .if1 .left) (ready-standing (c .before .before .before .before .before .before .before .before .before .pre .1)) _ (c .before .before .before .build-at .ensures .ends)))
+    (λ c.
+    let if1 = c .before .before .before .before .before .if1 in
+    let head-at = c .before .before .before .before .before .before .head-at in
+    let start = c .before .before .before .before .before .before .before .before .before in
+    omega (arith, part-inside (head-at .ensures) (if1 .left) (ready-standing (start .pre .1)) _ (c .before .before .before .build-at .ensures .ends)))
     (λ c. omega (arith, fits t (c .before .before .before .before)))
-    (λ c. omega (arith, ready-room (c .before .before .before .before .before .before .before .before .before .before .pre .1), c .before .before .before .out .given .1))
+    (λ c.
+    let start = c .before .before .before .before .before .before .before .before .before .before in
+    omega (arith, ready-room (start .pre .1), c .before .before .before .out .given .1))
     (λ c. omega (arith, fits t (c .before .before .before .before)))
     (λ c. simp length-set (c .before .before .before .out .given .1))
     -- returns-2
-    (λ c. pop-made (c .before .before .before .before .before .before .before .head-at .ensures) (c .before .before .before .before .build-at .ensures) (c .if2 .taken) (put-front (c .before .before .before .before .before .before .before .before .before .before .args .out .now) _ _ _ (fits t (c .before .before .before .before) .count) (c .before .before .before .out .given .1)))
+    (λ c.
+    let at-build-at = c .before .before .before .before .build-at in
+    let earlier = c .before .before .before .before in
+    let head-at = c .before .before .before .before .before .before .before .head-at in
+    let start = c .before .before .before .before .before .before .before .before .before .before in
+    pop-made (head-at .ensures) (at-build-at .ensures) (c .if2 .taken) (put-front (start .args .out .now) _ _ _ (fits t (earlier) .count) (c .before .before .before .out .given .1)))
     (λ c. omega (arith, fits t (c .before .before .before .before)))
     (λ c. omega (arith, fits t (c .before .before .before .before)))
     (λ c. omega (arith, fits t (c .before .before .before .before)))
     (λ c. omega (arith, fits t (c .before .before .before .before)))
-    (λ c. omega (arith, ready-room (c .before .before .before .before .before .before .before .before .before .before .pre .1), c .before .before .before .out .given .1))
+    (λ c.
+    let start = c .before .before .before .before .before .before .before .before .before .before in
+    omega (arith, ready-room (start .pre .1), c .before .before .before .out .given .1))
     (λ c. omega (arith, fits t (c .before .before .before .before)))
     (λ c. omega (arith, fits t (c .before .before .before .before)))
     (λ c. simp length-set (omega (arith, fits t (c .before .before .before .before), c .before .before .before .out .given .1)))
@@ -99,8 +120,27 @@ pub +build-at-spec : {M : Type 1} → statement M
     let n = 1 + c .before .before .before .before .before .build-at .result .words in
     (omega (arith, c .before .before .before .before .before .before .before .before .before .before .before .pre .0, head-later (c .before .before .before .before .before .before .before .before .head-at .ensures) (c .before .before .before .before .before .before .before .if1 .left) r, standing-some r, ends-inside _ (c .before .before .before .before .before .build-at .ensures .ends) f), ready-second (c .before .before .before .before .before .before .before .before .head-at .ensures) (c .before .before .before .before .before .build-at .ensures) (is-pow t (c .before)) _ (length-tail-part n (table t (c .before)) ∙ ap (λ k. k - n) (table-length t (c .before))) (c .before .before .before .before .before .before .before .before .before .before .before .pre .1)))
     -- add-t17
-    (λ c. omega (arith, (c .before .before .before .before .before .before .before .before .before .before .before .before .before .before .before .pre .1) .small, pow-count (c .before .before .before .before .before .before .before .before .before .before .before .before .head-at .ensures) (c .before .before .before .before .before .before .before .before .before .build-at .ensures) (is-pow t (c .before .before .before .before .before)) _ _ _ (c .before .before .before .build-at2 .ensures) (c .before .before .before .before .before .before .before .before .before .before .before .before .before .before .before .pre .1)))
-    (λ c. omega (arith, ends-inside _ (ends-pow (c .before .before .before .before .before .before .before .before .before .before .before .before .before .head-at .ensures) _ (c .before .before .before .before .before .before .before .before .before .before .build-at .ensures .ends) _ (is-pow t (c .before .before .before .before .before .before)) (c .before .before .before .before .build-at2 .ensures .ends)) (ready-standing (c .before .before .before .before .before .before .before .before .before .before .before .before .before .before .before .before .pre .1))))
+    (λ c.
+    let earlier = c .before .before .before .before .before in
+    let at-build-at = c .before .before .before .before .before .before .before .before .before .build-at in
+    let head-at = c .before .before .before .before .before .before .before .before .before .before .before .before .head-at in
+    let start = c .before .before .before .before .before .before .before .before .before .before .before .before .before .before .before in
+    omega (arith, (start .pre .1) .small, pow-count (head-at .ensures) (at-build-at .ensures) (is-pow t earlier) _ _ _ (c .before .before .before .build-at2 .ensures) (start .pre .1)))
+    (λ c.
+    let build-at2 = c .before .before .before .before .build-at2 in
+    let earlier = c .before .before .before .before .before .before in
+    let at-build-at = c .before .before .before .before .before .before .before .before .before .before .build-at in
+    let head-at = c .before .before .before .before .before .before .before .before .before .before .before .before .before .head-at in
+    let start = c .before .before .before .before .before .before .before .before .before .before .before .before .before .before .before .before in
+    omega (arith, ends-inside _ (ends-pow (head-at .ensures) _ (at-build-at .ensures .ends) _ (is-pow t earlier) (build-at2 .ensures .ends)) (ready-standing (start .pre .1))))
     (λ c. c .before .before .before .out2 .given .1 ∙ table-length t (c .before .before .before .before .before .before))
     -- returns-3
-    (λ c. pow-made (c .before .before .before .before .before .before .before .before .before .before .before .before .before .head-at .ensures) (c .before .before .before .before .before .before .before .before .before .before .build-at .ensures) (is-pow t (c .before .before .before .before .before .before)) _ _ _ _ (c .before .before .before .before .build-at2 .ensures) (put-both (c .before .before .before .before .before .before .before .before .before .before .before .before .before .before .before .before .args .out .now) _ _ _ _ _ (fits t (c .before .before .before .before .before .before .before .before .before .before) .count) (c .before .before .before .before .before .before .before .before .before .out .given .1)))
+    (λ c.
+    let build-at2 = c .before .before .before .before .build-at2 in
+    let earlier = c .before .before .before .before .before .before in
+    let out = c .before .before .before .before .before .before .before .before .before .out in
+    let at-build-at = c .before .before .before .before .before .before .before .before .before .before .build-at in
+    let earlier-2 = c .before .before .before .before .before .before .before .before .before .before in
+    let head-at = c .before .before .before .before .before .before .before .before .before .before .before .before .before .head-at in
+    let start = c .before .before .before .before .before .before .before .before .before .before .before .before .before .before .before .before in
+    pow-made (head-at .ensures) (at-build-at .ensures) (is-pow t earlier) _ _ _ _ (build-at2 .ensures) (put-both (start .args .out .now) _ _ _ _ _ (fits t (earlier-2) .count) (out .given .1)))

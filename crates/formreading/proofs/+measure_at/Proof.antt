@@ -49,10 +49,16 @@ pub +measure-at-spec : {M : Type 1} → statement M
     (λ c κs.
     let S = c .before .before .before .pre .1 in
     (omega (arith, c .before .before .before .pre .0, head-later (c .before .head-at .ensures) (c .if1 .left) S, standing-some S), first-standing (c .before .head-at .ensures) (c .if1 .left) S))
-    (λ c. omega (arith, part-inside (c .before .before .before .before .head-at .ensures) (c .before .before .before .if1 .left) (c .before .before .before .before .before .before .pre .1) _ (c .before .before .measure-at .ensures .ends)))
+    (λ c.
+    let head-at = c .before .before .before .before .head-at in
+    let start = c .before .before .before .before .before .before in
+    omega (arith, part-inside (head-at .ensures) (c .before .before .before .if1 .left) (start .pre .1) _ (c .before .before .measure-at .ensures .ends)))
     (λ c κs. tt)
     -- returns-2
-    (λ c. pop-measured (c .before .before .before .before .before .before .head-at .ensures) (c .before .before .before .before .measure-at .ensures) (c .before .if2 .taken) _ (c .popped .ensures))
+    (λ c.
+    let at-measure-at = c .before .before .before .before .measure-at in
+    let head-at = c .before .before .before .before .before .before .head-at in
+    pop-measured (head-at .ensures) (at-measure-at .ensures) (c .before .if2 .taken) _ (c .popped .ensures))
     -- measure-at-requires-2
     (λ c κs.
     let S = c .before .before .before .before .before .before .before .pre .1 in
@@ -60,6 +66,16 @@ pub +measure-at-spec : {M : Type 1} → statement M
     let F = first-standing (c .before .before .before .before .before .head-at .ensures) (c .before .before .before .before .if1 .left) S in
     (omega (arith, c .before .before .before .before .before .before .before .pre .0, head-later (c .before .before .before .before .before .head-at .ensures) (c .before .before .before .before .if1 .left) S, standing-some S, ends-inside _ E F), second-standing (c .before .before .before .before .before .head-at .ensures) _ E (is-pow t c) S))
     (λ c κs. tt)
-    (λ c. omega (arith, ends-inside _ (ends-pow (c .before .before .before .before .before .before .before .before .before .head-at .ensures) _ (c .before .before .before .before .before .before .before .measure-at .ensures .ends) _ (is-pow t (c .before .before .before .before)) (c .before .before .before .measure-at2 .ensures .ends)) (c .before .before .before .before .before .before .before .before .before .before .before .pre .1), c .before .before .before .before .before .before .before .before .before .before .before .good .0))
+    (λ c.
+    let earlier = c .before .before .before .before in
+    let at-measure-at = c .before .before .before .before .before .before .before .measure-at in
+    let head-at = c .before .before .before .before .before .before .before .before .before .head-at in
+    let good = c .before .before .before .before .before .before .before .before .before .before .before .good in
+    let start = c .before .before .before .before .before .before .before .before .before .before .before in
+    omega (arith, ends-inside _ (ends-pow (head-at .ensures) _ (at-measure-at .ensures .ends) _ (is-pow t earlier) (c .before .before .before .measure-at2 .ensures .ends)) (start .pre .1), good .0))
     -- returns-3
-    (λ c. pow-measured (c .before .before .before .before .before .before .before .before .before .head-at .ensures) (c .before .before .before .before .before .before .before .measure-at .ensures) (is-pow t (c .before .before .before .before)) (c .before .before .before .measure-at2 .ensures) _ (c .before .joined .ensures))
+    (λ c.
+    let earlier = c .before .before .before .before in
+    let at-measure-at = c .before .before .before .before .before .before .before .measure-at in
+    let head-at = c .before .before .before .before .before .before .before .before .before .head-at in
+    pow-measured (head-at .ensures) (at-measure-at .ensures) (is-pow t earlier) (c .before .before .before .measure-at2 .ensures) _ (c .before .joined .ensures))

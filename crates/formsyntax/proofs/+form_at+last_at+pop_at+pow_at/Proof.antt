@@ -78,9 +78,13 @@ pub +form-at+last-at+pop-at+pow-at-spec : {M : Type 1} → statement M
     -- returns
     (λ c. form-int (now (c .before .before .before .before .args .s)) _ _ _ (c .int-at .ensures))
     -- returns-2
-    (λ c. form-deep (now (c .before .before .before .before .args .s)) _ _ (sym (c .before .before .is-at .ensures) ∙ not-false _ (c .before .if1 .left)) (c .if2 .taken))
+    (λ c.
+    let start = c .before .before .before .before in
+    form-deep (now (start .args .s)) _ _ (sym (c .before .before .is-at .ensures) ∙ not-false _ (c .before .if1 .left)) (c .if2 .taken))
     -- add-letters-at
-    (λ c. omega (arith, at-inside (now (c .before .before .before .before .args .s)) _ _ (sym (c .before .before .is-at .ensures) ∙ not-false _ (c .before .if1 .left))))
+    (λ c.
+    let start = c .before .before .before .before in
+    omega (arith, at-inside (now (start .args .s)) _ _ (sym (c .before .before .is-at .ensures) ∙ not-false _ (c .before .if1 .left))))
     -- letters-at-requires
     (λ c κs. tt)
     -- enum-known-name
@@ -88,29 +92,69 @@ pub +form-at+last-at+pop-at+pow-at-spec : {M : Type 1} → statement M
     -- enum-told
     (λ c. search needs)
     -- returns-3
-    (λ c. form-off (now (c .before .before .before .before .before .before .before .args .s)) _ _ (sym (c .before .before .before .before .before .is-at .ensures) ∙ not-false _ (c .before .before .before .before .if1 .left)) (c .before .before .before .if2 .left) _ (c .before .before .letters-at .ensures) (c .enum-told .given .1))
+    (λ c.
+    let if1 = c .before .before .before .before .if1 in
+    let is-at = c .before .before .before .before .before .is-at in
+    let start = c .before .before .before .before .before .before .before in
+    form-off (now (start .args .s)) _ _ (sym (is-at .ensures) ∙ not-false _ (if1 .left)) (c .before .before .before .if2 .left) _ (c .before .before .letters-at .ensures) (c .enum-told .given .1))
     -- is-at-requires-2
     (λ c κs. tt)
     -- add-pop-at
-    (λ c. omega (arith, at-inside (now (c .before .before .before .before .before .before .before .before .before .before .args .s)) _ _ (sym (c .before .is-at2 .ensures) ∙ c .if3 .taken)))
+    (λ c.
+    let start = c .before .before .before .before .before .before .before .before .before .before in
+    omega (arith, at-inside (now (start .args .s)) _ _ (sym (c .before .is-at2 .ensures) ∙ c .if3 .taken)))
     -- add-pop-at-2
     (λ c. omega (arith, c .before .before .before .before .before .before .if2 .left))
     -- pop-at-requires
-    (λ c κs. (further (now (c .before .before .before .before .before .before .before .before .before .before .args .s)) _ _ (sym (c .before .before .before .before .before .before .before .before .is-at .ensures) ∙ not-false _ (c .before .before .before .before .before .before .before .if1 .left)) _ (c .before .before .before .before .before .letters-at .ensures) (c .before .before .before .name .given .1) _ (sym (c .before .is-at2 .ensures) ∙ c .if3 .taken) (c .before .before .before .before .before .before .before .before .before .before .pre .0), tt))
+    (λ c κs.
+    let letters-at = c .before .before .before .before .before .letters-at in
+    let if1 = c .before .before .before .before .before .before .before .if1 in
+    let is-at = c .before .before .before .before .before .before .before .before .is-at in
+    let start = c .before .before .before .before .before .before .before .before .before .before in
+    (further (now (start .args .s)) _ _ (sym (is-at .ensures) ∙ not-false _ (if1 .left)) _ (letters-at .ensures) (c .before .before .before .name .given .1) _ (sym (c .before .is-at2 .ensures) ∙ c .if3 .taken) (start .pre .0), tt))
     -- returns-4
-    (λ c. form-pop (now (c .before .before .before .before .before .before .before .before .before .before .before .args .s)) _ _ (sym (c .before .before .before .before .before .before .before .before .before .is-at .ensures) ∙ not-false _ (c .before .before .before .before .before .before .before .before .if1 .left)) (c .before .before .before .before .before .before .before .if2 .left) _ (c .before .before .before .before .before .before .letters-at .ensures) _ (c .before .before .before .before .name .given .1) (sym (c .before .before .is-at2 .ensures) ∙ c .before .if3 .taken) _ (c .pop-at .ensures))
+    (λ c.
+    let name = c .before .before .before .before .name in
+    let letters-at = c .before .before .before .before .before .before .letters-at in
+    let if2 = c .before .before .before .before .before .before .before .if2 in
+    let if1 = c .before .before .before .before .before .before .before .before .if1 in
+    let is-at = c .before .before .before .before .before .before .before .before .before .is-at in
+    let start = c .before .before .before .before .before .before .before .before .before .before .before in
+    form-pop (now (start .args .s)) _ _ (sym (is-at .ensures) ∙ not-false _ (if1 .left)) (if2 .left) _ (letters-at .ensures) _ (name .given .1) (sym (c .before .before .is-at2 .ensures) ∙ c .before .if3 .taken) _ (c .pop-at .ensures))
     -- is-at-requires-3
     (λ c κs. tt)
     -- add-pow-at
-    (λ c. omega (arith, at-inside (now (c .before .before .before .before .before .before .before .before .before .before .before .before .args .s)) _ _ (sym (c .before .is-at3 .ensures) ∙ c .if4 .taken)))
+    (λ c.
+    let start = c .before .before .before .before .before .before .before .before .before .before .before .before in
+    omega (arith, at-inside (now (start .args .s)) _ _ (sym (c .before .is-at3 .ensures) ∙ c .if4 .taken)))
     -- add-pow-at-2
     (λ c. omega (arith, c .before .before .before .before .before .before .before .before .if2 .left))
     -- pow-at-requires
-    (λ c κs. (further (now (c .before .before .before .before .before .before .before .before .before .before .before .before .args .s)) _ _ (sym (c .before .before .before .before .before .before .before .before .before .before .is-at .ensures) ∙ not-false _ (c .before .before .before .before .before .before .before .before .before .if1 .left)) _ (c .before .before .before .before .before .before .before .letters-at .ensures) (c .before .before .before .before .before .name .given .1) _ (sym (c .before .is-at3 .ensures) ∙ c .if4 .taken) (c .before .before .before .before .before .before .before .before .before .before .before .before .pre .0), tt))
+    (λ c κs.
+    let name = c .before .before .before .before .before .name in
+    let letters-at = c .before .before .before .before .before .before .before .letters-at in
+    let if1 = c .before .before .before .before .before .before .before .before .before .if1 in
+    let is-at = c .before .before .before .before .before .before .before .before .before .before .is-at in
+    let start = c .before .before .before .before .before .before .before .before .before .before .before .before in
+    (further (now (start .args .s)) _ _ (sym (is-at .ensures) ∙ not-false _ (if1 .left)) _ (letters-at .ensures) (name .given .1) _ (sym (c .before .is-at3 .ensures) ∙ c .if4 .taken) (start .pre .0), tt))
     -- returns-5
-    (λ c. form-pow (now (c .before .before .before .before .before .before .before .before .before .before .before .before .before .args .s)) _ _ (sym (c .before .before .before .before .before .before .before .before .before .before .before .is-at .ensures) ∙ not-false _ (c .before .before .before .before .before .before .before .before .before .before .if1 .left)) (c .before .before .before .before .before .before .before .before .before .if2 .left) _ (c .before .before .before .before .before .before .before .before .letters-at .ensures) _ (c .before .before .before .before .before .before .name .given .1) (sym (c .before .before .is-at3 .ensures) ∙ c .before .if4 .taken) _ (c .pow-at .ensures))
+    (λ c.
+    let name = c .before .before .before .before .before .before .name in
+    let letters-at = c .before .before .before .before .before .before .before .before .letters-at in
+    let if2 = c .before .before .before .before .before .before .before .before .before .if2 in
+    let if1 = c .before .before .before .before .before .before .before .before .before .before .if1 in
+    let is-at = c .before .before .before .before .before .before .before .before .before .before .before .is-at in
+    let start = c .before .before .before .before .before .before .before .before .before .before .before .before .before in
+    form-pow (now (start .args .s)) _ _ (sym (is-at .ensures) ∙ not-false _ (if1 .left)) (if2 .left) _ (letters-at .ensures) _ (name .given .1) (sym (c .before .before .is-at3 .ensures) ∙ c .before .if4 .taken) _ (c .pow-at .ensures))
     -- returns-6
-    (λ c. form-none (now (c .before .before .before .before .before .before .before .before .before .before .before .before .args .s)) _ _ (sym (c .before .before .before .before .before .before .before .before .before .before .is-at .ensures) ∙ not-false _ (c .before .before .before .before .before .before .before .before .before .if1 .left)) (c .before .before .before .before .before .before .before .before .if2 .left) _ (c .before .before .before .before .before .before .before .letters-at .ensures) _ (c .before .before .before .before .before .name .given .1) (sym (c .before .before .before .is-at2 .ensures) ∙ c .before .before .if3 .left) (sym (c .before .is-at3 .ensures) ∙ c .if4 .left)))
+    (λ c.
+    let name = c .before .before .before .before .before .name in
+    let letters-at = c .before .before .before .before .before .before .before .letters-at in
+    let if2 = c .before .before .before .before .before .before .before .before .if2 in
+    let if1 = c .before .before .before .before .before .before .before .before .before .if1 in
+    let is-at = c .before .before .before .before .before .before .before .before .before .before .is-at in
+    let start = c .before .before .before .before .before .before .before .before .before .before .before .before in
+    form-none (now (start .args .s)) _ _ (sym (is-at .ensures) ∙ not-false _ (if1 .left)) (if2 .left) _ (letters-at .ensures) _ (name .given .1) (sym (c .before .before .before .is-at2 .ensures) ∙ c .before .before .if3 .left) (sym (c .before .is-at3 .ensures) ∙ c .if4 .left)))
     -- last_at
     (λ t. last-at-lts.spec (form-at-below t, form-at.Post, expect-reads.Asked, expect-reads.Learnt) (last-at-at t) last-at.Post
     -- form-at-requires
@@ -124,7 +168,10 @@ pub +form-at+last-at+pop-at+pow-at-spec : {M : Type 1} → statement M
     -- expect-requires
     (λ c κs. tt)
     -- returns-2
-    (λ c. last-all (now (c .before .before .before .before .before .before .args .s)) _ _ _ (c .before .before .before .before .form-at .ensures) (c .before .before .last .given .1) _ (c .expect .ensures)))
+    (λ c.
+    let at-form-at = c .before .before .before .before .form-at in
+    let start = c .before .before .before .before .before .before in
+    last-all (now (start .args .s)) _ _ _ (at-form-at .ensures) (c .before .before .last .given .1) _ (c .expect .ensures)))
     -- pop_at
     (λ t. pop-at-lts.spec (index-at-reads.Asked, index-at-reads.Learnt, last-at-below t, last-at.Post) (pop-at-at t) pop-at.Post
     -- index-at-requires
@@ -136,9 +183,14 @@ pub +form-at+last-at+pop-at+pow-at-spec : {M : Type 1} → statement M
     -- returns
     (λ c. pop-off (now (c .before .before .before .before .args .s)) _ _ _ (c .before .before .index-at .ensures) (c .enum-told .given .1))
     -- last-at-requires
-    (λ c κs. (omega (arith, c .before .before .before .before .before .pre .0, within-on (now (c .before .before .before .before .before .args .s)) _ _ _ (c .before .index .given .1) (c .before .before .before .index-at .ensures .within)), tt))
+    (λ c κs.
+    let start = c .before .before .before .before .before in
+    (omega (arith, start .pre .0, within-on (now (start .args .s)) _ _ _ (c .before .index .given .1) (c .before .before .before .index-at .ensures .within)), tt))
     -- returns-2
-    (λ c. pop-all (now (c .before .before .before .before .before .before .args .s)) _ _ _ (c .before .before .before .before .index-at .ensures) _ (c .before .before .index .given .1) _ (c .last-at .ensures)))
+    (λ c.
+    let index-at = c .before .before .before .before .index-at in
+    let start = c .before .before .before .before .before .before in
+    pop-all (now (start .args .s)) _ _ _ (index-at .ensures) _ (c .before .before .index .given .1) _ (c .last-at .ensures)))
     -- pow_at
     λ t. pow-at-lts.spec (index-at-reads.Asked, index-at-reads.Learnt, form-at-below t, form-at.Post, expect-reads.Asked, expect-reads.Learnt, last-at-below t, last-at.Post) (pow-at-at t) pow-at.Post
     -- index-at-requires
@@ -150,13 +202,19 @@ pub +form-at+last-at+pop-at+pow-at-spec : {M : Type 1} → statement M
     -- returns
     (λ c. pow-off (now (c .before .before .before .before .args .s)) _ _ _ (c .before .before .index-at .ensures) (c .enum-told .given .1))
     -- form-at-requires
-    (λ c κs. (omega (arith, c .before .before .before .before .before .pre .0, within-on (now (c .before .before .before .before .before .args .s)) _ _ _ (c .before .index .given .1) (c .before .before .before .index-at .ensures .within)), tt))
+    (λ c κs.
+    let start = c .before .before .before .before .before in
+    (omega (arith, start .pre .0, within-on (now (start .args .s)) _ _ _ (c .before .index .given .1) (c .before .before .before .index-at .ensures .within)), tt))
     -- enum-known-first
     (λ c. search needs)
     -- enum-told-2
     (λ c. search needs)
     -- returns-2
-    (λ c. first-off (now (c .before .before .before .before .before .before .before .before .args .s)) _ _ _ (c .before .before .before .before .before .before .index-at .ensures) _ (c .before .before .before .before .index .given .1) _ (c .before .before .form-at .ensures) (c .enum-told2 .given .1))
+    (λ c.
+    let index = c .before .before .before .before .index in
+    let index-at = c .before .before .before .before .before .before .index-at in
+    let start = c .before .before .before .before .before .before .before .before in
+    first-off (now (start .args .s)) _ _ _ (index-at .ensures) _ (index .given .1) _ (c .before .before .form-at .ensures) (c .enum-told2 .given .1))
     -- expect-requires
     (λ c κs. tt)
     -- enum-known-space
@@ -164,8 +222,27 @@ pub +form-at+last-at+pop-at+pow-at-spec : {M : Type 1} → statement M
     -- enum-told-3
     (λ c. search needs)
     -- returns-3
-    (λ c. space-off (now (c .before .before .before .before .before .before .before .before .before .before .before .before .args .s)) _ _ _ (c .before .before .before .before .before .before .before .before .before .before .index-at .ensures) _ (c .before .before .before .before .before .before .before .before .index .given .1) _ (c .before .before .before .before .before .before .form-at .ensures) _ (c .before .before .before .before .first .given .1) _ (c .before .before .expect .ensures) (c .enum-told3 .given .1))
+    (λ c.
+    let first = c .before .before .before .before .first in
+    let at-form-at = c .before .before .before .before .before .before .form-at in
+    let index = c .before .before .before .before .before .before .before .before .index in
+    let index-at = c .before .before .before .before .before .before .before .before .before .before .index-at in
+    let start = c .before .before .before .before .before .before .before .before .before .before .before .before in
+    space-off (now (start .args .s)) _ _ _ (index-at .ensures) _ (index .given .1) _ (at-form-at .ensures) _ (first .given .1) _ (c .before .before .expect .ensures) (c .enum-told3 .given .1))
     -- last-at-requires
-    (λ c κs. (omega (arith, c .before .before .before .before .before .before .before .before .before .before .before .before .before .pre .0, within-on (now (c .before .before .before .before .before .before .before .before .before .before .before .before .before .args .s)) _ _ _ (c .before .before .before .before .before .before .before .before .before .index .given .1) (c .before .before .before .before .before .before .before .before .before .before .before .index-at .ensures .within), within-on (now (c .before .before .before .before .before .before .before .before .before .before .before .before .before .args .s)) _ _ _ (c .before .before .before .before .before .first .given .1) (c .before .before .before .before .before .before .before .form-at .ensures .within), within-on (now (c .before .before .before .before .before .before .before .before .before .before .before .before .before .args .s)) _ _ _ (c .before .space .given .1) (c .before .before .before .expect .ensures .within)), tt))
+    (λ c κs.
+    let first = c .before .before .before .before .before .first in
+    let at-form-at = c .before .before .before .before .before .before .before .form-at in
+    let index = c .before .before .before .before .before .before .before .before .before .index in
+    let index-at = c .before .before .before .before .before .before .before .before .before .before .before .index-at in
+    let start = c .before .before .before .before .before .before .before .before .before .before .before .before .before in
+    (omega (arith, start .pre .0, within-on (now (start .args .s)) _ _ _ (index .given .1) (index-at .ensures .within), within-on (now (start .args .s)) _ _ _ (first .given .1) (at-form-at .ensures .within), within-on (now (start .args .s)) _ _ _ (c .before .space .given .1) (c .before .before .before .expect .ensures .within)), tt))
     -- returns-4
-    (λ c. pow-all (now (c .before .before .before .before .before .before .before .before .before .before .before .before .before .before .args .s)) _ _ _ (c .before .before .before .before .before .before .before .before .before .before .before .before .index-at .ensures) _ (c .before .before .before .before .before .before .before .before .before .before .index .given .1) _ (c .before .before .before .before .before .before .before .before .form-at .ensures) _ (c .before .before .before .before .before .before .first .given .1) _ (c .before .before .before .before .expect .ensures) (c .before .before .space .given .1) _ (c .last-at .ensures))
+    (λ c.
+    let expect = c .before .before .before .before .expect in
+    let first = c .before .before .before .before .before .before .first in
+    let at-form-at = c .before .before .before .before .before .before .before .before .form-at in
+    let index = c .before .before .before .before .before .before .before .before .before .before .index in
+    let index-at = c .before .before .before .before .before .before .before .before .before .before .before .before .index-at in
+    let start = c .before .before .before .before .before .before .before .before .before .before .before .before .before .before in
+    pow-all (now (start .args .s)) _ _ _ (index-at .ensures) _ (index .given .1) _ (at-form-at .ensures) _ (first .given .1) _ (expect .ensures) (c .before .before .space .given .1) _ (c .last-at .ensures))

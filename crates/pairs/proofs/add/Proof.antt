@@ -13,7 +13,9 @@ use borrow.Author.Needs.{needs}
 use Rattle.pairs.proofs.add.Statement.{statement}
 use Rattle.pairs.proofs.add.Tie as tie
 
-made : (c : tie.After-sum-parts) → Begins (c .sum-parts .result) (enc 0 (sumOf 0 (left (c .before .before .before .before .before .args .a) (c .before .before .before .before .before .args .stack .now)) (right (c .before .before .before .before .before .args .a) (c .before .before .before .before .before .args .b) (c .before .before .before .before .before .args .stack .now)))) (c .sum-parts .last .1 .1 .0)
+made : (c : tie.After-sum-parts) →
+    let start = c .before .before .before .before .before in
+    Begins (c .sum-parts .result) (enc 0 (sumOf 0 (left (start .args .a) (start .args .stack .now)) (right (start .args .a) (start .args .b) (start .args .stack .now)))) (c .sum-parts .last .1 .1 .0)
 made c =
     let start = c .before .before .before .before .before in
     begins-as (c .sum-parts .ensures) (both-sum (start .args .a) (start .args .b) (start .args .stack .now))

@@ -38,9 +38,13 @@ first-point-below t =
 pub +first-point-spec : {M : Type 1} → statement M
 +first-point-spec = close μ-first-point λ t.
     first-point-lts.spec (least-value-reads.Asked, least-value-reads.Learnt, copy-reads.Asked, copy-reads.Learnt, first-point-below t, first-point.Post) (first-point-at t) first-point.Post
-    (λ c. no-point (c .before .before .before .before .before .args .n) (take (c .before .before .before .before .before .args .k) (c .before .before .before .before .before .args .x .now)) (c .before .before .before .before .before .args .point .now) (c .if1 .taken))
+    (λ c.
+    let start = c .before .before .before .before .before in
+    no-point (start .args .n) (take (start .args .k) (start .args .x .now)) (start .args .point .now) (c .if1 .taken))
     (λ c. c .before .before .before .before .before .pre .1 .0 .0)
-    (λ c. sym (length-take-le (c .before .before .before .before .before .before .args .k) (c .before .before .before .before .before .before .args .x .now) (c .before .before .before .before .before .before .pre .1 .0 .0)))
+    (λ c.
+    let start = c .before .before .before .before .before .before in
+    sym (length-take-le (start .args .k) (start .args .x .now) (start .pre .1 .0 .0)))
     -- least-value-requires
     (λ c κs.
     let s = c .before .before .before .before .before .before .before .before in
@@ -48,16 +52,27 @@ pub +first-point-spec : {M : Type 1} → statement M
     let k = length-take-le (s .args .k) (s .args .x .now) (p .0 .0) in
     (p .1 .0, ((room-kept (p .1 .1 .0 .0) (omega (arith, k)) refl, room-kept (p .1 .1 .0 .1) (omega (arith, k)) refl), some-fails (s .args .n) (c .before .before .before .if1 .left) (p .1 .0) (p .1 .1 .1))))
     (λ c. begins-le (c .before .before .before .before .least-value .ensures .1))
-    (λ c. sym (length-take-le (c .before .before .before .before .before .least-value .result .words) (c .before .before .before .before .before .least-value .last .1 .0) (begins-le (c .before .before .before .before .before .least-value .ensures .1))))
+    (λ c.
+    let least-value = c .before .before .before .before .before .least-value in
+    sym (length-take-le (least-value .result .words) (least-value .last .1 .0) (begins-le (least-value .ensures .1))))
     -- copy-requires
     (λ c κs.
     let s = c .before .before .before .before .before .before .before .before .before .before .before .before .before .before .before in
     let f = c .before .before .before .before .before .before in
     omega (arith, length-take-le (f .least-value .result .words) (f .least-value .last .1 .0) (begins-le (f .least-value .ensures .1)), left-short (f .least-value .result .value) (s .pre .1 .1 .0) (f .least-value .ensures .1), length-take-le (s .args .k) (s .args .x .now) (s .pre .1 .0 .0), s .pre .1 .0 .0))
-    (λ c. omega (arith, c .before .before .before .before .before .before .before .before .before .before .before .before .before .before .before .before .before .before .pre .1 .0 .1, c .before .before .before .before .before .before .before .before .before .before .before .before .before .if1 .left))
+    (λ c.
+    let if1 = c .before .before .before .before .before .before .before .before .before .before .before .before .before .if1 in
+    let start = c .before .before .before .before .before .before .before .before .before .before .before .before .before .before .before .before .before .before in
+    omega (arith, start .pre .1 .0 .1, if1 .left))
     (λ c. omega (arith, c .before .before .before .before .before .before .before .before .before .before .before .before .before .if1 .left))
-    (λ c. simp length-set (omega (arith, c .before .before .before .before .before .before .before .before .before .before .before .before .before .before .before .before .before .before .before .before .before .pre .1 .0 .1, c .before .before .before .before .before .before .before .before .before .before .before .before .before .before .before .before .if1 .left)))
-    (λ c. simp length-set (omega (arith, c .before .before .before .before .before .before .before .before .before .before .before .before .before .before .before .before .before .before .before .before .before .pre .1 .0 .1, c .before .before .before .before .before .before .before .before .before .before .before .before .before .before .before .before .if1 .left)))
+    (λ c.
+    let if1 = c .before .before .before .before .before .before .before .before .before .before .before .before .before .before .before .before .if1 in
+    let start = c .before .before .before .before .before .before .before .before .before .before .before .before .before .before .before .before .before .before .before .before .before in
+    simp length-set (omega (arith, start .pre .1 .0 .1, if1 .left)))
+    (λ c.
+    let if1 = c .before .before .before .before .before .before .before .before .before .before .before .before .before .before .before .before .if1 in
+    let start = c .before .before .before .before .before .before .before .before .before .before .before .before .before .before .before .before .before .before .before .before .before in
+    simp length-set (omega (arith, start .pre .1 .0 .1, if1 .left)))
     (λ c. search needs)
     -- first-point-requires
     (λ c κs.
@@ -69,9 +84,18 @@ pub +first-point-spec : {M : Type 1} → statement M
     let m = left-short a (p .1 .0) (f .least-value .ensures .1) in
     let v = copied (s .args .x .now) (c .before .before .before .before .before .before .copy .last .1 .0) a (p .1 .0) (f .least-value .ensures .1) (c .before .before .before .before .before .before .copy .ensures) in
     (omega (arith, s .pre .0, c .before .before .before .before .before .before .before .before .before .before .before .before .before .before .before .before .before .if1 .left), ((omega (arith, m, k, p .0 .0, c .before .before .before .before .before .before .copy .kept .1 .0), omega (arith, p .0 .1, length-after-set (s .args .point .now) a)), (coded v, ((room-kept (p .1 .1 .0 .0) (omega (arith, m, k)) (f .least-value .kept .1 .0), room-kept (p .1 .1 .0 .1) (omega (arith, m, k)) (f .least-value .kept .1 .1 .0)), subst (Ready (s .args .n - 1)) (sym (dec-enc v)) (next-ready (s .args .n) (c .before .before .before .before .before .before .before .before .before .before .before .before .before .before .before .before .before .if1 .left) (p .1 .0) (p .1 .1 .1) a (f .least-value .ensures .0)))))))
-    (λ c. c .before .before .before .before .before .before .before .before .first-point .kept .1 .0 ∙ c .before .before .before .before .before .before .before .before .before .before .before .before .before .before .before .copy .kept .1 .0)
-    (λ c. c .before .before .before .before .before .before .before .before .first-point .kept .1 .1 .1 .0 ∙ c .before .before .before .before .before .before .before .before .before .before .before .before .before .before .before .before .before .before .before .before .before .before .least-value .kept .1 .0)
-    (λ c. c .before .before .before .before .before .before .before .before .first-point .kept .1 .1 .1 .1 .0 ∙ c .before .before .before .before .before .before .before .before .before .before .before .before .before .before .before .before .before .before .before .before .before .before .least-value .kept .1 .1 .0)
+    (λ c.
+    let at-first-point = c .before .before .before .before .before .before .before .before .first-point in
+    let copy = c .before .before .before .before .before .before .before .before .before .before .before .before .before .before .before .copy in
+    at-first-point .kept .1 .0 ∙ copy .kept .1 .0)
+    (λ c.
+    let at-first-point = c .before .before .before .before .before .before .before .before .first-point in
+    let least-value = c .before .before .before .before .before .before .before .before .before .before .before .before .before .before .before .before .before .before .before .before .before .before .least-value in
+    at-first-point .kept .1 .1 .1 .0 ∙ least-value .kept .1 .0)
+    (λ c.
+    let at-first-point = c .before .before .before .before .before .before .before .before .first-point in
+    let least-value = c .before .before .before .before .before .before .before .before .before .before .before .before .before .before .before .before .before .before .before .before .before .before .least-value in
+    at-first-point .kept .1 .1 .1 .1 .0 ∙ least-value .kept .1 .1 .0)
     (λ c. c .before .point .given .1 ∙ simp length-set)
     -- returns-2
     (λ c.

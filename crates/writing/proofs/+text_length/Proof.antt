@@ -47,7 +47,9 @@ is-pow t c = pow-at (c .before .before .before .before .before .pre .1 .0) (c .b
 abbrev After-text-length·text-length : ℕ → Type 0
 After-text-length·text-length t = text-length-lts.After-text-length (leaf-length-reads.Asked, leaf-length-reads.Learnt, digits-of-reads.Asked, digits-of-reads.Learnt, text-length-below t, text-length.Post) (text-length-at t) text-length.Post
 
-pop-total : (t : ℕ) (c : After-text-length·text-length t) → 6 + c .before .before .before .digits-of .result + c .text-length .result + 1 ≡ length (textOf (dec 0 (c .before .before .before .before .before .before .before .args .x .now)))
+pop-total : (t : ℕ) (c : After-text-length·text-length t) →
+    let start = c .before .before .before .before .before .before .before in
+    6 + c .before .before .before .digits-of .result + c .text-length .result + 1 ≡ length (textOf (dec 0 (start .args .x .now)))
 pop-total t c =
     let start = c .before .before .before .before .before .before .before in
     omega (arith, pop-length (is-pop t (c .before .before)), head-length 80 (getD (start .args .x .now) 0 0 % 64), c .before .before .before .digits-of .ensures, c .text-length .ensures)
@@ -78,8 +80,12 @@ pub +text-length-spec : {M : Type 1} → statement M
     (λ c κs.
     let v = is-pop t (c .before) in
     (omega (arith, v, c .before .before .before .before .before .before .pre .0), (v .part, omega (arith, v, c .before .before .before .before .before .before .pre .1 .1))))
-    (λ c. omega (arith, pop-total t c, coded-most (c .before .before .before .before .before .before .before .pre .1 .0), c .before .before .before .before .before .before .before .pre .1 .1))
-    (λ c. omega (arith, pop-total t c, coded-most (c .before .before .before .before .before .before .before .pre .1 .0), c .before .before .before .before .before .before .before .pre .1 .1))
+    (λ c.
+    let start = c .before .before .before .before .before .before .before in
+    omega (arith, pop-total t c, coded-most (start .pre .1 .0), start .pre .1 .1))
+    (λ c.
+    let start = c .before .before .before .before .before .before .before in
+    omega (arith, pop-total t c, coded-most (start .pre .1 .0), start .pre .1 .1))
     (λ c. pop-total t c)
     (λ c. omega (arith, is-pow t c, c .before .before .before .before .before .pre .1 .1))
     (λ c. search needs)
@@ -97,8 +103,16 @@ pub +text-length-spec : {M : Type 1} → statement M
     (λ c κs.
     let v = is-pow t (c .before .before .before) in
     (omega (arith, v, c .before .before .before .before .before .before .before .before .pre .0), (v .right, omega (arith, v, c .before .before .before .before .before .before .before .before .pre .1 .1))))
-    (λ c. omega (arith, pow-total t c, coded-most (c .before .before .before .before .before .before .before .before .before .pre .1 .0), c .before .before .before .before .before .before .before .before .before .pre .1 .1))
-    (λ c. omega (arith, pow-total t c, coded-most (c .before .before .before .before .before .before .before .before .before .pre .1 .0), c .before .before .before .before .before .before .before .before .before .pre .1 .1))
-    (λ c. omega (arith, pow-total t c, coded-most (c .before .before .before .before .before .before .before .before .before .pre .1 .0), c .before .before .before .before .before .before .before .before .before .pre .1 .1))
-    (λ c. omega (arith, pow-total t c, coded-most (c .before .before .before .before .before .before .before .before .before .pre .1 .0), c .before .before .before .before .before .before .before .before .before .pre .1 .1))
+    (λ c.
+    let start = c .before .before .before .before .before .before .before .before .before in
+    omega (arith, pow-total t c, coded-most (start .pre .1 .0), start .pre .1 .1))
+    (λ c.
+    let start = c .before .before .before .before .before .before .before .before .before in
+    omega (arith, pow-total t c, coded-most (start .pre .1 .0), start .pre .1 .1))
+    (λ c.
+    let start = c .before .before .before .before .before .before .before .before .before in
+    omega (arith, pow-total t c, coded-most (start .pre .1 .0), start .pre .1 .1))
+    (λ c.
+    let start = c .before .before .before .before .before .before .before .before .before in
+    omega (arith, pow-total t c, coded-most (start .pre .1 .0), start .pre .1 .1))
     (λ c. pow-total t c)

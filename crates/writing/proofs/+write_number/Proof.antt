@@ -41,7 +41,17 @@ pub +write-number-spec : {M : Type 1} → statement M
     (λ c κs. (omega (arith, c .before .before .before .pre .0, c .before .if1 .left), omega (arith, c .before .before .before .pre .1, numeral-long (c .before .before .before .args .n) (c .before .if1 .left))))
     (λ c. omega arith)
     (λ c. omega arith)
-    (λ c. omega (arith, c .before .before .write-number .ensures .size, wrote-length (c .before .before .write-number .ensures), c .before .before .before .before .before .before .pre .1, numeral-long (c .before .before .before .before .before .before .args .n) (c .before .before .before .before .if1 .left)))
-    (λ c. omega (arith, c .before .before .write-number .ensures .size, c .before .before .before .before .before .before .pre .1, numeral-long (c .before .before .before .before .before .before .args .n) (c .before .before .before .before .if1 .left), c .before .before .before .before .before .before .good))
+    (λ c.
+    let if1 = c .before .before .before .before .if1 in
+    let start = c .before .before .before .before .before .before in
+    omega (arith, c .before .before .write-number .ensures .size, wrote-length (c .before .before .write-number .ensures), start .pre .1, numeral-long (start .args .n) (if1 .left)))
+    (λ c.
+    let if1 = c .before .before .before .before .if1 in
+    let good = c .before .before .before .before .before .before .good in
+    let start = c .before .before .before .before .before .before in
+    omega (arith, c .before .before .write-number .ensures .size, start .pre .1, numeral-long (start .args .n) (if1 .left), good))
     (λ c. simp length-set (wrote-length (c .before .before .write-number .ensures)))
-    (λ c. wrote-as (wrote-byte (c .before .before .write-number .ensures) (48 + c .before .before .before .before .before .before .args .n % 10) (omega (arith, c .before .before .write-number .ensures .size, c .before .before .before .before .before .before .pre .1, numeral-long (c .before .before .before .before .before .before .args .n) (c .before .before .before .before .if1 .left)))) (sym (dec-long (c .before .before .before .before .before .before .args .n) (c .before .before .before .before .if1 .left))))
+    (λ c.
+    let if1 = c .before .before .before .before .if1 in
+    let start = c .before .before .before .before .before .before in
+    wrote-as (wrote-byte (c .before .before .write-number .ensures) (48 + start .args .n % 10) (omega (arith, c .before .before .write-number .ensures .size, start .pre .1, numeral-long (start .args .n) (if1 .left)))) (sym (dec-long (start .args .n) (if1 .left))))

@@ -53,7 +53,10 @@ pub +write-text-spec : {M : Type 1} → statement M
     let v = int-view (c .before .before .before .before .before .pre .1 .0) (c .before .if1 .taken) in
     (v .below, omega (arith, c .before .before .before .before .before .pre .1 .1, ap length (text-int v))))
     (λ c. wrote-length (c .before .before .write-leaf .ensures))
-    (λ c. wrote-as (c .before .before .write-leaf .ensures) (text-int (int-view (c .before .before .before .before .before .before .before .before .pre .1 .0) (c .before .before .before .before .if1 .taken))))
+    (λ c.
+    let if1 = c .before .before .before .before .if1 in
+    let start = c .before .before .before .before .before .before .before .before in
+    wrote-as (c .before .before .write-leaf .ensures) (text-int (int-view (start .pre .1 .0) (if1 .taken))))
     (λ c. omega (arith, c .before .shared-slice-known2 .given 0))
     (λ c κs. omega (arith, c .before .before .before .before .before .before .pre .1 .1, pop-length (is-pop t (c .before))))
     (λ c. omega (arith, is-pop t (c .before .before .before .before)))
@@ -66,11 +69,33 @@ pub +write-text-spec : {M : Type 1} → statement M
     (λ c κs.
     let v = is-pop t (c .before .before .before .before .before .before) in
     (omega (arith, v, c .before .before .before .before .before .before .before .before .before .before .before .pre .0), (v .part, pop-room v (c .before .before .before .before .before .before .before .before .before .before .before .pre .1 .1) (c .before .before .before .before .write-head .ensures))))
-    (λ c. omega (arith, pop-size (is-pop t (c .before .before .before .before .before .before .before .before .before)) (c .before .before .before .before .before .before .before .before .before .before .before .before .before .before .pre .1 .1) (c .before .before .before .before .before .before .before .write-head .ensures) (c .before .before .write-text .ensures), c .before .before .before .before .before .before .before .before .before .before .before .before .before .before .good .1 .0))
-    (λ c. omega (arith, pop-size (is-pop t (c .before .before .before .before .before .before .before .before .before)) (c .before .before .before .before .before .before .before .before .before .before .before .before .before .before .pre .1 .1) (c .before .before .before .before .before .before .before .write-head .ensures) (c .before .before .write-text .ensures), wrote-length (wrote-on (c .before .before .before .before .before .before .before .write-head .ensures) (c .before .before .write-text .ensures))))
-    (λ c. omega (arith, pop-size (is-pop t (c .before .before .before .before .before .before .before .before .before)) (c .before .before .before .before .before .before .before .before .before .before .before .before .before .before .pre .1 .1) (c .before .before .before .before .before .before .before .write-head .ensures) (c .before .before .write-text .ensures), c .before .before .before .before .before .before .before .before .before .before .before .before .before .before .good .1 .0))
-    (λ c. wrote-length (wrote-pop (is-pop t (c .before .before .before .before .before .before .before .before .before)) (c .before .before .before .before .before .before .before .before .before .before .before .before .before .before .pre .1 .1) (c .before .before .before .before .before .before .before .write-head .ensures) (c .before .before .write-text .ensures)))
-    (λ c. wrote-pop (is-pop t (c .before .before .before .before .before .before .before .before .before)) (c .before .before .before .before .before .before .before .before .before .before .before .before .before .before .pre .1 .1) (c .before .before .before .before .before .before .before .write-head .ensures) (c .before .before .write-text .ensures))
+    (λ c.
+    let write-head = c .before .before .before .before .before .before .before .write-head in
+    let earlier = c .before .before .before .before .before .before .before .before .before in
+    let good = c .before .before .before .before .before .before .before .before .before .before .before .before .before .before .good in
+    let start = c .before .before .before .before .before .before .before .before .before .before .before .before .before .before in
+    omega (arith, pop-size (is-pop t earlier) (start .pre .1 .1) (write-head .ensures) (c .before .before .write-text .ensures), good .1 .0))
+    (λ c.
+    let write-head = c .before .before .before .before .before .before .before .write-head in
+    let earlier = c .before .before .before .before .before .before .before .before .before in
+    let start = c .before .before .before .before .before .before .before .before .before .before .before .before .before .before in
+    omega (arith, pop-size (is-pop t earlier) (start .pre .1 .1) (write-head .ensures) (c .before .before .write-text .ensures), wrote-length (wrote-on (write-head .ensures) (c .before .before .write-text .ensures))))
+    (λ c.
+    let write-head = c .before .before .before .before .before .before .before .write-head in
+    let earlier = c .before .before .before .before .before .before .before .before .before in
+    let good = c .before .before .before .before .before .before .before .before .before .before .before .before .before .before .good in
+    let start = c .before .before .before .before .before .before .before .before .before .before .before .before .before .before in
+    omega (arith, pop-size (is-pop t earlier) (start .pre .1 .1) (write-head .ensures) (c .before .before .write-text .ensures), good .1 .0))
+    (λ c.
+    let write-head = c .before .before .before .before .before .before .before .write-head in
+    let earlier = c .before .before .before .before .before .before .before .before .before in
+    let start = c .before .before .before .before .before .before .before .before .before .before .before .before .before .before in
+    wrote-length (wrote-pop (is-pop t earlier) (start .pre .1 .1) (write-head .ensures) (c .before .before .write-text .ensures)))
+    (λ c.
+    let write-head = c .before .before .before .before .before .before .before .write-head in
+    let earlier = c .before .before .before .before .before .before .before .before .before in
+    let start = c .before .before .before .before .before .before .before .before .before .before .before .before .before .before in
+    wrote-pop (is-pop t earlier) (start .pre .1 .1) (write-head .ensures) (c .before .before .write-text .ensures))
     (λ c. omega (arith, is-pow t c, c .before .before .before .before .before .good .0))
     (λ c κs. omega (arith, c .before .before .before .before .before .before .pre .1 .1, pow-length (is-pow t (c .before))))
     (λ c. search needs)
@@ -83,10 +108,27 @@ pub +write-text-spec : {M : Type 1} → statement M
     (λ c κs.
     let v = is-pow t (c .before .before .before .before .before .before) in
     (omega (arith, v, c .before .before .before .before .before .before .before .before .before .before .before .pre .0), (v .left, pow-room v (c .before .before .before .before .before .before .before .before .before .before .before .pre .1 .1) (c .before .before .before .before .write-head2 .ensures))))
-    (λ c. omega (arith, pow-size (is-pow t (c .before .before .before .before .before .before .before .before .before)) (c .before .before .before .before .before .before .before .before .before .before .before .before .before .before .pre .1 .1) (c .before .before .before .before .before .before .before .write-head2 .ensures) (c .before .before .write-text2 .ensures), c .before .before .before .before .before .before .before .before .before .before .before .before .before .before .good .1 .0))
-    (λ c. omega (arith, pow-size (is-pow t (c .before .before .before .before .before .before .before .before .before)) (c .before .before .before .before .before .before .before .before .before .before .before .before .before .before .pre .1 .1) (c .before .before .before .before .before .before .before .write-head2 .ensures) (c .before .before .write-text2 .ensures), wrote-length (wrote-on (c .before .before .before .before .before .before .before .write-head2 .ensures) (c .before .before .write-text2 .ensures))))
-    (λ c. omega (arith, pow-size (is-pow t (c .before .before .before .before .before .before .before .before .before)) (c .before .before .before .before .before .before .before .before .before .before .before .before .before .before .pre .1 .1) (c .before .before .before .before .before .before .before .write-head2 .ensures) (c .before .before .write-text2 .ensures), c .before .before .before .before .before .before .before .before .before .before .before .before .before .before .good .1 .0))
-    (λ c. omega (arith, is-pow t (c .before .before .before .before .before .before .before .before .before), c .before .before .before .before .before .before .before .before .before .before .before .before .before .before .good .0))
+    (λ c.
+    let write-head2 = c .before .before .before .before .before .before .before .write-head2 in
+    let earlier = c .before .before .before .before .before .before .before .before .before in
+    let good = c .before .before .before .before .before .before .before .before .before .before .before .before .before .before .good in
+    let start = c .before .before .before .before .before .before .before .before .before .before .before .before .before .before in
+    omega (arith, pow-size (is-pow t earlier) (start .pre .1 .1) (write-head2 .ensures) (c .before .before .write-text2 .ensures), good .1 .0))
+    (λ c.
+    let write-head2 = c .before .before .before .before .before .before .before .write-head2 in
+    let earlier = c .before .before .before .before .before .before .before .before .before in
+    let start = c .before .before .before .before .before .before .before .before .before .before .before .before .before .before in
+    omega (arith, pow-size (is-pow t earlier) (start .pre .1 .1) (write-head2 .ensures) (c .before .before .write-text2 .ensures), wrote-length (wrote-on (write-head2 .ensures) (c .before .before .write-text2 .ensures))))
+    (λ c.
+    let write-head2 = c .before .before .before .before .before .before .before .write-head2 in
+    let earlier = c .before .before .before .before .before .before .before .before .before in
+    let good = c .before .before .before .before .before .before .before .before .before .before .before .before .before .before .good in
+    let start = c .before .before .before .before .before .before .before .before .before .before .before .before .before .before in
+    omega (arith, pow-size (is-pow t earlier) (start .pre .1 .1) (write-head2 .ensures) (c .before .before .write-text2 .ensures), good .1 .0))
+    (λ c.
+    let earlier = c .before .before .before .before .before .before .before .before .before in
+    let good = c .before .before .before .before .before .before .before .before .before .before .before .before .before .before .good in
+    omega (arith, is-pow t earlier, good .0))
     (λ c. omega (arith, is-pow t (c .before .before .before .before .before .before .before .before .before)))
     (λ c. omega (arith, is-pow t (c .before .before .before .before .before .before .before .before .before)))
     (λ c. search needs)
@@ -103,11 +145,33 @@ pub +write-text-spec : {M : Type 1} → statement M
     (λ c κs.
     let v = is-pow t (c .before .before .before .before .before .before .before .before .before .before .before) in
     (omega (arith, v, c .before .before .before .before .before .before .before .before .before .before .before .before .before .before .before .before .pre .0), (v .right, pow-room-right v (c .before .before .before .before .before .before .before .before .before .before .before .before .before .before .before .before .pre .1 .1) (c .before .before .before .before .before .before .before .before .before .write-head2 .ensures) (c .before .before .before .before .write-text2 .ensures))))
-    (λ c. omega (arith, pow-whole (is-pow t (c .before .before .before .before .before .before .before .before .before .before .before .before .before .before)) (c .before .before .before .before .before .before .before .before .before .before .before .before .before .before .before .before .before .before .before .pre .1 .1) (c .before .before .before .before .before .before .before .before .before .before .before .before .write-head2 .ensures) (c .before .before .before .before .before .before .before .write-text2 .ensures) (c .before .before .write-text3 .ensures), c .before .before .before .before .before .before .before .before .before .before .before .before .before .before .before .before .before .before .before .good .1 .0))
+    (λ c.
+    let write-text2 = c .before .before .before .before .before .before .before .write-text2 in
+    let write-head2 = c .before .before .before .before .before .before .before .before .before .before .before .before .write-head2 in
+    let earlier = c .before .before .before .before .before .before .before .before .before .before .before .before .before .before in
+    let good = c .before .before .before .before .before .before .before .before .before .before .before .before .before .before .before .before .before .before .before .good in
+    let start = c .before .before .before .before .before .before .before .before .before .before .before .before .before .before .before .before .before .before .before in
+    omega (arith, pow-whole (is-pow t earlier) (start .pre .1 .1) (write-head2 .ensures) (write-text2 .ensures) (c .before .before .write-text3 .ensures), good .1 .0))
     -- slice-write-out-3
     (λ c.
     let v = is-pow t (c .before .before .before .before .before .before .before .before .before .before .before .before .before .before) in
     omega (arith, pow-whole v (c .before .before .before .before .before .before .before .before .before .before .before .before .before .before .before .before .before .before .before .pre .1 .1) (c .before .before .before .before .before .before .before .before .before .before .before .before .write-head2 .ensures) (c .before .before .before .before .before .before .before .write-text2 .ensures) (c .before .before .write-text3 .ensures), wrote-length (wrote-on (wrote-left v (c .before .before .before .before .before .before .before .before .before .before .before .before .before .before .before .before .before .before .before .pre .1 .1) (c .before .before .before .before .before .before .before .before .before .before .before .before .write-head2 .ensures) (c .before .before .before .before .before .before .before .write-text2 .ensures)) (c .before .before .write-text3 .ensures))))
-    (λ c. omega (arith, pow-whole (is-pow t (c .before .before .before .before .before .before .before .before .before .before .before .before .before .before)) (c .before .before .before .before .before .before .before .before .before .before .before .before .before .before .before .before .before .before .before .pre .1 .1) (c .before .before .before .before .before .before .before .before .before .before .before .before .write-head2 .ensures) (c .before .before .before .before .before .before .before .write-text2 .ensures) (c .before .before .write-text3 .ensures), c .before .before .before .before .before .before .before .before .before .before .before .before .before .before .before .before .before .before .before .good .1 .0))
-    (λ c. wrote-length (wrote-pow (is-pow t (c .before .before .before .before .before .before .before .before .before .before .before .before .before .before)) (c .before .before .before .before .before .before .before .before .before .before .before .before .before .before .before .before .before .before .before .pre .1 .1) (c .before .before .before .before .before .before .before .before .before .before .before .before .write-head2 .ensures) (c .before .before .before .before .before .before .before .write-text2 .ensures) (c .before .before .write-text3 .ensures)))
-    (λ c. wrote-pow (is-pow t (c .before .before .before .before .before .before .before .before .before .before .before .before .before .before)) (c .before .before .before .before .before .before .before .before .before .before .before .before .before .before .before .before .before .before .before .pre .1 .1) (c .before .before .before .before .before .before .before .before .before .before .before .before .write-head2 .ensures) (c .before .before .before .before .before .before .before .write-text2 .ensures) (c .before .before .write-text3 .ensures))
+    (λ c.
+    let write-text2 = c .before .before .before .before .before .before .before .write-text2 in
+    let write-head2 = c .before .before .before .before .before .before .before .before .before .before .before .before .write-head2 in
+    let earlier = c .before .before .before .before .before .before .before .before .before .before .before .before .before .before in
+    let good = c .before .before .before .before .before .before .before .before .before .before .before .before .before .before .before .before .before .before .before .good in
+    let start = c .before .before .before .before .before .before .before .before .before .before .before .before .before .before .before .before .before .before .before in
+    omega (arith, pow-whole (is-pow t earlier) (start .pre .1 .1) (write-head2 .ensures) (write-text2 .ensures) (c .before .before .write-text3 .ensures), good .1 .0))
+    (λ c.
+    let write-text2 = c .before .before .before .before .before .before .before .write-text2 in
+    let write-head2 = c .before .before .before .before .before .before .before .before .before .before .before .before .write-head2 in
+    let earlier = c .before .before .before .before .before .before .before .before .before .before .before .before .before .before in
+    let start = c .before .before .before .before .before .before .before .before .before .before .before .before .before .before .before .before .before .before .before in
+    wrote-length (wrote-pow (is-pow t earlier) (start .pre .1 .1) (write-head2 .ensures) (write-text2 .ensures) (c .before .before .write-text3 .ensures)))
+    (λ c.
+    let write-text2 = c .before .before .before .before .before .before .before .write-text2 in
+    let write-head2 = c .before .before .before .before .before .before .before .before .before .before .before .before .write-head2 in
+    let earlier = c .before .before .before .before .before .before .before .before .before .before .before .before .before .before in
+    let start = c .before .before .before .before .before .before .before .before .before .before .before .before .before .before .before .before .before .before .before in
+    wrote-pow (is-pow t earlier) (start .pre .1 .1) (write-head2 .ensures) (write-text2 .ensures) (c .before .before .write-text3 .ensures))
