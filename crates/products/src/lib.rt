@@ -264,28 +264,8 @@ fn add_cross(
     requires { ⌜ Held width (sumOf width (dec width (take a (now out))) (crossOf width i (dec width (now p)) (dec width (now s)))) ⌝ }
     ensures { λ l. ⌜ Made width (sumOf width (dec width (take a (now (out .entry)))) (crossOf width i (dec width (now (p .entry))) (dec width (now (s .entry))))) l (now (out .exit)) ⌝ }
 {
-    let b = mul_cross(width, i, p, s, t, &mut out[a..], u);
-    factors::sum_back(width, out, a, &t[..b], u)
-}
-
-// pow(i, p pop(1, s), 0)
-fn mul_cross(
-    width: u32,
-    i: u32,
-    p: &[u32],
-    s: &[u32],
-    out: &mut [u32],
-    t: &mut [u32],
-    u: &mut [u32],
-) -> usize
-    requires { ⌜ Coded width (now p) × Coded width (now s) ⌝ }
-    requires { ⌜ CrossSpace width i (dec width (now p)) (dec width (now s)) (length (now out)) (length (now t)) (length (now u)) ⌝ }
-    ensures { λ l. ⌜ Made width (crossOf width i (dec width (now (p .entry))) (dec width (now (s .entry)))) l (now (out .exit)) ⌝ }
-{
-    let a = mul_by_pop(width, p, s, &mut out[1..], t, u);
-    let f = 1 + a;
-    out[f] = 0;
-    coded::make_pow(width, out, i, a, 1)
+    let n = mul_by_pop(width, p, s, &mut t[1..], &mut out[a..], u);
+    factors::sum_cross(width, i, out, a, t, n, u)
 }
 
 // p and pop(1, s)

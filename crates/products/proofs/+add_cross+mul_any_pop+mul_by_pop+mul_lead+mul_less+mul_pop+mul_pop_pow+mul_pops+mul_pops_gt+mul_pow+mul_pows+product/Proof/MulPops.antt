@@ -15,11 +15,11 @@ use Rattle.fits.specs.laws.Fit.{fit-x, fit-prod}
 use Rattle.fits.specs.laws.Tables.{space-at, pop-space-sym, space-pops}
 use borrow.Author.Needs.{needs}
 use Rattle.products.proofs.mul_pops.Reads as mul-pops
-use Rattle.products.proofs.+add_cross+mul_any_pop+mul_by_pop+mul_cross+mul_lead+mul_less+mul_pop+mul_pop_pow+mul_pops+mul_pops_gt+mul_pow+mul_pows+product.Lts-mul_pops as mul-pops-lts
+use Rattle.products.proofs.+add_cross+mul_any_pop+mul_by_pop+mul_lead+mul_less+mul_pop+mul_pop_pow+mul_pops+mul_pops_gt+mul_pow+mul_pows+product.Lts-mul_pops as mul-pops-lts
 use Rattle.products.proofs.mul_pops_gt.Reads as mul-pops-gt
 use Rattle.products.proofs.product.Reads as product
 use Rattle.coded.proofs.make_pop.Reads as make-pop-reads
-use Rattle.products.proofs.+add_cross+mul_any_pop+mul_by_pop+mul_cross+mul_lead+mul_less+mul_pop+mul_pop_pow+mul_pops+mul_pops_gt+mul_pow+mul_pows+product.Proof.Measures.{mul-pops-at, mul-pops-gt-below, product-below}
+use Rattle.products.proofs.+add_cross+mul_any_pop+mul_by_pop+mul_lead+mul_less+mul_pop+mul_pop_pow+mul_pops+mul_pops_gt+mul_pow+mul_pows+product.Proof.Measures.{mul-pops-at, mul-pops-gt-below, product-below}
 
 abbrev After-out·mul-pops : ℕ → Type 0
 After-out·mul-pops t = mul-pops-lts.After-out (product-below t, product.Post, make-pop-reads.Asked, make-pop-reads.Learnt, mul-pops-gt-below t, mul-pops-gt.Post) (mul-pops-at t) mul-pops.Post

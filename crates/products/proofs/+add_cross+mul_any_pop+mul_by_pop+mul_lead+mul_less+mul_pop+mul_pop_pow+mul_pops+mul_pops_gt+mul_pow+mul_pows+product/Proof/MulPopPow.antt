@@ -19,9 +19,9 @@ use Rattle.factors.proofs.Products.{pow-sizes, pow-of-word, pop-times}
 use Rattle.products.proofs.mul_less.Reads as mul-less
 use Rattle.products.proofs.mul_pop.Reads as mul-pop
 use Rattle.products.proofs.mul_pop_pow.Reads as mul-pop-pow
-use Rattle.products.proofs.+add_cross+mul_any_pop+mul_by_pop+mul_cross+mul_lead+mul_less+mul_pop+mul_pop_pow+mul_pops+mul_pops_gt+mul_pow+mul_pows+product.Lts-mul_pop_pow as mul-pop-pow-lts
+use Rattle.products.proofs.+add_cross+mul_any_pop+mul_by_pop+mul_lead+mul_less+mul_pop+mul_pop_pow+mul_pops+mul_pops_gt+mul_pow+mul_pows+product.Lts-mul_pop_pow as mul-pop-pow-lts
 use Rattle.coded.proofs.make_pow.Reads as make-pow-reads
-use Rattle.products.proofs.+add_cross+mul_any_pop+mul_by_pop+mul_cross+mul_lead+mul_less+mul_pop+mul_pop_pow+mul_pops+mul_pops_gt+mul_pow+mul_pows+product.Proof.Measures.{mul-less-below, mul-pop-below, mul-pop-pow-at}
+use Rattle.products.proofs.+add_cross+mul_any_pop+mul_by_pop+mul_lead+mul_less+mul_pop+mul_pop_pow+mul_pops+mul_pops_gt+mul_pow+mul_pows+product.Proof.Measures.{mul-less-below, mul-pop-below, mul-pop-pow-at}
 
 abbrev Start·mul-pop-pow : ℕ → Type 0
 Start·mul-pop-pow t = mul-pop-pow-lts.Start (mul-pop-below t, mul-pop.Post, mul-less-below t, mul-less.Post, make-pow-reads.Asked, make-pow-reads.Learnt) (mul-pop-pow-at t) mul-pop-pow.Post

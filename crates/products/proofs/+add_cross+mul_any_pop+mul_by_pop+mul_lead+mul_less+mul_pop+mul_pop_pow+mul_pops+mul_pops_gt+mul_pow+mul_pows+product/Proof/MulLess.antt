@@ -11,10 +11,10 @@ use Rattle.fits.specs.Tables.{Space}
 use Rattle.fits.specs.laws.Equations.{lower-1, lower-more}
 use Rattle.fits.specs.laws.Tables.{pop-space}
 use Rattle.products.proofs.mul_less.Reads as mul-less
-use Rattle.products.proofs.+add_cross+mul_any_pop+mul_by_pop+mul_cross+mul_lead+mul_less+mul_pop+mul_pop_pow+mul_pops+mul_pops_gt+mul_pow+mul_pows+product.Lts-mul_less as mul-less-lts
+use Rattle.products.proofs.+add_cross+mul_any_pop+mul_by_pop+mul_lead+mul_less+mul_pop+mul_pop_pow+mul_pops+mul_pops_gt+mul_pow+mul_pows+product.Lts-mul_less as mul-less-lts
 use Rattle.products.proofs.mul_pop.Reads as mul-pop
 use Rattle.products.proofs.product.Reads as product
-use Rattle.products.proofs.+add_cross+mul_any_pop+mul_by_pop+mul_cross+mul_lead+mul_less+mul_pop+mul_pop_pow+mul_pops+mul_pops_gt+mul_pow+mul_pows+product.Proof.Measures.{mul-less-at, mul-pop-below, product-below}
+use Rattle.products.proofs.+add_cross+mul_any_pop+mul_by_pop+mul_lead+mul_less+mul_pop+mul_pop_pow+mul_pops+mul_pops_gt+mul_pow+mul_pows+product.Proof.Measures.{mul-less-at, mul-pop-below, product-below}
 
 pub mul-less-meets : {M : Type 1} (t : ℕ) →
     mul-less-lts.Closed (product-below t, product.Post, mul-pop-below t, mul-pop.Post) (mul-less-at t) mul-less.Post M

@@ -10,8 +10,6 @@ use Rattle.products.proofs.mul_any_pop.Reads as mul-any-pop
 use Rattle.products.proofs.mul_any_pop.Kinds as mul-any-pop-kinds
 use Rattle.products.proofs.mul_by_pop.Reads as mul-by-pop
 use Rattle.products.proofs.mul_by_pop.Kinds as mul-by-pop-kinds
-use Rattle.products.proofs.mul_cross.Reads as mul-cross
-use Rattle.products.proofs.mul_cross.Kinds as mul-cross-kinds
 use Rattle.products.proofs.mul_lead.Reads as mul-lead
 use Rattle.products.proofs.mul_lead.Kinds as mul-lead-kinds
 use Rattle.products.proofs.mul_less.Reads as mul-less
@@ -39,9 +37,6 @@ abbrev pub μ-mul-any-pop : Measures 5 mul-any-pop-kinds.ps ℕ
 
 abbrev pub μ-mul-by-pop : Measures 5 mul-by-pop-kinds.ps ℕ
 μ-mul-by-pop κs a = 8 * (1 + length (a .1 .0 .now) + length (a .1 .1 .0 .now)) + 6
-
-abbrev pub μ-mul-cross : Measures 5 mul-cross-kinds.ps ℕ
-μ-mul-cross κs a = 8 * (1 + length (a .1 .1 .0 .now) + length (a .1 .1 .1 .0 .now)) + 7
 
 abbrev pub μ-mul-lead : Measures 7 mul-lead-kinds.ps ℕ
 μ-mul-lead κs a = 8 * (2 + length (a .1 .1 .0 .now) + length (a .1 .1 .1 .0 .now) + length (a .1 .1 .1 .1 .1 .0 .now) + length (a .1 .1 .1 .1 .1 .1 .0 .now)) + 3
@@ -87,12 +82,6 @@ mul-by-pop-at t = and 5 mul-by-pop-kinds.ps (is 5 mul-by-pop-kinds.ps μ-mul-by-
 
 abbrev pub mul-by-pop-below : ℕ → In 5 mul-by-pop-kinds.ps
 mul-by-pop-below t = and 5 mul-by-pop-kinds.ps (falls 5 mul-by-pop-kinds.ps _<_ μ-mul-by-pop t) mul-by-pop.Pre
-
-abbrev pub mul-cross-at : ℕ → In 5 mul-cross-kinds.ps
-mul-cross-at t = and 5 mul-cross-kinds.ps (is 5 mul-cross-kinds.ps μ-mul-cross t) mul-cross.Pre
-
-abbrev pub mul-cross-below : ℕ → In 5 mul-cross-kinds.ps
-mul-cross-below t = and 5 mul-cross-kinds.ps (falls 5 mul-cross-kinds.ps _<_ μ-mul-cross t) mul-cross.Pre
 
 abbrev pub mul-lead-at : ℕ → In 7 mul-lead-kinds.ps
 mul-lead-at t = and 7 mul-lead-kinds.ps (is 7 mul-lead-kinds.ps μ-mul-lead t) mul-lead.Pre

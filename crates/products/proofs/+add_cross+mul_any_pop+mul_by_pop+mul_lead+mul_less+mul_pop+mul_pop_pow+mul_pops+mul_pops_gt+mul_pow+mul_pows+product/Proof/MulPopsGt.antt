@@ -17,9 +17,9 @@ use Rattle.fits.specs.laws.Tables.{pop-space-at, space-pops-gt}
 use borrow.Author.Needs.{needs}
 use Rattle.products.proofs.mul_pop.Reads as mul-pop
 use Rattle.products.proofs.mul_pops_gt.Reads as mul-pops-gt
-use Rattle.products.proofs.+add_cross+mul_any_pop+mul_by_pop+mul_cross+mul_lead+mul_less+mul_pop+mul_pop_pow+mul_pops+mul_pops_gt+mul_pow+mul_pows+product.Lts-mul_pops_gt as mul-pops-gt-lts
+use Rattle.products.proofs.+add_cross+mul_any_pop+mul_by_pop+mul_lead+mul_less+mul_pop+mul_pop_pow+mul_pops+mul_pops_gt+mul_pow+mul_pows+product.Lts-mul_pops_gt as mul-pops-gt-lts
 use Rattle.coded.proofs.make_pop.Reads as make-pop-reads
-use Rattle.products.proofs.+add_cross+mul_any_pop+mul_by_pop+mul_cross+mul_lead+mul_less+mul_pop+mul_pop_pow+mul_pops+mul_pops_gt+mul_pow+mul_pows+product.Proof.Measures.{mul-pop-below, mul-pops-gt-at}
+use Rattle.products.proofs.+add_cross+mul_any_pop+mul_by_pop+mul_lead+mul_less+mul_pop+mul_pop_pow+mul_pops+mul_pops_gt+mul_pow+mul_pows+product.Proof.Measures.{mul-pop-below, mul-pops-gt-at}
 
 abbrev After-out·mul-pops-gt : ℕ → Type 0
 After-out·mul-pops-gt t = mul-pops-gt-lts.After-out (mul-pop-below t, mul-pop.Post, make-pop-reads.Asked, make-pop-reads.Learnt) (mul-pops-gt-at t) mul-pops-gt.Post
