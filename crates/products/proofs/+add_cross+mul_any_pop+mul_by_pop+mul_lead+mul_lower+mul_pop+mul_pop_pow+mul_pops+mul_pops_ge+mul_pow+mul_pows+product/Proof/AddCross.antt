@@ -9,9 +9,9 @@ use Rattle.factors.proofs.Products.{cross-asks, cross-gives}
 use borrow.Author.Needs.{needs}
 use Rattle.products.proofs.add_cross.Reads as add-cross
 use Rattle.products.proofs.mul_by_pop.Reads as mul-by-pop
-use Rattle.products.proofs.+add_cross+mul_any_pop+mul_by_pop+mul_lead+mul_less+mul_pop+mul_pop_pow+mul_pops+mul_pops_gt+mul_pow+mul_pows+product.Lts-add_cross as add-cross-lts
+use Rattle.products.proofs.+add_cross+mul_any_pop+mul_by_pop+mul_lead+mul_lower+mul_pop+mul_pop_pow+mul_pops+mul_pops_ge+mul_pow+mul_pows+product.Lts-add_cross as add-cross-lts
 use Rattle.factors.proofs.sum_cross.Reads as sum-cross-reads
-use Rattle.products.proofs.+add_cross+mul_any_pop+mul_by_pop+mul_lead+mul_less+mul_pop+mul_pop_pow+mul_pops+mul_pops_gt+mul_pow+mul_pows+product.Proof.Measures.{add-cross-at, mul-by-pop-below}
+use Rattle.products.proofs.+add_cross+mul_any_pop+mul_by_pop+mul_lead+mul_lower+mul_pop+mul_pop_pow+mul_pops+mul_pops_ge+mul_pow+mul_pows+product.Proof.Measures.{add-cross-at, mul-by-pop-below}
 
 pub add-cross-meets : {M : Type 1} (t : ℕ) →
     add-cross-lts.Closed (mul-by-pop-below t, mul-by-pop.Post, sum-cross-reads.Asked, sum-cross-reads.Learnt) (add-cross-at t) add-cross.Post M
