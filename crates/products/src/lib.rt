@@ -2,7 +2,7 @@
 // and its p, so that (POP i-j p) and pop(1, s) are never written out. Each writes its result at the front of out and returns its length; t and u are for work.
 // A head word below 2,147,483,648 is a leaf, one below 2,147,483,712 a POP's, any other a POW's.
 ghost use mathlib.Core.Path.{_≡_};
-ghost use Prim.Native.Nat.{_+_, _-_, _<_, _≤_};
+ghost use Prim.Native.Nat.{_+_, _-_, _≤_};
 ghost use lib.ListN.{length, take};
 ghost use Rattle.horner.specs.definitions.Form.{pop, pow, lower};
 ghost use Rattle.coded.specs.Widths.{modulus};
@@ -97,18 +97,14 @@ fn mul_pops(
     requires { ⌜ PopSpace width (pop i (dec width (now p))) (pop j (dec width (now q))) (length (now out)) (length (now t)) (length (now u)) ⌝ }
     ensures { λ l. ⌜ Made width (prodOf width (pop i (dec width (now (p .entry)))) (pop j (dec width (now (q .entry))))) l (now (out .exit)) ⌝ }
 {
-    if i == j {
-        let n = product(width, p, q, &mut out[1..], t, u);
-        return coded::make_pop(width, out, i, n);
+    if j <= i {
+        return mul_pops_ge(width, i, p, j, q, out, t, u);
     }
-    if j < i {
-        return mul_pops_gt(width, i, p, j, q, out, t, u);
-    }
-    mul_pops_gt(width, j, q, i, p, out, t, u)
+    mul_pops_ge(width, j, q, i, p, out, t, u)
 }
 
-// (POP i p) and (POP j q), with j below i
-fn mul_pops_gt(
+// (POP i p) and (POP j q), with j at most i
+fn mul_pops_ge(
     width: u32,
     i: u32,
     p: &[u32],
@@ -120,10 +116,10 @@ fn mul_pops_gt(
 ) -> usize
     requires { ⌜ Coded width (now p) × Coded width (now q) ⌝ }
     requires { ⌜ PopSpace width (pop i (dec width (now p))) (pop j (dec width (now q))) (length (now out)) (length (now t)) (length (now u)) ⌝ }
-    requires { ⌜ j < i ⌝ }
+    requires { ⌜ j ≤ i ⌝ }
     ensures { λ l. ⌜ Made width (prodOf width (pop i (dec width (now (p .entry)))) (pop j (dec width (now (q .entry))))) l (now (out .exit)) ⌝ }
 {
-    let n = mul_pop(width, i - j, p, q, &mut out[1..], t, u);
+    let n = mul_lower(width, i - j, p, q, &mut out[1..], t, u);
     coded::make_pop(width, out, j, n)
 }
 
@@ -146,29 +142,28 @@ fn mul_pop_pow(
     let e = 1 + ((w - 2147483648) / 64) as usize;
     let a = mul_pop(width, i, p, &y[1..e], &mut out[1..], t, u);
     let f = 1 + a;
-    let b = mul_less(width, i, p, &y[e..], &mut out[f..], t, u);
+    let b = mul_lower(width, i - 1, p, &y[e..], &mut out[f..], t, u);
     coded::make_pow(width, out, w % 64, a, b)
 }
 
-// (POP i-1 p) and r, or p and r where i is 1
-fn mul_less(
+// (POP k p) and y, or p and y where k is 0
+fn mul_lower(
     width: u32,
-    i: u32,
+    k: u32,
     p: &[u32],
-    r: &[u32],
+    y: &[u32],
     out: &mut [u32],
     t: &mut [u32],
     u: &mut [u32],
 ) -> usize
-    requires { ⌜ Coded width (now p) × Coded width (now r) ⌝ }
-    requires { ⌜ 0 < i ⌝ }
-    requires { ⌜ Space width (lower (i - 1) (dec width (now p))) (dec width (now r)) (length (now out)) (length (now t)) (length (now u)) ⌝ }
-    ensures { λ l. ⌜ Made width (prodOf width (lower (i - 1) (dec width (now (p .entry)))) (dec width (now (r .entry)))) l (now (out .exit)) ⌝ }
+    requires { ⌜ Coded width (now p) × Coded width (now y) ⌝ }
+    requires { ⌜ Space width (lower k (dec width (now p))) (dec width (now y)) (length (now out)) (length (now t)) (length (now u)) ⌝ }
+    ensures { λ l. ⌜ Made width (prodOf width (lower k (dec width (now (p .entry)))) (dec width (now (y .entry)))) l (now (out .exit)) ⌝ }
 {
-    if i == 1 {
-        return product(width, p, r, out, t, u);
+    if k == 0 {
+        return product(width, p, y, out, t, u);
     }
-    mul_pop(width, i - 1, p, r, out, t, u)
+    mul_pop(width, k, p, y, out, t, u)
 }
 
 // x, a POW, and y
@@ -264,28 +259,8 @@ fn add_cross(
     requires { ⌜ Held width (sumOf width (dec width (take a (now out))) (crossOf width i (dec width (now p)) (dec width (now s)))) ⌝ }
     ensures { λ l. ⌜ Made width (sumOf width (dec width (take a (now (out .entry)))) (crossOf width i (dec width (now (p .entry))) (dec width (now (s .entry))))) l (now (out .exit)) ⌝ }
 {
-    let b = mul_cross(width, i, p, s, t, &mut out[a..], u);
-    factors::sum_back(width, out, a, &t[..b], u)
-}
-
-// pow(i, p pop(1, s), 0)
-fn mul_cross(
-    width: u32,
-    i: u32,
-    p: &[u32],
-    s: &[u32],
-    out: &mut [u32],
-    t: &mut [u32],
-    u: &mut [u32],
-) -> usize
-    requires { ⌜ Coded width (now p) × Coded width (now s) ⌝ }
-    requires { ⌜ CrossSpace width i (dec width (now p)) (dec width (now s)) (length (now out)) (length (now t)) (length (now u)) ⌝ }
-    ensures { λ l. ⌜ Made width (crossOf width i (dec width (now (p .entry))) (dec width (now (s .entry)))) l (now (out .exit)) ⌝ }
-{
-    let a = mul_by_pop(width, p, s, &mut out[1..], t, u);
-    let f = 1 + a;
-    out[f] = 0;
-    coded::make_pow(width, out, i, a, 1)
+    let n = mul_by_pop(width, p, s, &mut t[1..], &mut out[a..], u);
+    factors::sum_cross(width, i, out, a, t, n, u)
 }
 
 // p and pop(1, s)

@@ -1,6 +1,6 @@
 -- The cases of Definition 11, of the product in the ring of a width.
 use mathlib.Core.Path.{_≡_, refl, sym, ap, subst, _∙_}
-use Prim.Native.Nat.{ℕ, suc, _-_, _<_}
+use Prim.Native.Nat.{ℕ, zero, suc, _-_, _≤_, _<_}
 use native.Mathlib.Omega.{arith}
 use Rattle.horner.specs.definitions.Form.{Form, int, pop, pow, lower}
 use Rattle.horner.specs.laws.Equations.{prod-int, prod-pop-int, prod-pow-int, prod-pop-pow, prod-pow-pop, prod-pow-pow, prod-3a, prod-3b, prod-3c}
@@ -25,19 +25,22 @@ module _ (w : ℕ) where
     unfolding scaleOf popOf
     scale-pop i p = refl
 
-  -- (3)
+  -- (3), where the first POP goes down at least as far
   module _ (i j : ℕ) (p q : Form (Leaf w)) where
-    pub pops-eq : i ≡ j → prodOf w (pop i p) (pop j q) ≡ popOf w i (prodOf w p q)
+    pops-by : (d : ℕ) → i - j ≡ d → j ≤ i → prodOf w (pop i p) (pop j q) ≡ popOf w j (prodOf w (lower d p) q)
     unfolding prodOf popOf
-    pops-eq e = subst (λ k. prodOf w (pop i p) (pop k q) ≡ popOf w i (prodOf w p q)) e (prod-3a (ringOf w) i p q)
+    pops-by zero e l =
+        let k : j ≡ i = omega arith in
+        subst (λ z. prodOf w (pop z p) (pop j q) ≡ popOf w j (prodOf w p q)) k (prod-3a (ringOf w) j p q)
+    pops-by (suc d) e l = prod-3b (ringOf w) i j p q (omega arith) ∙ ap (λ z. popOf w j (prodOf w (pop z p) q)) e
 
-    pub pops-gt : j < i → prodOf w (pop i p) (pop j q) ≡ popOf w j (prodOf w (pop (i - j) p) q)
-    unfolding prodOf popOf
-    pops-gt l = prod-3b (ringOf w) i j p q l
+    pub pops-ge : j ≤ i → prodOf w (pop i p) (pop j q) ≡ popOf w j (prodOf w (lower (i - j) p) q)
+    pops-ge = pops-by (i - j) refl
 
-    pub pops-lt : i < j → prodOf w (pop i p) (pop j q) ≡ popOf w i (prodOf w (pop (j - i) q) p)
-    unfolding prodOf popOf
-    pops-lt l = prod-3c (ringOf w) i j p q l
+  -- and where it does not
+  pub pops-swap : (i j : ℕ) (p q : Form (Leaf w)) → i < j → prodOf w (pop j q) (pop i p) ≡ prodOf w (pop i p) (pop j q)
+  unfolding prodOf
+  pops-swap i j p q l = prod-3b (ringOf w) j i q p l ∙ sym (prod-3c (ringOf w) i j p q l)
 
   -- (4) and (5)
   module _ (i j : ℕ) (p q r : Form (Leaf w)) where
@@ -53,17 +56,14 @@ module _ (w : ℕ) where
         let e : suc (i - 1) ≡ i = omega arith in
         subst (λ z. prodOf w (pow j q r) (pop z p) ≡ prodOf w (pop z p) (pow j q r)) e (prod-pow-pop (ringOf w) (i - 1) j p q r)
 
-  -- the POP of (4) that goes down one less
-  module _ (i : ℕ) (p : Form (Leaf w)) where
-    pub lower-1 : i ≡ 1 → lower (i - 1) p ≡ p
-    lower-1 e =
-        let z : i - 1 ≡ 0 = omega arith in
-        ap (λ k. lower k p) z
+  -- lower k p, by k
+  module _ (p : Form (Leaf w)) where
+    pub lower-none : (k : ℕ) → k ≡ 0 → lower k p ≡ p
+    lower-none k e = ap (λ z. lower z p) e
 
-    pub lower-more : 0 < i → (i ≡ 1 → ⊥) → lower (i - 1) p ≡ pop (i - 1) p
-    lower-more l n =
-        let z : i - 1 ≡ suc (i - 2) = omega arith in
-        ap (λ k. lower k p) z ∙ ap (λ k. pop k p) (sym z)
+    pub lower-some : (k : ℕ) → (k ≡ 0 → ⊥) → lower k p ≡ pop k p
+    lower-some zero n = absurd (n refl)
+    lower-some (suc k) n = refl
 
   -- (6)
   pub pows : (i j : ℕ) (p q r s : Form (Leaf w))

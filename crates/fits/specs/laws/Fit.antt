@@ -20,7 +20,7 @@ use Rattle.coded.specs.laws.Good.{good-at}
 use Rattle.coded.specs.laws.Sizes.{size-enc}
 use Rattle.fits.specs.Fit.{prodOf, Within, Fit, Held}
 use Rattle.fits.specs.laws.Lists.{sums-left, after-sums, first-left, length-after, all-after, first-le, box-below, below-limits, cut, length-cut, below-cut, first-cut}
-use Rattle.fits.specs.laws.Parts.{under-pop, under-less, under-lower, under-pow, within-cut, exponent-le}
+use Rattle.fits.specs.laws.Parts.{under-pop, under-lower, under-pow, within-cut, exponent-le}
 
 -- the terms, cut to the box, do not grow where the box does not
 fewer : (c a b : ℕ) → a ≤ b → min c b ≤ 256 → min c a ≤ 256
@@ -169,12 +169,9 @@ module _ {w n k : ℕ} {y : Form (Leaf w)} (i : ℕ) (p q : Form (Leaf w)) (f : 
 pub fit-rests : {w n k : ℕ} (i j : ℕ) (p q r s : Form (Leaf w)) → Fit w n k (pow i p q) (pow j r s) → Fit w (n - 1) 63 q s
 fit-rests i j p q r s f = fit-under f 1 (under-pow (f .dx) i p q (f .of-x)) (under-pow (f .dy) j r s (f .of-y))
 
-module _ {w n k : ℕ} (i j : ℕ) (p q : Form (Leaf w)) (f : Fit w n k (pop i p) (pop j q)) where
-  pub fit-pops : i ≡ j → Fit w (n - i) 63 p q
-  fit-pops e = fit-under f i (under-pop i p (f .of-x)) (subst (λ z. Within w (n - z) (f .cy) (after z (f .dy)) q) (sym e) (under-pop j q (f .of-y)))
-
-  pub fit-pops-gt : j < i → Fit w (n - j) 63 (pop (i - j) p) q
-  fit-pops-gt l = fit-under f j (under-less i j p l (f .of-x)) (under-pop j q (f .of-y))
+-- two POPs, of which the first goes down at least as far
+pub fit-pops : {w n k : ℕ} (i j : ℕ) (p q : Form (Leaf w)) → j ≤ i → Fit w n k (pop i p) (pop j q) → Fit w (n - j) 63 (lower (i - j) p) q
+fit-pops i j p q l f = fit-under f j (under-lower i j p l (f .of-x)) (under-pop j q (f .of-y))
 
 pub fit-lower : {w n k : ℕ} (i j : ℕ) (p q r : Form (Leaf w)) → 0 < i → Fit w n k (pop i p) (pow j q r) → Fit w (n - 1) 63 (lower (i - 1) p) r
-fit-lower i j p q r l f = fit-under f 1 (under-lower i p l (f .of-x)) (under-pow (f .dy) j q r (f .of-y))
+fit-lower i j p q r l f = fit-under f 1 (under-lower i 1 p l (f .of-x)) (under-pow (f .dy) j q r (f .of-y))

@@ -1,15 +1,12 @@
 -- The parts of a form with bounds: what is known of a form that stands i variables further down.
 use mathlib.Core.List.{List, [], _∷_}
 use mathlib.Core.Path.{_≡_, _∙_, ap, subst}
-use Prim.Native.Nat.{ℕ, suc, _+_, _-_, _<_, _≤_}
+use Prim.Native.Nat.{ℕ, zero, suc, _+_, _-_, _≤_}
 use native.Mathlib.Omega.{arith}
 use Rattle.horner.specs.definitions.Form.{Form, pop, pow, lower}
-use Rattle.horner.specs.definitions.Measures.{firstOr0, one-if, Bounded}
+use Rattle.horner.specs.definitions.Measures.{firstOr0, Bounded}
 use Rattle.horner.specs.definitions.Normal.{Normal}
-use Rattle.horner.specs.definitions.Value.{tl, after}
-use Rattle.horner.specs.laws.Grid.{bounded-lower}
-use Rattle.horner.specs.laws.Measure.{meas-lower}
-use Rattle.horner.specs.laws.Normal.{normal-lower}
+use Rattle.horner.specs.definitions.Value.{after}
 use Rattle.horner.specs.laws.Value.{after-add}
 use Rattle.coded.specs.Widths.{Leaf, ringOf}
 use Rattle.fits.specs.Fit.{Within}
@@ -20,27 +17,21 @@ module _ {w n c : ℕ} {ds : List ℕ} where
   pub under-pop : (i : ℕ) (p : Form (Leaf w)) → Within w n c ds (pop i p) → Within w (n - i) c (after i ds) p
   under-pop i p h = record { normal = h .normal .2; bounded = h .bounded; few = h .few }
 
-  -- a POP that goes down less
-  pub under-less : (i j : ℕ) (p : Form (Leaf w)) → j < i → Within w n c ds (pop i p) → Within w (n - j) c (after j ds) (pop (i - j) p)
-  under-less i j p l h =
-      let e : i ≡ j + (i - j) = omega arith in
-      let m : n - i ≡ n - j - (i - j) = omega arith in
+  -- what is left of a POP j variables down: (POP i-j p), or p where i is j
+  below : (i j d : ℕ) (p : Form (Leaf w)) → i ≡ j + d → Within w n c ds (pop i p) → Within w (n - j) c (after j ds) (lower d p)
+  below i j zero p e h =
+      let k : i ≡ j = omega arith in
+      subst (λ z. Within w (n - z) c (after z ds) p) k (under-pop i p h)
+  below i j (suc d) p e h =
+      let m : n - i ≡ n - j - suc d = omega arith in
       record {
         normal = (omega arith, h .normal .1, subst (λ z. Normal (ringOf w) z p) m (h .normal .2));
-        bounded = subst (λ z. Bounded z p) (ap (λ z. after z ds) e ∙ after-add j (i - j) ds) (h .bounded);
+        bounded = subst (λ z. Bounded z p) (ap (λ z. after z ds) e ∙ after-add j (suc d) ds) (h .bounded);
         few = h .few;
       }
 
-  -- (POP i-1 p), or p where that i is 0
-  pub under-lower : (i : ℕ) (p : Form (Leaf w)) → 0 < i → Within w n c ds (pop i p) → Within w (n - 1) c (after 1 ds) (lower (i - 1) p)
-  under-lower i p l h =
-      let e : i ≡ suc (i - 1) = omega arith in
-      let m : n - i ≡ n - suc (i - 1) = omega arith in
-      record {
-        normal = normal-lower (ringOf w) n (i - 1) p (h .normal .1) (subst (λ z. Normal (ringOf w) z p) m (h .normal .2));
-        bounded = bounded-lower (ringOf w) (i - 1) p (tl ds) (subst (λ z. Bounded (after z ds) p) e (h .bounded));
-        few = omega (arith, meas-lower (one-if (ringOf w)) (i - 1) p, h .few);
-      }
+  pub under-lower : (i j : ℕ) (p : Form (Leaf w)) → j ≤ i → Within w n c ds (pop i p) → Within w (n - j) c (after j ds) (lower (i - j) p)
+  under-lower i j p l = below i j (i - j) p (omega arith)
 
 -- the q of a POW
 pub under-pow : {w n c : ℕ} (ds : List ℕ) (i : ℕ) (p q : Form (Leaf w)) → Within w n c ds (pow i p q) → Within w (n - 1) c (after 1 ds) q

@@ -1,7 +1,7 @@
 -- The tables that are enough for a product are enough for the products that it is made of: Definition 11, case by case.
 use mathlib.Core.List.{List}
 use mathlib.Core.Path.{_≡_}
-use Prim.Native.Nat.{ℕ, _+_, _-_, _<_, _≤_}
+use Prim.Native.Nat.{ℕ, _+_, _-_, _≤_}
 use native.Mathlib.Omega.{arith}
 use Rattle.horner.specs.definitions.Form.{Form, pop, pow, lower}
 use Rattle.horner.specs.laws.Normal.{pow-level}
@@ -9,7 +9,7 @@ use Rattle.coded.specs.Operations.{popOf}
 use Rattle.coded.specs.Widths.{Leaf, ringOf}
 use Rattle.fits.specs.Fit.{Within}
 use Rattle.fits.specs.Tables.{wordsFor, Tables, Space, PopSpace, CrossSpace}
-use Rattle.fits.specs.laws.Fit.{fit-sym, fit-exponent, fit-pow, fit-up, fit-rests, fit-pops, fit-pops-gt, fit-lower}
+use Rattle.fits.specs.laws.Fit.{fit-sym, fit-exponent, fit-pow, fit-up, fit-rests, fit-pops, fit-lower}
 use Rattle.fits.specs.laws.Summands.{cross-held}
 
 -- the same lengths, written another way
@@ -41,14 +41,9 @@ pop-space i p s = record { n = s .n; k = s .k; pos = pop-vars i p (s .fit .of-x)
 
 -- ---- (3)
 module _ {w o t u : ℕ} (i j : ℕ) (p q : Form (Leaf w)) (s : PopSpace w (pop i p) (pop j q) o t u) where
-  pub space-pops : i ≡ j → Space w p q (o - 1) t u
-  space-pops e =
-      record { n = s .n - i; k = 63; fit = fit-pops i j p q (s .fit) e; tables = omega (arith, s .tables, s .pos, s .fit .of-x .normal .0) }
-
-  pub space-pops-gt : j < i → PopSpace w (pop (i - j) p) q (o - 1) t u
-  space-pops-gt l =
-      let f = fit-pops-gt i j p q (s .fit) l in
-      record { n = s .n - j; k = 63; pos = pop-vars (i - j) p (f .of-x); fit = f; tables = omega (arith, s .tables, s .pos, s .fit .of-y .normal .0) }
+  pub space-pops : j ≤ i → Space w (lower (i - j) p) q (o - 1) t u
+  space-pops l =
+      record { n = s .n - j; k = 63; fit = fit-pops i j p q l (s .fit); tables = omega (arith, s .tables, s .pos, s .fit .of-y .normal .0) }
 
 -- ---- (4): the p of the POW, and its q behind what that gives, of a words
 module _ {w o t u : ℕ} (i j : ℕ) (p q r : Form (Leaf w)) (s : PopSpace w (pop i p) (pow j q r) o t u) where

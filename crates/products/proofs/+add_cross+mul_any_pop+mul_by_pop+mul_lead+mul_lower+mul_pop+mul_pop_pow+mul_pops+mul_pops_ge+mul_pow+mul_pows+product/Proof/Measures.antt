@@ -10,20 +10,18 @@ use Rattle.products.proofs.mul_any_pop.Reads as mul-any-pop
 use Rattle.products.proofs.mul_any_pop.Kinds as mul-any-pop-kinds
 use Rattle.products.proofs.mul_by_pop.Reads as mul-by-pop
 use Rattle.products.proofs.mul_by_pop.Kinds as mul-by-pop-kinds
-use Rattle.products.proofs.mul_cross.Reads as mul-cross
-use Rattle.products.proofs.mul_cross.Kinds as mul-cross-kinds
 use Rattle.products.proofs.mul_lead.Reads as mul-lead
 use Rattle.products.proofs.mul_lead.Kinds as mul-lead-kinds
-use Rattle.products.proofs.mul_less.Reads as mul-less
-use Rattle.products.proofs.mul_less.Kinds as mul-less-kinds
+use Rattle.products.proofs.mul_lower.Reads as mul-lower
+use Rattle.products.proofs.mul_lower.Kinds as mul-lower-kinds
 use Rattle.products.proofs.mul_pop.Reads as mul-pop
 use Rattle.products.proofs.mul_pop.Kinds as mul-pop-kinds
 use Rattle.products.proofs.mul_pop_pow.Reads as mul-pop-pow
 use Rattle.products.proofs.mul_pop_pow.Kinds as mul-pop-pow-kinds
 use Rattle.products.proofs.mul_pops.Reads as mul-pops
 use Rattle.products.proofs.mul_pops.Kinds as mul-pops-kinds
-use Rattle.products.proofs.mul_pops_gt.Reads as mul-pops-gt
-use Rattle.products.proofs.mul_pops_gt.Kinds as mul-pops-gt-kinds
+use Rattle.products.proofs.mul_pops_ge.Reads as mul-pops-ge
+use Rattle.products.proofs.mul_pops_ge.Kinds as mul-pops-ge-kinds
 use Rattle.products.proofs.mul_pow.Reads as mul-pow
 use Rattle.products.proofs.mul_pow.Kinds as mul-pow-kinds
 use Rattle.products.proofs.mul_pows.Reads as mul-pows
@@ -40,14 +38,11 @@ abbrev pub μ-mul-any-pop : Measures 5 mul-any-pop-kinds.ps ℕ
 abbrev pub μ-mul-by-pop : Measures 5 mul-by-pop-kinds.ps ℕ
 μ-mul-by-pop κs a = 8 * (1 + length (a .1 .0 .now) + length (a .1 .1 .0 .now)) + 6
 
-abbrev pub μ-mul-cross : Measures 5 mul-cross-kinds.ps ℕ
-μ-mul-cross κs a = 8 * (1 + length (a .1 .1 .0 .now) + length (a .1 .1 .1 .0 .now)) + 7
-
 abbrev pub μ-mul-lead : Measures 7 mul-lead-kinds.ps ℕ
 μ-mul-lead κs a = 8 * (2 + length (a .1 .1 .0 .now) + length (a .1 .1 .1 .0 .now) + length (a .1 .1 .1 .1 .1 .0 .now) + length (a .1 .1 .1 .1 .1 .1 .0 .now)) + 3
 
-abbrev pub μ-mul-less : Measures 5 mul-less-kinds.ps ℕ
-μ-mul-less κs a = 8 * (1 + length (a .1 .1 .0 .now) + length (a .1 .1 .1 .0 .now)) + 7
+abbrev pub μ-mul-lower : Measures 5 mul-lower-kinds.ps ℕ
+μ-mul-lower κs a = 8 * (1 + length (a .1 .1 .0 .now) + length (a .1 .1 .1 .0 .now)) + 7
 
 abbrev pub μ-mul-pop : Measures 5 mul-pop-kinds.ps ℕ
 μ-mul-pop κs a = 8 * (1 + length (a .1 .1 .0 .now) + length (a .1 .1 .1 .0 .now)) + 5
@@ -58,8 +53,8 @@ abbrev pub μ-mul-pop-pow : Measures 5 mul-pop-pow-kinds.ps ℕ
 abbrev pub μ-mul-pops : Measures 5 mul-pops-kinds.ps ℕ
 μ-mul-pops κs a = 8 * (2 + length (a .1 .1 .0 .now) + length (a .1 .1 .1 .1 .0 .now)) + 4
 
-abbrev pub μ-mul-pops-gt : Measures 5 mul-pops-gt-kinds.ps ℕ
-μ-mul-pops-gt κs a = 8 * (2 + length (a .1 .1 .0 .now) + length (a .1 .1 .1 .1 .0 .now)) + 3
+abbrev pub μ-mul-pops-ge : Measures 5 mul-pops-ge-kinds.ps ℕ
+μ-mul-pops-ge κs a = 8 * (2 + length (a .1 .1 .0 .now) + length (a .1 .1 .1 .1 .0 .now)) + 3
 
 abbrev pub μ-mul-pow : Measures 5 mul-pow-kinds.ps ℕ
 μ-mul-pow κs a = 8 * (length (a .1 .0 .now) + length (a .1 .1 .0 .now)) + 5
@@ -88,23 +83,17 @@ mul-by-pop-at t = and 5 mul-by-pop-kinds.ps (is 5 mul-by-pop-kinds.ps μ-mul-by-
 abbrev pub mul-by-pop-below : ℕ → In 5 mul-by-pop-kinds.ps
 mul-by-pop-below t = and 5 mul-by-pop-kinds.ps (falls 5 mul-by-pop-kinds.ps _<_ μ-mul-by-pop t) mul-by-pop.Pre
 
-abbrev pub mul-cross-at : ℕ → In 5 mul-cross-kinds.ps
-mul-cross-at t = and 5 mul-cross-kinds.ps (is 5 mul-cross-kinds.ps μ-mul-cross t) mul-cross.Pre
-
-abbrev pub mul-cross-below : ℕ → In 5 mul-cross-kinds.ps
-mul-cross-below t = and 5 mul-cross-kinds.ps (falls 5 mul-cross-kinds.ps _<_ μ-mul-cross t) mul-cross.Pre
-
 abbrev pub mul-lead-at : ℕ → In 7 mul-lead-kinds.ps
 mul-lead-at t = and 7 mul-lead-kinds.ps (is 7 mul-lead-kinds.ps μ-mul-lead t) mul-lead.Pre
 
 abbrev pub mul-lead-below : ℕ → In 7 mul-lead-kinds.ps
 mul-lead-below t = and 7 mul-lead-kinds.ps (falls 7 mul-lead-kinds.ps _<_ μ-mul-lead t) mul-lead.Pre
 
-abbrev pub mul-less-at : ℕ → In 5 mul-less-kinds.ps
-mul-less-at t = and 5 mul-less-kinds.ps (is 5 mul-less-kinds.ps μ-mul-less t) mul-less.Pre
+abbrev pub mul-lower-at : ℕ → In 5 mul-lower-kinds.ps
+mul-lower-at t = and 5 mul-lower-kinds.ps (is 5 mul-lower-kinds.ps μ-mul-lower t) mul-lower.Pre
 
-abbrev pub mul-less-below : ℕ → In 5 mul-less-kinds.ps
-mul-less-below t = and 5 mul-less-kinds.ps (falls 5 mul-less-kinds.ps _<_ μ-mul-less t) mul-less.Pre
+abbrev pub mul-lower-below : ℕ → In 5 mul-lower-kinds.ps
+mul-lower-below t = and 5 mul-lower-kinds.ps (falls 5 mul-lower-kinds.ps _<_ μ-mul-lower t) mul-lower.Pre
 
 abbrev pub mul-pop-at : ℕ → In 5 mul-pop-kinds.ps
 mul-pop-at t = and 5 mul-pop-kinds.ps (is 5 mul-pop-kinds.ps μ-mul-pop t) mul-pop.Pre
@@ -124,11 +113,11 @@ mul-pops-at t = and 5 mul-pops-kinds.ps (is 5 mul-pops-kinds.ps μ-mul-pops t) m
 abbrev pub mul-pops-below : ℕ → In 5 mul-pops-kinds.ps
 mul-pops-below t = and 5 mul-pops-kinds.ps (falls 5 mul-pops-kinds.ps _<_ μ-mul-pops t) mul-pops.Pre
 
-abbrev pub mul-pops-gt-at : ℕ → In 5 mul-pops-gt-kinds.ps
-mul-pops-gt-at t = and 5 mul-pops-gt-kinds.ps (is 5 mul-pops-gt-kinds.ps μ-mul-pops-gt t) mul-pops-gt.Pre
+abbrev pub mul-pops-ge-at : ℕ → In 5 mul-pops-ge-kinds.ps
+mul-pops-ge-at t = and 5 mul-pops-ge-kinds.ps (is 5 mul-pops-ge-kinds.ps μ-mul-pops-ge t) mul-pops-ge.Pre
 
-abbrev pub mul-pops-gt-below : ℕ → In 5 mul-pops-gt-kinds.ps
-mul-pops-gt-below t = and 5 mul-pops-gt-kinds.ps (falls 5 mul-pops-gt-kinds.ps _<_ μ-mul-pops-gt t) mul-pops-gt.Pre
+abbrev pub mul-pops-ge-below : ℕ → In 5 mul-pops-ge-kinds.ps
+mul-pops-ge-below t = and 5 mul-pops-ge-kinds.ps (falls 5 mul-pops-ge-kinds.ps _<_ μ-mul-pops-ge t) mul-pops-ge.Pre
 
 abbrev pub mul-pow-at : ℕ → In 5 mul-pow-kinds.ps
 mul-pow-at t = and 5 mul-pow-kinds.ps (is 5 mul-pow-kinds.ps μ-mul-pow t) mul-pow.Pre

@@ -15,10 +15,10 @@ use Rattle.fits.specs.laws.Summands.{lead-held}
 use Rattle.fits.specs.laws.Tables.{space-at, space-leads, space-rests}
 use borrow.Author.Needs.{needs}
 use Rattle.products.proofs.mul_lead.Reads as mul-lead
-use Rattle.products.proofs.+add_cross+mul_any_pop+mul_by_pop+mul_cross+mul_lead+mul_less+mul_pop+mul_pop_pow+mul_pops+mul_pops_gt+mul_pow+mul_pows+product.Lts-mul_lead as mul-lead-lts
+use Rattle.products.proofs.+add_cross+mul_any_pop+mul_by_pop+mul_lead+mul_lower+mul_pop+mul_pop_pow+mul_pops+mul_pops_ge+mul_pow+mul_pows+product.Lts-mul_lead as mul-lead-lts
 use Rattle.products.proofs.product.Reads as product
 use Rattle.coded.proofs.make_pow.Reads as make-pow-reads
-use Rattle.products.proofs.+add_cross+mul_any_pop+mul_by_pop+mul_cross+mul_lead+mul_less+mul_pop+mul_pop_pow+mul_pops+mul_pops_gt+mul_pow+mul_pows+product.Proof.Measures.{mul-lead-at, product-below}
+use Rattle.products.proofs.+add_cross+mul_any_pop+mul_by_pop+mul_lead+mul_lower+mul_pop+mul_pop_pow+mul_pops+mul_pops_ge+mul_pow+mul_pows+product.Proof.Measures.{mul-lead-at, product-below}
 
 abbrev After-u·mul-lead : ℕ → Type 0
 After-u·mul-lead t = mul-lead-lts.After-u (product-below t, product.Post, make-pow-reads.Asked, make-pow-reads.Learnt) (mul-lead-at t) mul-lead.Post

@@ -17,10 +17,10 @@ use Rattle.fits.specs.laws.Tables.{space-sym, pop-space}
 use Rattle.factors.proofs.Products.{pop-sizes, pow-sizes, pop-of-word, pow-of-word, times-int, times-swap}
 use Rattle.products.proofs.mul_pop_pow.Reads as mul-pop-pow
 use Rattle.products.proofs.mul_pow.Reads as mul-pow
-use Rattle.products.proofs.+add_cross+mul_any_pop+mul_by_pop+mul_cross+mul_lead+mul_less+mul_pop+mul_pop_pow+mul_pops+mul_pops_gt+mul_pow+mul_pows+product.Lts-mul_pow as mul-pow-lts
+use Rattle.products.proofs.+add_cross+mul_any_pop+mul_by_pop+mul_lead+mul_lower+mul_pop+mul_pop_pow+mul_pops+mul_pops_ge+mul_pow+mul_pows+product.Lts-mul_pow as mul-pow-lts
 use Rattle.products.proofs.mul_pows.Reads as mul-pows
 use Rattle.walks.proofs.scale.Reads as scale-reads
-use Rattle.products.proofs.+add_cross+mul_any_pop+mul_by_pop+mul_cross+mul_lead+mul_less+mul_pop+mul_pop_pow+mul_pops+mul_pops_gt+mul_pow+mul_pows+product.Proof.Measures.{mul-pop-pow-below, mul-pow-at, mul-pows-below}
+use Rattle.products.proofs.+add_cross+mul_any_pop+mul_by_pop+mul_lead+mul_lower+mul_pop+mul_pop_pow+mul_pops+mul_pops_ge+mul_pow+mul_pows+product.Proof.Measures.{mul-pop-pow-below, mul-pow-at, mul-pows-below}
 
 abbrev Then2·mul-pow : ℕ → Type 0
 Then2·mul-pow t = mul-pow-lts.Then2 (scale-reads.Asked, scale-reads.Learnt, mul-pop-pow-below t, mul-pop-pow.Post, mul-pows-below t, mul-pows.Post) (mul-pow-at t) mul-pow.Post

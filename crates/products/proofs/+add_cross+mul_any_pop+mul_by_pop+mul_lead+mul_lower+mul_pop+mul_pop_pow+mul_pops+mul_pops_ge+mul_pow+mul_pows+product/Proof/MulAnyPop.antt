@@ -17,11 +17,11 @@ use Rattle.fits.specs.laws.Tables.{pop-space-sym}
 use Rattle.factors.proofs.Products.{pop-sizes, pop-of-word, pow-of-word, int-times, times-swap}
 use borrow.Author.Needs.{needs}
 use Rattle.products.proofs.mul_any_pop.Reads as mul-any-pop
-use Rattle.products.proofs.+add_cross+mul_any_pop+mul_by_pop+mul_cross+mul_lead+mul_less+mul_pop+mul_pop_pow+mul_pops+mul_pops_gt+mul_pow+mul_pows+product.Lts-mul_any_pop as mul-any-pop-lts
+use Rattle.products.proofs.+add_cross+mul_any_pop+mul_by_pop+mul_lead+mul_lower+mul_pop+mul_pop_pow+mul_pops+mul_pops_ge+mul_pow+mul_pows+product.Lts-mul_any_pop as mul-any-pop-lts
 use Rattle.products.proofs.mul_pop_pow.Reads as mul-pop-pow
 use Rattle.products.proofs.mul_pops.Reads as mul-pops
 use Rattle.factors.proofs.scale_pop.Reads as scale-pop-reads
-use Rattle.products.proofs.+add_cross+mul_any_pop+mul_by_pop+mul_cross+mul_lead+mul_less+mul_pop+mul_pop_pow+mul_pops+mul_pops_gt+mul_pow+mul_pows+product.Proof.Measures.{mul-any-pop-at, mul-pop-pow-below, mul-pops-below}
+use Rattle.products.proofs.+add_cross+mul_any_pop+mul_by_pop+mul_lead+mul_lower+mul_pop+mul_pop_pow+mul_pops+mul_pops_ge+mul_pow+mul_pows+product.Proof.Measures.{mul-any-pop-at, mul-pop-pow-below, mul-pops-below}
 
 abbrev Then2·mul-any-pop : ℕ → Type 0
 Then2·mul-any-pop t = mul-any-pop-lts.Then2 (scale-pop-reads.Asked, scale-pop-reads.Learnt, mul-pops-below t, mul-pops.Post, mul-pop-pow-below t, mul-pop-pow.Post) (mul-any-pop-at t) mul-any-pop.Post

@@ -17,8 +17,8 @@ use Rattle.factors.proofs.Products.{made-front}
 use Rattle.products.proofs.add_cross.Reads as add-cross
 use Rattle.products.proofs.mul_lead.Reads as mul-lead
 use Rattle.products.proofs.mul_pows.Reads as mul-pows
-use Rattle.products.proofs.+add_cross+mul_any_pop+mul_by_pop+mul_cross+mul_lead+mul_less+mul_pop+mul_pop_pow+mul_pops+mul_pops_gt+mul_pow+mul_pows+product.Lts-mul_pows as mul-pows-lts
-use Rattle.products.proofs.+add_cross+mul_any_pop+mul_by_pop+mul_cross+mul_lead+mul_less+mul_pop+mul_pop_pow+mul_pops+mul_pops_gt+mul_pow+mul_pows+product.Proof.Measures.{add-cross-below, mul-lead-below, mul-pows-at}
+use Rattle.products.proofs.+add_cross+mul_any_pop+mul_by_pop+mul_lead+mul_lower+mul_pop+mul_pop_pow+mul_pops+mul_pops_ge+mul_pow+mul_pows+product.Lts-mul_pows as mul-pows-lts
+use Rattle.products.proofs.+add_cross+mul_any_pop+mul_by_pop+mul_lead+mul_lower+mul_pop+mul_pop_pow+mul_pops+mul_pops_ge+mul_pow+mul_pows+product.Proof.Measures.{add-cross-below, mul-lead-below, mul-pows-at}
 
 abbrev After-mul-lead·mul-pows : ℕ → Type 0
 After-mul-lead·mul-pows t = mul-pows-lts.After-mul-lead (mul-lead-below t, mul-lead.Post, add-cross-below t, add-cross.Post) (mul-pows-at t) mul-pows.Post

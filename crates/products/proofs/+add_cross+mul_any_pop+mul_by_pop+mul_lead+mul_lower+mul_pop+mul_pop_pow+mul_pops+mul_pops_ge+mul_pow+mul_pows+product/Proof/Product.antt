@@ -17,9 +17,9 @@ use borrow.Author.Needs.{needs}
 use Rattle.products.proofs.mul_pop.Reads as mul-pop
 use Rattle.products.proofs.mul_pow.Reads as mul-pow
 use Rattle.products.proofs.product.Reads as product
-use Rattle.products.proofs.+add_cross+mul_any_pop+mul_by_pop+mul_cross+mul_lead+mul_less+mul_pop+mul_pop_pow+mul_pops+mul_pops_gt+mul_pow+mul_pows+product.Lts-product as product-lts
+use Rattle.products.proofs.+add_cross+mul_any_pop+mul_by_pop+mul_lead+mul_lower+mul_pop+mul_pop_pow+mul_pops+mul_pops_ge+mul_pow+mul_pows+product.Lts-product as product-lts
 use Rattle.walks.proofs.scale.Reads as scale-reads
-use Rattle.products.proofs.+add_cross+mul_any_pop+mul_by_pop+mul_cross+mul_lead+mul_less+mul_pop+mul_pop_pow+mul_pops+mul_pops_gt+mul_pow+mul_pows+product.Proof.Measures.{mul-pop-below, mul-pow-below, product-at}
+use Rattle.products.proofs.+add_cross+mul_any_pop+mul_by_pop+mul_lead+mul_lower+mul_pop+mul_pop_pow+mul_pops+mul_pops_ge+mul_pow+mul_pows+product.Proof.Measures.{mul-pop-below, mul-pow-below, product-at}
 
 abbrev Then2·product : ℕ → Type 0
 Then2·product t = product-lts.Then2 (scale-reads.Asked, scale-reads.Learnt, mul-pop-below t, mul-pop.Post, mul-pow-below t, mul-pow.Post) (product-at t) product.Post

@@ -17,9 +17,9 @@ use Rattle.factors.proofs.Products.{pop-sizes, pop-of-word, pow-of-word, times-
 use borrow.Author.Needs.{needs}
 use Rattle.products.proofs.mul_any_pop.Reads as mul-any-pop
 use Rattle.products.proofs.mul_by_pop.Reads as mul-by-pop
-use Rattle.products.proofs.+add_cross+mul_any_pop+mul_by_pop+mul_cross+mul_lead+mul_less+mul_pop+mul_pop_pow+mul_pops+mul_pops_gt+mul_pow+mul_pows+product.Lts-mul_by_pop as mul-by-pop-lts
+use Rattle.products.proofs.+add_cross+mul_any_pop+mul_by_pop+mul_lead+mul_lower+mul_pop+mul_pop_pow+mul_pops+mul_pops_ge+mul_pow+mul_pows+product.Lts-mul_by_pop as mul-by-pop-lts
 use Rattle.walks.proofs.scale.Reads as scale-reads
-use Rattle.products.proofs.+add_cross+mul_any_pop+mul_by_pop+mul_cross+mul_lead+mul_less+mul_pop+mul_pop_pow+mul_pops+mul_pops_gt+mul_pow+mul_pows+product.Proof.Measures.{mul-any-pop-below, mul-by-pop-at}
+use Rattle.products.proofs.+add_cross+mul_any_pop+mul_by_pop+mul_lead+mul_lower+mul_pop+mul_pop_pow+mul_pops+mul_pops_ge+mul_pow+mul_pows+product.Proof.Measures.{mul-any-pop-below, mul-by-pop-at}
 
 abbrev Then2·mul-by-pop : ℕ → Type 0
 Then2·mul-by-pop t = mul-by-pop-lts.Then2 (scale-reads.Asked, scale-reads.Learnt, mul-any-pop-below t, mul-any-pop.Post) (mul-by-pop-at t) mul-by-pop.Post
