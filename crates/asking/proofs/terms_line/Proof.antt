@@ -56,8 +56,7 @@ returns c =
     let if1 = c .before .before .before .before .before .before .before .before .before .before .before .before .before .before .before .before .if1 in
     let same = c .before .before .before .before .before .before .before .before .before .before .before .before .before .before .before .before .before .same in
     let field = c .before .before .before .before .before .before .before .before .before .before .before .before .before .before .before .before .before .before .before .field in
-    let earlier = c .before .before .before .before .before .before .before .before .before .before .before .before .before .before .before .before .before .before .before .before .before .before .before .before .before .before in
-    let start = earlier in
+    let start = c .before .before .before .before .before .before .before .before .before .before .before .before .before .before .before .before .before .before .before .before .before .before .before .before .before .before in
     form-word (tables start) (now (start .args .line)) (field .ensures)
     (same .ensures) (if1 .taken) (form-line .ensures)
 
@@ -95,8 +94,7 @@ returns-2 c =
     let if1 = c .before .before .before .before .before .before .before .before .before .before .before .before .before .before .before .before .before .before .before .if1 in
     let same = c .before .before .before .before .before .before .before .before .before .before .before .before .before .before .before .before .before .before .before .before .same in
     let field = c .before .before .before .before .before .before .before .before .before .before .before .before .before .before .before .before .before .before .before .before .before .before .field in
-    let earlier = c .before .before .before .before .before .before .before .before .before .before .before .before .before .before .before .before .before .before .before .before .before .before .before .before .before .before .before .before .before in
-    let start = earlier in
+    let start = c .before .before .before .before .before .before .before .before .before .before .before .before .before .before .before .before .before .before .before .before .before .before .before .before .before .before .before .before .before in
     remainder-word (tables start) (now (start .args .line)) (field .ensures)
     (same .ensures) (if1 .left)
     (same2 .ensures) (if2 .taken) (remainder-line .ensures)
@@ -137,8 +135,7 @@ returns-3 c =
     let if1 = c .before .before .before .before .before .before .before .before .before .before .before .before .before .before .before .before .before .before .before .before .before .before .if1 in
     let same = c .before .before .before .before .before .before .before .before .before .before .before .before .before .before .before .before .before .before .before .before .before .before .before .same in
     let field = c .before .before .before .before .before .before .before .before .before .before .before .before .before .before .before .before .before .before .before .before .before .before .before .before .before .field in
-    let earlier = c .before .before .before .before .before .before .before .before .before .before .before .before .before .before .before .before .before .before .before .before .before .before .before .before .before .before .before .before .before .before .before .before in
-    let start = earlier in
+    let start = c .before .before .before .before .before .before .before .before .before .before .before .before .before .before .before .before .before .before .before .before .before .before .before .before .before .before .before .before .before .before .before .before in
     compare-word (tables start) (now (start .args .line)) (field .ensures)
     (same .ensures) (if1 .left)
     (same2 .ensures) (if2 .left)
@@ -182,8 +179,7 @@ returns-4 c =
     let if1 = c .before .before .before .before .before .before .before .before .before .before .before .before .before .before .before .before .before .before .before .before .before .before .before .before .before .if1 in
     let same = c .before .before .before .before .before .before .before .before .before .before .before .before .before .before .before .before .before .before .before .before .before .before .before .before .before .before .same in
     let field = c .before .before .before .before .before .before .before .before .before .before .before .before .before .before .before .before .before .before .before .before .before .before .before .before .before .before .before .before .field in
-    let earlier = c .before .before .before .before .before .before .before .before .before .before .before .before .before .before .before .before .before .before .before .before .before .before .before .before .before .before .before .before .before .before .before .before .before .before .before in
-    let start = earlier in
+    let start = c .before .before .before .before .before .before .before .before .before .before .before .before .before .before .before .before .before .before .before .before .before .before .before .before .before .before .before .before .before .before .before .before .before .before .before in
     counters-word (tables start) (now (start .args .line)) (field .ensures)
     (same .ensures) (if1 .left)
     (same2 .ensures) (if2 .left)
@@ -209,8 +205,7 @@ returns-5 c =
     let if1 = c .before .before .before .before .before .before .before .before .before .before .before .before .before .if1 in
     let same = c .before .before .before .before .before .before .before .before .before .before .before .before .before .before .same in
     let field = c .before .before .before .before .before .before .before .before .before .before .before .before .before .before .before .before .field in
-    let earlier = c .before .before .before .before .before .before .before .before .before .before .before .before .before .before .before .before .before .before .before .before .before .before .before in
-    let start = earlier in
+    let start = c .before .before .before .before .before .before .before .before .before .before .before .before .before .before .before .before .before .before .before .before .before .before .before in
     no-term-word (tables start) (now (start .args .line)) (field .ensures)
     (same .ensures) (if1 .left)
     (same2 .ensures) (if2 .left)

@@ -70,9 +70,8 @@ slice-aggregate-compared c =
 
 compared-requires : tie.Need-compared-requires
 compared-requires c κs =
-    let earlier = c .before .before .before .before .before .before .before .before .before .before .before in
+    let call = c .before .before .before .before .before .before .before .before .before .before .before in
     let start = c .before .before .before .before .before .before .before .before .before .before .before .before .before .before .before .before .before .before .before .before .before .before .before .before .before .before .before .before .before in
-    let call = earlier in
     let e = call .before .before .before .before .before .before .at-most-four .result in
     let point = call .compare .last .1 .1 .1 .0 in
     (omega (arith, call .before .before .before .before .before .before .at-most-four .ensures, length-take e point), start .pre)
@@ -102,8 +101,7 @@ same-length-6 c =
 
 returns-2 : tie.Need-returns-2
 returns-2 c =
-    let earlier = c .before .before .before .before .before .before .before .before .before .before .before .before .before .before in
-    let call = earlier in
+    let call = c .before .before .before .before .before .before .before .before .before .before .before .before .before .before in
     let start = call .before .before .before .before .before .before .before .before .before .before .before .before .before .before .before .before .before .before in
     wrote-as (c .before .before .compared .ensures)
     (compare-fields (tables start) (now (start .args .line)) _ (call .before .before .before .before .before .before .before .before .before .before .before .count .ensures) (call .before .before .before .before .before .before .before .before .before .before .if1 .left)

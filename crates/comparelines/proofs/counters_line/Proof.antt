@@ -39,8 +39,7 @@ returns : tie.Need-returns
 returns c =
     let if1 = c .before .before .before .before .if1 in
     let count = c .before .before .before .before .before .count in
-    let earlier = c .before .before .before .before .before .before .before .before .before .before .before .before in
-    let start = earlier in
+    let start = c .before .before .before .before .before .before .before .before .before .before .before .before in
     let line = now (start .args .line) in
     wrote-as (c .before .before .wrong .ensures) (numbered-missing 2 line (countersBy (tables start) line) (count .ensures) (if1 .taken))
 
@@ -69,8 +68,7 @@ returns-2 c =
     let field = c .before .before .before .before .before .before .before .field in
     let if1 = c .before .before .before .before .before .before .before .before .if1 in
     let count = c .before .before .before .before .before .before .before .before .before .count in
-    let earlier = c .before .before .before .before .before .before .before .before .before .before .before .before .before .before .before .before in
-    let start = earlier in
+    let start = c .before .before .before .before .before .before .before .before .before .before .before .before .before .before .before .before in
     let line = now (start .args .line) in
     wrote-as (c .before .before .wrong2 .ensures)
     (numbered-wrong 2 line (countersBy (tables start) line) (count .ensures) (if1 .left) (natural .ensures) (field .ensures) (at-enum-told .given .1))
@@ -89,8 +87,7 @@ returns-3 c =
     let field = c .before .before .before .before .before .before .before .before .before .field in
     let if1 = c .before .before .before .before .before .before .before .before .before .before .if1 in
     let count = c .before .before .before .before .before .before .before .before .before .before .before .count in
-    let earlier = c .before .before .before .before .before .before .before .before .before .before .before .before .before .before .before .before .before .before in
-    let start = earlier in
+    let start = c .before .before .before .before .before .before .before .before .before .before .before .before .before .before .before .before .before .before in
     wrote-as (c .before .before .miscounted .ensures)
     (counters-miscounted (tables start) (now (start .args .line)) (count .ensures) (if1 .left) (natural .ensures) (field .ensures) (width .given .1) (if2 .taken))
 
@@ -128,8 +125,7 @@ same-length-8 c = c .before .before .before .before .before .before .before .bef
 
 returns-4 : tie.Need-returns-4
 returns-4 c =
-    let earlier = c .before .before .before .before .before .before .before .before .before .before .before .before in
-    let call = earlier in
+    let call = c .before .before .before .before .before .before .before .before .before .before .before .before in
     let start = call .before .before .before .before .before .before .before .before .before .before .before .before .before .before .before .before .before .before .before .before .before .before in
     wrote-as (c .before .before .counted .ensures)
     (counters-fields (tables start) (now (start .args .line)) (call .before .before .before .before .before .before .before .before .before .before .before .before .before .before .before .count .ensures) (call .before .before .before .before .before .before .before .before .before .before .before .before .before .before .if1 .left) (call .before .before .before .before .before .before .before .before .before .before .before .before .natural .ensures) (call .before .before .before .before .before .before .before .before .before .before .before .before .before .field .ensures)

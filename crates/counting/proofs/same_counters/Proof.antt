@@ -25,39 +25,35 @@ reduce-length w x = subst (λ h. length (enc w h) ≤ length (enc 0 x)) (carry-r
 
 -- ---- what the tables hold after each call
 left : (c : tie.After-reduce) →
-    let earlier = c .before .before .before .before .before .before .before in
-    let s = earlier in Codes (s .args .width) (reduceOf (s .args .width) (dec 0 (s .args .x .now))) (take (c .reduce .result) (c .reduce .last .1 .1 .0))
+    let s = c .before .before .before .before .before .before .before in
+    Codes (s .args .width) (reduceOf (s .args .width) (dec 0 (s .args .x .now))) (take (c .reduce .result) (c .reduce .last .1 .1 .0))
 left c =
-    let earlier = c .before .before .before .before .before .before .before in
-    let s = earlier in front-codes (c .reduce .ensures) (reduce-good (s .args .width) (dec 0 (s .args .x .now)) (s .pre .0 .0 .good))
+    let s = c .before .before .before .before .before .before .before in
+    front-codes (c .reduce .ensures) (reduce-good (s .args .width) (dec 0 (s .args .x .now)) (s .pre .0 .0 .good))
 
 right : (c : tie.After-reduce2) →
-    let earlier = c .before .before .before .before .before .before .before .before .before .before .before in
-    let s = earlier in Codes (s .args .width) (reduceOf (s .args .width) (dec 0 (s .args .y .now))) (take (c .reduce2 .result) (c .reduce2 .last .1 .1 .0))
+    let s = c .before .before .before .before .before .before .before .before .before .before .before in
+    Codes (s .args .width) (reduceOf (s .args .width) (dec 0 (s .args .y .now))) (take (c .reduce2 .result) (c .reduce2 .last .1 .1 .0))
 right c =
-    let earlier = c .before .before .before .before .before .before .before .before .before .before .before in
-    let s = earlier in front-codes (c .reduce2 .ensures) (reduce-good (s .args .width) (dec 0 (s .args .y .now)) (s .pre .0 .1 .good))
+    let s = c .before .before .before .before .before .before .before .before .before .before .before in
+    front-codes (c .reduce2 .ensures) (reduce-good (s .args .width) (dec 0 (s .args .y .now)) (s .pre .0 .1 .good))
 
 negative : (c : tie.After-negate) →
-    let earlier = c .before .before .before .before .before .before .before .before .before .before .before .before .before .before .before .before in
-    let s = earlier in
+    let s = c .before .before .before .before .before .before .before .before .before .before .before .before .before .before .before .before in
     Codes (s .args .width) (negateOf (s .args .width) (reduceOf (s .args .width) (dec 0 (s .args .y .now)))) (take (c .negate .result) (c .negate .last .1 .1 .0))
 negative c =
     let earlier-2 = c .before .before .before .before .before in
-    let earlier = c .before .before .before .before .before .before .before .before .before .before .before .before .before .before .before .before in
-    let s = earlier in
+    let s = c .before .before .before .before .before .before .before .before .before .before .before .before .before .before .before .before in
     front-codes (begins-as (c .negate .ensures) (ap (λ h. enc (s .args .width) (negateOf (s .args .width) h)) (dec-enc (right earlier-2)))) (negate-good (right (earlier-2) .good))
 
 difference : (c : tie.After-sum) →
-    let earlier = c .before .before .before .before .before .before .before .before .before .before .before .before .before .before .before .before .before .before .before .before .before .before in
-    let s = earlier in
+    let s = c .before .before .before .before .before .before .before .before .before .before .before .before .before .before .before .before .before .before .before .before .before .before in
     Codes (s .args .width) (sumOf (s .args .width) (reduceOf (s .args .width) (dec 0 (s .args .x .now))) (negateOf (s .args .width) (reduceOf (s .args .width) (dec 0 (s .args .y .now)))))
     (take (c .sum .result) (c .sum .last .1 .1 .1 .0))
 difference c =
     let earlier-3 = c .before .before .before .before .before .before in
     let earlier-2 = c .before .before .before .before .before .before .before .before .before .before .before .before .before .before .before in
-    let earlier = c .before .before .before .before .before .before .before .before .before .before .before .before .before .before .before .before .before .before .before .before .before .before in
-    let s = earlier in
+    let s = c .before .before .before .before .before .before .before .before .before .before .before .before .before .before .before .before .before .before .before .before .before .before in
     let l = left earlier-2 in
     let r = negative earlier-3 in
     front-codes (begins-as (c .sum .ensures) (ap₂ (λ g h. enc (s .args .width) (sumOf (s .args .width) g h)) (dec-enc l) (dec-enc r))) (sum-good (l .good) (r .good))
@@ -67,23 +63,22 @@ left-size : (c : tie.After-reduce) →
     let start = c .before .before .before .before .before .before .before in
     length (take (c .reduce .result) (c .reduce .last .1 .1 .0)) ≤ length (start .args .x .now)
 left-size c =
-    let earlier = c .before .before .before .before .before .before .before in
-    let s = earlier in omega (arith, codes-length (left c), reduce-length (s .args .width) (dec 0 (s .args .x .now)), codes-length (s .pre .0 .0))
+    let s = c .before .before .before .before .before .before .before in
+    omega (arith, codes-length (left c), reduce-length (s .args .width) (dec 0 (s .args .x .now)), codes-length (s .pre .0 .0))
 
 right-size : (c : tie.After-reduce2) →
     let start = c .before .before .before .before .before .before .before .before .before .before .before in
     length (take (c .reduce2 .result) (c .reduce2 .last .1 .1 .0)) ≤ length (start .args .y .now)
 right-size c =
-    let earlier = c .before .before .before .before .before .before .before .before .before .before .before in
-    let s = earlier in omega (arith, codes-length (right c), reduce-length (s .args .width) (dec 0 (s .args .y .now)), codes-length (s .pre .0 .1))
+    let s = c .before .before .before .before .before .before .before .before .before .before .before in
+    omega (arith, codes-length (right c), reduce-length (s .args .width) (dec 0 (s .args .y .now)), codes-length (s .pre .0 .1))
 
 negative-size : (c : tie.After-negate) →
     let start = c .before .before .before .before .before .before .before .before .before .before .before .before .before .before .before .before in
     length (take (c .negate .result) (c .negate .last .1 .1 .0)) ≤ length (start .args .y .now)
 negative-size c =
     let earlier-2 = c .before .before .before .before .before in
-    let earlier = c .before .before .before .before .before .before .before .before .before .before .before .before .before .before .before .before in
-    let s = earlier in
+    let s = c .before .before .before .before .before .before .before .before .before .before .before .before .before .before .before .before in
     omega (arith, codes-length (negative c), negate-length (s .args .width) (reduceOf (s .args .width) (dec 0 (s .args .y .now))), codes-length (right earlier-2), right-size earlier-2)
 
 pub same-counters-spec : {M : Type 1} → statement M

@@ -61,8 +61,7 @@ n-size : (t : ℕ) (c : After-at-first·at-first t) →
     (c .at-first .result) ≤ length (first (c .before .before .before .before .before .before .before .before .before .before .args .x .now))
 n-size t c =
     let earlier-2 = c .before .before .before .before in
-    let earlier = c .before .before .before .before .before .before .before .before .before .before in
-    let s = earlier in
+    let s = c .before .before .before .before .before .before .before .before .before .before in
     let v = is-pow t earlier-2 in
     omega (arith, c .at-first .ensures .size, first-length (s .args .width) (dec (s .args .width) (first (s .args .x .now))) (s .args .a), codes-length (v .left))
 
@@ -95,8 +94,7 @@ m-size : (t : ℕ) (c : After-scale·at-first t) →
     (first (c .before .before .before .before .before .before .before .before .before .before .before .before .before .before .before .before .before .before .args .x .now))
 m-size t c =
     let earlier-2 = c .before .before .before .before .before .before .before .before .before .before .before .before in
-    let earlier = c .before .before .before .before .before .before .before .before .before .before .before .before .before .before .before .before .before .before in
-    let s = earlier in
+    let s = c .before .before .before .before .before .before .before .before .before .before .before .before .before .before .before .before .before .before in
     let v = is-pow t earlier-2 in
     omega (arith, codes-length (made2 t c), scale-length (s .args .width) (c .before .before .before .leaf-power .result) (atFirstOf (s .args .width) (dec (s .args .width) (first (s .args .x .now))) (s .args .a)), first-length (s .args .width) (dec (s .args .width) (first (s .args .x .now))) (s .args .a), codes-length (v .left))
 

@@ -32,8 +32,7 @@ tables s = length (now (s .args .a)) ∷ length (now (s .args .b)) ∷ length (n
 -- the call's text behind the first 5 bytes, and the line of its answer
 line-is : tie.Need-returns-4
 line-is c =
-    let earlier = c .before .before .before .before .before .before .before .before .before .before .before .before .before .before in
-    let call = earlier in
+    let call = c .before .before .before .before .before .before .before .before .before .before .before .before .before .before in
     let start = call .before .before .before .before .before .before .before .before .before .before .before .before .before .before .before .before .before .before .before .before .before .before in
     let row = now (call .before .before .before .before .before .before .before .field2 .result) in
     let x = now (call .before .before .before .before .before .before .field3 .result) in
@@ -56,8 +55,7 @@ returns : tie.Need-returns
 returns c =
     let if1 = c .before .before .before .before .if1 in
     let count = c .before .before .before .before .before .count in
-    let earlier = c .before .before .before .before .before .before .before .before .before .before .before .before in
-    let start = earlier in
+    let start = c .before .before .before .before .before .before .before .before .before .before .before .before in
     let line = now (start .args .line) in
     wrote-as (c .before .before .wrong .ensures) (numbered-missing 3 line (raiseBy (tables start) line) (count .ensures) (if1 .taken))
 
@@ -86,8 +84,7 @@ returns-2 c =
     let field = c .before .before .before .before .before .before .before .field in
     let if1 = c .before .before .before .before .before .before .before .before .if1 in
     let count = c .before .before .before .before .before .before .before .before .before .count in
-    let earlier = c .before .before .before .before .before .before .before .before .before .before .before .before .before .before .before .before in
-    let start = earlier in
+    let start = c .before .before .before .before .before .before .before .before .before .before .before .before .before .before .before .before in
     let line = now (start .args .line) in
     wrote-as (c .before .before .wrong2 .ensures)
     (numbered-wrong 3 line (raiseBy (tables start) line) (count .ensures) (if1 .left) (natural .ensures) (field .ensures) (at-enum-told .given .1))
@@ -106,8 +103,7 @@ returns-3 c =
     let field = c .before .before .before .before .before .before .before .before .before .field in
     let if1 = c .before .before .before .before .before .before .before .before .before .before .if1 in
     let count = c .before .before .before .before .before .before .before .before .before .before .before .count in
-    let earlier = c .before .before .before .before .before .before .before .before .before .before .before .before .before .before .before .before .before .before in
-    let start = earlier in
+    let start = c .before .before .before .before .before .before .before .before .before .before .before .before .before .before .before .before .before .before in
     wrote-as (c .before .before .miscounted .ensures)
     (raise-miscounted (tables start) (now (start .args .line)) (count .ensures) (if1 .left) (natural .ensures) (field .ensures) (power .given .1) (if2 .taken))
 
@@ -131,8 +127,7 @@ raise-requires c κs = tt
 
 written-requires : tie.Need-written-requires
 written-requires c κs =
-    let earlier = c .before .before .before .before .before .before .before .before .before .before .before in
-    let call = earlier in
+    let call = c .before .before .before .before .before .before .before .before .before .before .before in
     let start = call .before .before .before .before .before .before .before .before .before .before .before .before .before .before .before .before .before .before .before .before .before .before in
     let old = now (start .args .out) in
     let row = now (call .before .before .before .before .before .before .before .field2 .result) in

@@ -29,9 +29,8 @@ loop-holds c = (refl, (refl, λ b h. absurd (omega arith)))
 
 at-first-requires : tie.Need-at-first-requires Inv-loop μ-loop
 at-first-requires c κs =
-    let earlier = c .before .before .before .before .before .before in
+    let s = c .before .before .before .before .before .before in
     let i = c .before .before .loop .inv in
-    let s = earlier in
     (omega (arith, fails-within (s .pre .1 .1) (i .1 .1)), (s .pre .0, (room-kept (s .pre .1 .0 .0) (omega arith) (i .0), room-kept (s .pre .1 .0 .1) (omega arith) (i .1 .0))))
 
 slice-reshare-prefix-is-zero : tie.Need-slice-reshare-prefix-is-zero Inv-loop μ-loop

@@ -38,8 +38,7 @@ raising : (c : tie.Else1 Inv-loop μ-loop) →
     Raising (s .args .width) (dec (s .args .width) (take (s .args .n) (set (s .args .s .now) (s .args .n) 1))) (s .args .k) (s .args .n)
     (length (s .args .s .now)) (length (s .args .out .now)) (length (s .args .t .now)) (length (s .args .u .now))
 raising c =
-    let earlier = c .before .before .before .before .before in
-    let s = earlier in
+    let s = c .before .before .before .before .before in
     subst
     (λ l. Raising (s .args .width) (dec (s .args .width) l) (s .args .k) (s .args .n) (length (s .args .s .now)) (length (s .args .out .now)) (length (s .args .t .now)) (length (s .args .u .now)))
     (sym (same-x c)) (s .pre .1)

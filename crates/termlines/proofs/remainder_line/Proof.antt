@@ -86,8 +86,7 @@ same-length-6 c = c .before .before .before .before .before .before .before .bef
 
 returns-2 : tie.Need-returns-2
 returns-2 c =
-    let earlier = c .before .before .before .before .before .before .before .before .before .before .before .before in
-    let call = earlier in
+    let call = c .before .before .before .before .before .before .before .before .before .before .before .before in
     let start = call .before .before .before .before .before .before .before .before .before .before .before .before .before .before .before .before .before .before in
     wrote-as (c .before .before .remaindered .ensures)
     (remainder-fields (now (start .args .line)) (call .before .before .before .before .before .before .before .five .ensures) (call .before .before .before .before .before .before .point-length .ensures) (λ u v N. remainderReply u (tables start) v N)

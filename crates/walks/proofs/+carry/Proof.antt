@@ -52,8 +52,7 @@ After-carry2·carry t = carry-lts.After-carry2 (leaf-carried-reads.Asked, leaf-c
 n-size : (t : ℕ) (c : After-carry2·carry t) →
     (c .carry2 .result) ≤ length (first (c .before .before .before .before .before .before .before .before .args .y .now))
 n-size t c =
-    let earlier = c .before .before .before .before .before .before .before .before in
-    let s = earlier in
+    let s = c .before .before .before .before .before .before .before .before in
     let v = is-pow t (c .before .before .before) in
     omega (arith, c .carry2 .ensures .size, carry-length (s .args .from) (s .args .width) (s .args .a) (dec (s .args .from) (first (s .args .y .now))), codes-length (v .left))
 
@@ -65,8 +64,7 @@ m-size : (t : ℕ) (c : After-out4·carry t) →
     (rest (c .before .before .before .before .before .before .before .before .before .before .before .before .before .before .args .y .now))
 m-size t c =
     let earlier-2 = c .before .before .before .before .before .before .before .before .before in
-    let earlier = c .before .before .before .before .before .before .before .before .before .before .before .before .before .before in
-    let s = earlier in
+    let s = c .before .before .before .before .before .before .before .before .before .before .before .before .before .before in
     let v = is-pow t earlier-2 in
     omega (arith, c .before .carry3 .ensures .size, carry-length (s .args .from) (s .args .width) (s .args .a) (dec (s .args .from) (rest (s .args .y .now))), codes-length (v .right))
 

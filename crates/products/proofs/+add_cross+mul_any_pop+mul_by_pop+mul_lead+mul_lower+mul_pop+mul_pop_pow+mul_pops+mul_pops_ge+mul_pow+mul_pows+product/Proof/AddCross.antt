@@ -34,9 +34,18 @@ add-cross-meets t =
     let b = c .before .before .before .before .before .before .before .before .before in
     cross-asks (s .args .a) (s .args .out .now) (b .mul-by-pop .last .1 .1 .1 .1 .0) (s .args .t .now) (b .mul-by-pop .last .1 .1 .1 .0) (s .pre .1 .1 .0 .1) (b .mul-by-pop .ensures) (s .pre .1 .1 .1 .0)
     (c .before .before .before .before .before .before .out .given .1) (c .before .before .before .before .before .before .before .before .t .given .1) (b .mul-by-pop .kept .1 .1 .1 .1 .1 .0) (s .pre .1 .1 .0 .0) (s .pre .1 .1 .1 .1))
-    (λ c. c .before .before .before .before .before .before .sum-cross .kept .1 .1 .0 ∙ c .before .before .before .before .before .before .before .before .before .before .before .before .before .out .given .1)
-    (λ c. c .before .before .before .before .before .before .sum-cross .kept .1 .1 .1 .1 .0 ∙ c .before .before .before .before .before .before .before .before .before .before .before .before .before .before .before .t .given .1)
-    (λ c. c .before .before .before .before .before .before .sum-cross .kept .1 .1 .1 .1 .1 .1 .0 ∙ c .before .before .before .before .before .before .before .before .before .before .before .before .before .before .before .before .mul-by-pop .kept .1 .1 .1 .1 .1 .0)
+    (λ c.
+    let sum-cross = c .before .before .before .before .before .before .sum-cross in
+    let out = c .before .before .before .before .before .before .before .before .before .before .before .before .before .out in
+    sum-cross .kept .1 .1 .0 ∙ out .given .1)
+    (λ c.
+    let sum-cross = c .before .before .before .before .before .before .sum-cross in
+    let at-t = c .before .before .before .before .before .before .before .before .before .before .before .before .before .before .before .t in
+    sum-cross .kept .1 .1 .1 .1 .0 ∙ at-t .given .1)
+    (λ c.
+    let sum-cross = c .before .before .before .before .before .before .sum-cross in
+    let at-mul-by-pop = c .before .before .before .before .before .before .before .before .before .before .before .before .before .before .before .before .mul-by-pop in
+    sum-cross .kept .1 .1 .1 .1 .1 .1 .0 ∙ at-mul-by-pop .kept .1 .1 .1 .1 .1 .0)
     -- returns
     (λ c.
     let s = c .before .before .before .before .before .before .before .before .before .before .before .before .before .before .before .before .before .before .before .before .before .before .before .before .before in

@@ -107,9 +107,18 @@ mul-lead-meets t =
         (omega (arith, (good-pow (fit-x (s .pre .1 .1 .fit) .good)) .0), pow-asks ((s .args .i) + (s .args .j)) (made·mul-lead t (c .before .before)) refl (lead-held (s .args .i) (s .args .j) (dec (s .args .width) (s .args .p .now)) (dec (s .args .width) (s .args .q .now)) (dec (s .args .width) (s .args .r .now)) (dec (s .args .width) (s .args .s .now)) (s .pre .1 .1 .fit) .good)),
       ),
     ))
-    (λ c. c .before .before .make-pow .kept .1 .0 ∙ c .before .before .before .before .before .before .before .before .before .out2 .given .1 ∙ c .before .before .before .before .before .before .before .before .before .before .before .before .before .before .before .before .before .before .before .out .given .1)
-    (λ c. c .before .before .before .before .before .before .before .before .before .before .product2 .kept .1 .1 .1 .1 .0 ∙ c .before .before .before .before .before .before .before .before .before .before .before .before .before .before .before .before .before .before .before .before .product .kept .1 .1 .1 .1 .0)
-    (λ c. c .before .before .before .before .before .before .before .before .before .before .product2 .kept .1 .1 .1 .1 .1 .0 ∙ c .before .before .before .before .before .before .before .before .before .before .before .before .before .before .before .before .before .before .before .before .product .kept .1 .1 .1 .1 .1 .0)
+    (λ c.
+    let out2 = c .before .before .before .before .before .before .before .before .before .out2 in
+    let out = c .before .before .before .before .before .before .before .before .before .before .before .before .before .before .before .before .before .before .before .out in
+    c .before .before .make-pow .kept .1 .0 ∙ out2 .given .1 ∙ out .given .1)
+    (λ c.
+    let product2 = c .before .before .before .before .before .before .before .before .before .before .product2 in
+    let at-product = c .before .before .before .before .before .before .before .before .before .before .before .before .before .before .before .before .before .before .before .before .product in
+    product2 .kept .1 .1 .1 .1 .0 ∙ at-product .kept .1 .1 .1 .1 .0)
+    (λ c.
+    let product2 = c .before .before .before .before .before .before .before .before .before .before .product2 in
+    let at-product = c .before .before .before .before .before .before .before .before .before .before .before .before .before .before .before .before .before .before .before .before .product in
+    product2 .kept .1 .1 .1 .1 .1 .0 ∙ at-product .kept .1 .1 .1 .1 .1 .0)
     -- returns
     (λ c.
     let s = c .before .before .before .before .before .before .before .before .before .before .before .before .before .before .before .before .before .before .before .before .before .before .before .before .before .before .before .before .before .before .before in

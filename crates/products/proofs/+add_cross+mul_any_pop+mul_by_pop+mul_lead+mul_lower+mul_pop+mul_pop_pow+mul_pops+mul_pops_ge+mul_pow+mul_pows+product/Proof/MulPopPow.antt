@@ -148,9 +148,18 @@ mul-pop-pow-meets t =
         (good-pow ((is-pow·mul-pop-pow t s) .node) .0, pow-asks ((getD (s .args .y .now) 0 0) % 64) (made·mul-pop-pow t (c .before .before)) (pop-times (is-pow·mul-pop-pow t s) (s .args .i) (dec (s .args .width) (s .args .p .now)) (good-pop (fit-x (s .pre .1 .1 .0 .fit) .good) .0)) (fit-prod (s .pre .1 .1 .0 .fit) .good)),
       ),
     ))
-    (λ c. c .before .before .make-pow .kept .1 .0 ∙ c .before .before .before .before .before .before .before .before .before .out2 .given .1 ∙ c .before .before .before .before .before .before .before .before .before .before .before .before .before .before .before .before .before .before .before .before .out .given .1)
-    (λ c. c .before .before .before .before .before .before .before .before .before .before .mul-lower .kept .1 .1 .1 .1 .1 .0 ∙ c .before .before .before .before .before .before .before .before .before .before .before .before .before .before .before .before .before .before .before .before .before .mul-pop .kept .1 .1 .1 .1 .1 .0)
-    (λ c. c .before .before .before .before .before .before .before .before .before .before .mul-lower .kept .1 .1 .1 .1 .1 .1 .0 ∙ c .before .before .before .before .before .before .before .before .before .before .before .before .before .before .before .before .before .before .before .before .before .mul-pop .kept .1 .1 .1 .1 .1 .1 .0)
+    (λ c.
+    let out2 = c .before .before .before .before .before .before .before .before .before .out2 in
+    let out = c .before .before .before .before .before .before .before .before .before .before .before .before .before .before .before .before .before .before .before .before .out in
+    c .before .before .make-pow .kept .1 .0 ∙ out2 .given .1 ∙ out .given .1)
+    (λ c.
+    let at-mul-lower = c .before .before .before .before .before .before .before .before .before .before .mul-lower in
+    let at-mul-pop = c .before .before .before .before .before .before .before .before .before .before .before .before .before .before .before .before .before .before .before .before .before .mul-pop in
+    at-mul-lower .kept .1 .1 .1 .1 .1 .0 ∙ at-mul-pop .kept .1 .1 .1 .1 .1 .0)
+    (λ c.
+    let at-mul-lower = c .before .before .before .before .before .before .before .before .before .before .mul-lower in
+    let at-mul-pop = c .before .before .before .before .before .before .before .before .before .before .before .before .before .before .before .before .before .before .before .before .before .mul-pop in
+    at-mul-lower .kept .1 .1 .1 .1 .1 .1 .0 ∙ at-mul-pop .kept .1 .1 .1 .1 .1 .1 .0)
     -- returns
     (λ c.
     let s = c .before .before .before .before .before .before .before .before .before .before .before .before .before .before .before .before .before .before .before .before .before .before .before .before .before .before .before .before .before .before .before .before in

@@ -129,9 +129,21 @@ mul-pows-meets t =
         ),
       ),
     ))
-    (λ c. c .before .before .before .before .before .before .add-cross2 .kept .1 .1 .1 .1 .0 ∙ c .before .before .before .before .before .before .before .before .before .before .before .before .before .before .before .before .add-cross .kept .1 .1 .1 .1 .0 ∙ c .before .before .before .before .before .before .before .before .before .before .before .before .before .before .before .before .before .before .before .before .before .before .before .before .before .before .mul-lead .kept .1 .1 .1 .1 .1 .1 .1 .0)
-    (λ c. c .before .before .before .before .before .before .add-cross2 .kept .1 .1 .1 .1 .1 .1 .0 ∙ c .before .before .before .before .before .before .before .before .before .before .before .before .before .before .before .before .add-cross .kept .1 .1 .1 .1 .1 .1 .0 ∙ c .before .before .before .before .before .before .before .before .before .before .before .before .before .before .before .before .before .before .before .before .before .before .before .before .before .before .mul-lead .kept .1 .1 .1 .1 .1 .1 .1 .1 .0)
-    (λ c. c .before .before .before .before .before .before .add-cross2 .kept .1 .1 .1 .1 .1 .1 .1 .0 ∙ c .before .before .before .before .before .before .before .before .before .before .before .before .before .before .before .before .add-cross .kept .1 .1 .1 .1 .1 .1 .1 .0 ∙ c .before .before .before .before .before .before .before .before .before .before .before .before .before .before .before .before .before .before .before .before .before .before .before .before .before .before .mul-lead .kept .1 .1 .1 .1 .1 .1 .1 .1 .1 .0)
+    (λ c.
+    let add-cross2 = c .before .before .before .before .before .before .add-cross2 in
+    let at-add-cross = c .before .before .before .before .before .before .before .before .before .before .before .before .before .before .before .before .add-cross in
+    let at-mul-lead = c .before .before .before .before .before .before .before .before .before .before .before .before .before .before .before .before .before .before .before .before .before .before .before .before .before .before .mul-lead in
+    add-cross2 .kept .1 .1 .1 .1 .0 ∙ at-add-cross .kept .1 .1 .1 .1 .0 ∙ at-mul-lead .kept .1 .1 .1 .1 .1 .1 .1 .0)
+    (λ c.
+    let add-cross2 = c .before .before .before .before .before .before .add-cross2 in
+    let at-add-cross = c .before .before .before .before .before .before .before .before .before .before .before .before .before .before .before .before .add-cross in
+    let at-mul-lead = c .before .before .before .before .before .before .before .before .before .before .before .before .before .before .before .before .before .before .before .before .before .before .before .before .before .before .mul-lead in
+    add-cross2 .kept .1 .1 .1 .1 .1 .1 .0 ∙ at-add-cross .kept .1 .1 .1 .1 .1 .1 .0 ∙ at-mul-lead .kept .1 .1 .1 .1 .1 .1 .1 .1 .0)
+    (λ c.
+    let add-cross2 = c .before .before .before .before .before .before .add-cross2 in
+    let at-add-cross = c .before .before .before .before .before .before .before .before .before .before .before .before .before .before .before .before .add-cross in
+    let at-mul-lead = c .before .before .before .before .before .before .before .before .before .before .before .before .before .before .before .before .before .before .before .before .before .before .before .before .before .before .mul-lead in
+    add-cross2 .kept .1 .1 .1 .1 .1 .1 .1 .0 ∙ at-add-cross .kept .1 .1 .1 .1 .1 .1 .1 .0 ∙ at-mul-lead .kept .1 .1 .1 .1 .1 .1 .1 .1 .1 .0)
     -- returns
     (λ c.
     let s = c .before .before .before .before .before .before .before .before .before .before .before .before .before .before .before .before .before .before .before .before .before .before .before .before .before .before .before .before .before .before .before .before .before .before .before .before .before in

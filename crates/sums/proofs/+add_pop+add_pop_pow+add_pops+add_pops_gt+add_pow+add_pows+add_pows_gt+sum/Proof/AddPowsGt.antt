@@ -32,8 +32,7 @@ ens·add-pows-gt : (t : ℕ) (c : After-add-pow·add-pows-gt t) →
     (enc (s .args .width) (sumOf (s .args .width) (pow ((s .args .i) - (s .args .j)) (dec (s .args .width) (s .args .p .now)) (zeroOf (s .args .width))) (dec (s .args .width) (s .args .r .now))))
     (c .add-pow .last .1 .1 .1 .1 .1 .0)
 ens·add-pows-gt t c =
-    let earlier = c .before .before .before .before .before .before .before .before in
-    let s = earlier in
+    let s = c .before .before .before .before .before .before .before .before in
     begins-as (c .add-pow .ensures)
     (ap (λ h. enc (s .args .width) (sumOf (s .args .width) (pow ((s .args .i) - (s .args .j)) (dec (s .args .width) (s .args .p .now)) h) (dec (s .args .width) (s .args .r .now)))) (dec-enc (zero-codes (s .args .width))))
 
@@ -41,8 +40,7 @@ a-size·add-pows-gt : (t : ℕ) (c : After-add-pow·add-pows-gt t) →
     let s = c .before .before .before .before .before .before .before .before in
     (c .add-pow .result) ≤ 1 + length (s .args .p .now) + length (s .args .r .now)
 a-size·add-pows-gt t c =
-    let earlier = c .before .before .before .before .before .before .before .before in
-    let s = earlier in
+    let s = c .before .before .before .before .before .before .before .before in
     omega (arith, ens·add-pows-gt t c .size, sum-length (s .args .width) (pow ((s .args .i) - (s .args .j)) (dec (s .args .width) (s .args .p .now)) (zeroOf (s .args .width))) (dec (s .args .width) (s .args .r .now)), less-length (s .args .width) ((s .args .i) - (s .args .j)) (dec (s .args .width) (s .args .p .now)), codes-length (s .pre .1 .0 .0 .0), codes-length (s .pre .1 .0 .1 .0))
 
 abbrev After-out2·add-pows-gt : ℕ → Type 0
