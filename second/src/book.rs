@@ -1,4 +1,4 @@
-//! The formula book: reading it, the printer's answer, and making one.
+//! The formula book: reading it, and the printer's answer.
 
 use crate::compare::compare;
 use crate::refusal::{Fault, Side};
@@ -108,49 +108,4 @@ fn entry(row: &Row, panel: &[u8], cloud: &[u8]) -> String {
             format!("REFUSED {body} {} {}", refusal.number, refusal.place)
         }
     }
-}
-
-/// The book's bytes from its row and its bodies, panel and cloud in turn.
-pub fn make(row: &[u8], bodies: &[&[u8]]) -> Result<Vec<u8>, String> {
-    if Row::read(row).is_none() {
-        return Err("the row is not 1 to 4 distinct letters A to Z".to_string());
-    }
-    if bodies.len() % 2 == 1 {
-        return Err(format!("an odd number of lines: {}", bodies.len()));
-    }
-    let entries = bodies.len() / 2;
-    if entries == 0 || entries > MOST_ENTRIES {
-        return Err(format!("{entries} entries; a book has 1 to {MOST_ENTRIES}"));
-    }
-    let head = 2 + row.len() + 8 * entries;
-    let whole = head + bodies.iter().map(|body| body.len()).sum::<usize>();
-    if whole > MOST_BYTES {
-        return Err(format!("{whole} bytes; a book has at most {MOST_BYTES}"));
-    }
-    Ok(bytes(row, head, bodies))
-}
-
-/// Nothing is looked at here, so that a wrong book can be made on purpose.
-/// Numbers are cut to 16 bits.
-pub fn bytes(row: &[u8], head: usize, bodies: &[&[u8]]) -> Vec<u8> {
-    let mut book = vec![row.len() as u8];
-    book.extend(row);
-    book.push((bodies.len() / 2) as u8);
-    let mut offset = head;
-    for body in bodies {
-        book.extend((offset as u16).to_le_bytes());
-        book.extend((body.len() as u16).to_le_bytes());
-        offset += body.len();
-    }
-    bodies.iter().for_each(|body| book.extend(*body));
-    book
-}
-
-/// One formula per line; the last line may lack its line feed.
-pub fn lines(text: &[u8]) -> Vec<&[u8]> {
-    if text.is_empty() {
-        return Vec::new();
-    }
-    let whole = text.strip_suffix(b"\n").unwrap_or(text);
-    whole.split(|byte| *byte == b'\n').collect()
 }

@@ -25,7 +25,6 @@ use std::process::ExitCode;
 const HELP: &str = "\
 second desk                              requests on standard input, one answer line each
 second book                              a book on standard input, the printer's answer
-second makebook ROW                      formulas on standard input, panel and cloud in turn; a book
 second generate SEED COUNT               COUNT request lines for the desk
 second books SEED COUNT DIR              COUNT books as DIR/0.book, DIR/1.book, ...
 second coded SEED COUNT FILE_IN FILE_OUT requests on coded forms, and their answers
@@ -69,11 +68,6 @@ fn run(words: &[&str]) -> Result<(), Trouble> {
     match words {
         ["desk"] => Ok(desk::run(io::stdin().lock(), io::stdout().lock())?),
         ["book"] => write_out(book::print(&whole_input()?).as_bytes()),
-        ["makebook", row] => {
-            let text = whole_input()?;
-            let made = book::make(row.as_bytes(), &book::lines(&text));
-            write_out(&made.map_err(Trouble::Call)?)
-        }
         ["generate", seed, count] => {
             let (seed, count) = (decimal(seed)?, decimal(count)?);
             Ok(make::lines::write(seed, count, io::stdout().lock())?)

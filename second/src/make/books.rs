@@ -2,7 +2,7 @@
 
 use super::rng::Rng;
 use super::{damage, lines, texts};
-use crate::book::{self, MOST_BYTES, MOST_ENTRIES};
+use crate::book::{MOST_BYTES, MOST_ENTRIES};
 use crate::row::Row;
 use std::fs;
 use std::io;
@@ -60,7 +60,23 @@ fn bodies(rng: &mut Rng, row: &Row, entries: usize) -> Vec<Vec<u8>> {
 
 fn joined(row: &[u8], head: usize, bodies: &[Vec<u8>]) -> Vec<u8> {
     let bodies: Vec<&[u8]> = bodies.iter().map(Vec::as_slice).collect();
-    book::bytes(row, head, &bodies)
+    bytes(row, head, &bodies)
+}
+
+/// Nothing is looked at here, so that a wrong book can be made on purpose.
+/// Numbers are cut to 16 bits.
+pub fn bytes(row: &[u8], head: usize, bodies: &[&[u8]]) -> Vec<u8> {
+    let mut book = vec![row.len() as u8];
+    book.extend(row);
+    book.push((bodies.len() / 2) as u8);
+    let mut offset = head;
+    for body in bodies {
+        book.extend((offset as u16).to_le_bytes());
+        book.extend((body.len() as u16).to_le_bytes());
+        offset += body.len();
+    }
+    bodies.iter().for_each(|body| book.extend(*body));
+    book
 }
 
 /// Eight entries that fill the book to its limit, or one byte over it.
