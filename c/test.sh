@@ -1,10 +1,10 @@
 #!/usr/bin/env bash
-# Links the panel's static library (x86-64) with C and C++ programs and runs them: with cc on x86-64, else with the kit's clang and emulator. Programs for C++ are compiled
-# by the kit's clang everywhere, so that no C++ compiler is needed.
+# Links the panel's static library (x86-64) with C and C++ programs and runs them: with cc on x86-64, else with the
+# kit's clang and emulator. Programs for C++ are compiled by the kit's clang everywhere, so that no C++ compiler is
+# needed.
 set -euo pipefail
 cd "$(dirname "$0")"
-kit=$(dirname "$(dirname "$(rt doc)")")
-clang=$kit/on/$(uname -m)/toolchain/bin/clang
+kit=$(dirname "$(dirname "$(rt doc)")")/on/$(uname -m)
 library=../target/staticlib/libpanel.a
 version=$(sed -n 's/^#define PANEL_VERSION "\(.*\)"$/\1/p' ../include/panel.h)
 work=$(mktemp -d)
@@ -15,12 +15,14 @@ fail() {
     exit 1
 }
 
-compile() { # compile SOURCE OBJECT WORDS: by the kit's clang, which has no headers of its own: those of the machine's compiler and C library serve
-    "$clang" --target=x86_64-linux-gnu -O2 -fPIE -Wall -Wextra -Werror -I ../include -isystem "$(cc -print-file-name=include)" -isystem "/usr/include/$(uname -m)-linux-gnu" "${@:3}" -c "$1" -o "$2"
+compile() { # compile SOURCE OBJECT WORDS: by the kit's clang
+    # it has no headers of its own: those of the machine's compiler and C library serve
+    local headers=(-isystem "$(cc -print-file-name=include)" -isystem "/usr/include/$(uname -m)-linux-gnu" -I ../include)
+    "$kit/toolchain/bin/clang" --target=x86_64-linux-gnu -O2 -fPIE -Wall -Wextra -Werror "${headers[@]}" "${@:3}" -c "$1" -o "$2"
 }
 
 link() { # link OBJECT PROGRAM
-    "$kit/on/$(uname -m)/bin/rattle-link" --target x86_64-unknown-linux-gnu --toolchain "$kit/on/$(uname -m)/toolchain" -o "$2" "$1" "$library" > "$work/said" 2>&1 ||
+    "$kit/bin/rattle-link" --target x86_64-unknown-linux-gnu --toolchain "$kit/toolchain" -o "$2" "$1" "$library" > "$work/said" 2>&1 ||
         fail "$(cat "$work/said")"
 }
 

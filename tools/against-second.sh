@@ -1,6 +1,6 @@
 #!/usr/bin/env bash
-# against-second.sh SEED COUNT: COUNT fresh request lines of the second program's generator through the desk and through the second program; every byte is compared. So are
-# the stored output of the trials and 200 fresh books.
+# against-second.sh SEED COUNT: COUNT fresh request lines of the second program's generator through the desk and through
+# the second program; every byte is compared. So are the stored output of the trials and 200 fresh books.
 set -euo pipefail
 cd "$(dirname "$0")/.."
 seed=${1:-1} count=${2:-10000}

@@ -1,5 +1,6 @@
 #!/usr/bin/env bash
-# desk.sh: proves and builds the desk, then answers each line of standard input with a line. Status: 0 every line read was answered; 3 not proved, not read, or not written.
+# desk.sh: proves and builds the desk, then answers each line of standard input with a line. Status: 0 every line read
+# was answered; 3 not proved, not read, or not written.
 set -uo pipefail
 tools=$(dirname "$0")
 none() {

@@ -1,5 +1,6 @@
 #!/usr/bin/env bash
-# library.sh: proves the panel's calls and writes the static library; says where it is, and how a C program is compiled with it.
+# library.sh: proves the panel's calls and writes the static library; says where it is, and how a C program is
+# compiled with it.
 set -euo pipefail
 cd "$(dirname "$0")/.."
 bash tools/prove.sh panel

@@ -1,6 +1,7 @@
 #!/usr/bin/env bash
-# made-books.sh SEED: fresh pairs of terms of the second program's generator, written as people write them (over several lines, with comments and blank lines between) and made
-# into books, one for each row; the printer's answers are what the second program says of each pair by itself.
+# made-books.sh SEED: fresh pairs of terms of the second program's generator, written as people write them (over
+# several lines, with comments and blank lines between) and made into books, one for each row; the printer's answers
+# are what the second program says of each pair by itself.
 set -euo pipefail
 cd "$(dirname "$0")/.."
 seed=${1:-1}

@@ -1,6 +1,7 @@
 #!/usr/bin/env bash
 # print-book.sh BOOK: proves and builds the printer, then prints the book's answer.
-# Status: 0 every entry SAME; 1 some DIFF, none REFUSED; 2 some REFUSED, or the book itself; 3 no verdict could be had, or it could not be written.
+# Status: 0 every entry SAME; 1 some DIFF, none REFUSED; 2 some REFUSED, or the book itself;
+# 3 no verdict could be had, or it could not be written.
 set -uo pipefail
 tools=$(dirname "$0")
 none() { # says why there is no verdict

@@ -1,6 +1,7 @@
 #!/usr/bin/env bash
-# prove.sh CRATE ..: proves and builds the crates and all that they rest on. Standard error is told what is proved, of how many, as it goes on; where nothing is new it
-# is told nothing. Status: 0 all proved; 1 not, and the end of what rt said is told too.
+# prove.sh CRATE ..: proves and builds the crates and all that they rest on. Standard error is told what is proved, of
+# how many, as it goes on; where nothing is new it is told nothing. Status: 0 all proved; 1 not, and the end of what
+# rt said is told too.
 set -euo pipefail
 cd "$(dirname "$0")/.."
 say() { printf '%s\n' "$*" >&2; }

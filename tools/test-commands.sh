@@ -1,6 +1,7 @@
 #!/usr/bin/env bash
-# test-commands.sh [PART ..]: what people type, tried as people do. Parts: unmade (nothing is lost where no book can be made), made (books from text), verdicts (every status),
-# outputs (full disks, files that cannot be read), proving (what is said while something is proved); without one all of them. It needs the proved printer and desk.
+# test-commands.sh [PART ..]: what people type, tried as people do. Parts: unmade (nothing is lost where no book can
+# be made), made (books from text), verdicts (every status), outputs (full disks, files that cannot be read), proving
+# (what is said while something is proved); without one all of them. It needs the proved printer and desk.
 set -euo pipefail
 cd "$(dirname "$0")/.."
 unset MAKEFLAGS MFLAGS MAKELEVEL BOOK ROW FILE OUT
@@ -41,7 +42,8 @@ made_as() { # made_as ROW TEXT LINE ..: the printer's answer to the book of the 
     prints "$@"
 }
 made() {
-    made_as XY '(* (+ X Y) (- X Y))\n(- (EXPT X 2) (EXPT Y 2))\n(* X Y)\n0\n(+ X Y Z)\n1\n' 'BOOK 2 3' '0 SAME' '1 DIFF 1 1 1 0' '2 REFUSED E 4 7'
+    made_as XY '(* (+ X Y) (- X Y))\n(- (EXPT X 2) (EXPT Y 2))\n(* X Y)\n0\n(+ X Y Z)\n1\n' \
+        'BOOK 2 3' '0 SAME' '1 DIFF 1 1 1 0' '2 REFUSED E 4 7'
     cmp -s "$work/made.book" crates/printer/stdin || fail 'the book of case B is another one'
     made_as XY '(* (+ X Y)\n   (- X Y))\n(- (EXPT X 2)\n\n(EXPT Y 2)\n)\n(* X Y)\n0\n' 'BOOK 2 2' '0 SAME' '1 DIFF 1 1 1 0'
     made_as X '# a comment\n\n  # another\nX\n \n# between\n(+ X\n0)\n\n\n\n' 'BOOK 1 1' '0 SAME'
@@ -118,6 +120,9 @@ full_disk() { # no file may grow
     ends 0 "$maker" --help
     ends 0 "$maker" --version
     ends 1 "$maker" X
+    "$maker" X "$work/text" "$work/said.book" > /dev/full 2> "$work/err" || fail 'a book was made, and that only could not be said'
+    says 'standard output'
+    ends 1 bash -c '"$1" --help > /dev/full' - "$maker"
 }
 unmade() {
     cp crates/printer/stdin "$work/good.book"

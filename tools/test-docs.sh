@@ -1,6 +1,6 @@
 #!/usr/bin/env bash
-# test-docs.sh: what README and docs/ show is what happens. Every request with its answer goes through the proved desk, every command of README is run; every number, word, command,
-# file and version that they should name is named.
+# test-docs.sh: what README and docs/ show is what happens. Every request with its answer goes through the proved
+# desk, every command of README is run; every number, word, command, file and version that they should name is named.
 set -euo pipefail
 cd "$(dirname "$0")/.."
 unset MAKEFLAGS MFLAGS MAKELEVEL BOOK ROW FILE OUT
@@ -23,10 +23,17 @@ for page in $pages; do
     answers "$page" > "$work/answers"
     [ -s "$work/requests" ] || fail "$page has no request"
     bash tools/on-x86.sh target/bin/desk < "$work/requests" > "$work/answered"
-    diff "$work/answers" "$work/answered" > "$work/diff" || { cat "$work/diff" >&2; fail "$page shows an answer that is another one"; }
+    diff "$work/answers" "$work/answered" >&2 || fail "$page shows an answer that is another one"
 done
 
-# ---- README's commands, in a folder where everything stands but its files come and go; its first block, which begins with "# NAME:", is the file NAME
+# ---- README's commands, in a folder that has everything the repository has, so that what they make is not left in it.
+# README's first block begins with "# NAME:" and is the file NAME.
+shown() { # shown COMMAND: what stands below it in README
+    SHOWN="    \$ $1" awk '
+        $0 == ENVIRON["SHOWN"] { inside = 1; next }
+        inside && (/^    \$ / || !/^    /) { exit }
+        inside { print substr($0, 5) }' README.md
+}
 mkdir "$work/here"
 ln -s "$PWD"/* "$work/here"
 awk '/^```/ { fences++; next } fences == 1' README.md > "$work/block"
@@ -35,8 +42,9 @@ name=$(sed -n '1s/^# \([^:]*\):.*/\1/p' "$work/block")
 cp "$work/block" "$work/here/$name"
 commands=0
 while IFS= read -r command; do
-    SHOWN="    \$ $command" awk '$0 == ENVIRON["SHOWN"] { inside = 1; next } inside && (/^    \$ / || !/^    /) { exit } inside { print substr($0, 5) }' README.md > "$work/shown"
-    (cd "$work/here" && bash -c "$command") > "$work/printed" 2> "$work/said" < /dev/null || { cat "$work/said" >&2; fail "README: $command"; }
+    shown "$command" > "$work/shown"
+    (cd "$work/here" && bash -c "$command") > "$work/printed" 2> "$work/said" < /dev/null ||
+        { cat "$work/said" >&2; fail "README: $command"; }
     diff "$work/shown" "$work/printed" >&2 || fail "README: $command prints something else"
     commands=$((commands + 1))
 done < <(sed -n 's/^    \$ //p' README.md)

@@ -28,19 +28,27 @@ const MOST_READ: u64 = 16 << 20;
 
 fn main() -> ExitCode {
     let words: Vec<std::ffi::OsString> = std::env::args_os().skip(1).collect();
-    let said = match words.as_slice() {
-        [word] if word == "--help" => Ok(HELP.to_string()),
-        [word] if word == "--version" => Ok(format!("makebook {}\n", env!("CARGO_PKG_VERSION"))),
-        [row, file, out] => make(row.as_encoded_bytes(), Path::new(file), Path::new(out)),
+    let done = match words.as_slice() {
+        [word] if word == "--help" => say(HELP),
+        [word] if word == "--version" => say(concat!("makebook ", env!("CARGO_PKG_VERSION"), "\n")),
+        [row, file, out] => {
+            let made = make(row.as_encoded_bytes(), Path::new(file), Path::new(out));
+            // The book is there, whether or not that can be said.
+            made.map(|text| say(&text).unwrap_or_else(|message| complain(&message)))
+        }
         _ => Err(format!("three words are wanted\n{HELP}")),
     };
-    match said.and_then(|text| say(&text)) {
+    match done {
         Ok(()) => ExitCode::SUCCESS,
         Err(message) => {
-            eprintln!("makebook: {}", message.trim_end());
+            complain(&message);
             ExitCode::FAILURE
         }
     }
+}
+
+fn complain(message: &str) {
+    eprintln!("makebook: {}", message.trim_end());
 }
 
 fn say(text: &str) -> Result<(), String> {
