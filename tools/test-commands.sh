@@ -197,10 +197,16 @@ small_repository() {
     printf 'fn main() {\n    one::one();\n    io::write_all(1, b"BOOK 1 2\\n0 SAME\\n");\n}\n' > "$1/crates/printer/src/main.rt"
     printf 'BOOK 1 2\n0 SAME\n' > "$1/crates/printer/stdout"
 }
+hold_until_waited_for() { # holds the lock of a repository until somebody says that he waits
+    : > "$work/err"
+    bash "$1/tools/locked.sh" bash -c 'touch "$2"; for turn in $(seq 600); do grep -qs waiting: "$1" && exit; sleep 0.1; done' - \
+        "$work/err" "$work/held" &
+    until [ -e "$work/held" ]; do sleep 0.1; done
+}
 proving() {
     local small=$work/small book=$PWD/crates/printer/stdin
     small_repository "$small"
-    bash "$small/tools/locked.sh" sleep 3 &
+    hold_until_waited_for "$small"
     ends 2 make -C "$small" run BOOK="$book"
     says 'proving the 2 crates of printer'
     says 'waiting: something else is being proved here'
