@@ -67,9 +67,9 @@ not_made() { # not_made SAID ROW [OUT]: of the text as it stands
     local out
     for out in "${3:-$work/good.book}" "${3:-$work/none.book}"; do
         ends 2 make book ROW="$2" FILE="$work/text" OUT="$out"
+        nothing_lost
         says "$1"
     done
-    nothing_lost
 }
 wrong_names() {
     text 'X\nX\n'
@@ -187,34 +187,42 @@ outputs() {
     says 'not read'
 }
 
-# ---- what is said while something is proved, in a small repository of its own whose printer prints half an answer
-small_repository() {
+# ---- what is said while something is proved, in a small repository of its own
+small_repository() { # small_repository FOLDER
     mkdir -p "$1/crates/one/src" "$1/crates/printer/src" "$1/tools"
     cp Makefile "$1"
     cp tools/*.sh "$1/tools"
     printf 'one:\n# and a program\nprinter: one io libc\n' > "$1/crates.txt"
     printf 'pub fn one() {}\n' > "$1/crates/one/src/lib.rt"
-    printf 'fn main() {\n    one::one();\n    io::write_all(1, b"BOOK 1 2\\n0 SAME\\n");\n}\n' > "$1/crates/printer/src/main.rt"
-    printf 'BOOK 1 2\n0 SAME\n' > "$1/crates/printer/stdout"
 }
-hold_until_waited_for() { # holds the lock of a repository until somebody says that he waits
+small_printer() { # small_printer FOLDER ENTRIES: it says that there are so many, and answers one
+    printf 'fn main() {\n    one::one();\n    io::write_all(1, b"BOOK 1 %s\\n0 SAME\\n");\n}\n' "$2" > "$1/crates/printer/src/main.rt"
+    printf 'BOOK 1 %s\n0 SAME\n' "$2" > "$1/crates/printer/stdout"
+}
+hold_until_waited_for() { # holds the lock of a repository until somebody says that he waits, a minute at most
     : > "$work/err"
     bash "$1/tools/locked.sh" bash -c 'touch "$2"; for turn in $(seq 600); do grep -qs waiting: "$1" && exit; sleep 0.1; done' - \
         "$work/err" "$work/held" &
-    until [ -e "$work/held" ]; do sleep 0.1; done
+    for turn in $(seq 600); do [ -e "$work/held" ] && return; sleep 0.1; done
+    fail 'the lock could not be had'
 }
 proving() {
     local small=$work/small book=$PWD/crates/printer/stdin
     small_repository "$small"
-    hold_until_waited_for "$small"
-    ends 2 make -C "$small" run BOOK="$book"
+    small_printer "$small" 1
+    ends 0 make --silent -C "$small" run BOOK="$book"
+    prints 'BOOK 1 1' '0 SAME'
     says 'proving the 2 crates of printer'
-    says 'waiting: something else is being proved here'
     says 'proved 1 of 2: one ('
     says 'proved 2 of 2: printer ('
+    ends 0 bash "$small/tools/print-book.sh" "$book"
+    [ ! -s "$work/err" ] || fail 'something is said though nothing is proved anew'
+    small_printer "$small" 2
+    hold_until_waited_for "$small"
     ends 3 bash "$small/tools/print-book.sh" "$book"
+    says 'waiting: something else is being proved here'
     says 'not whole'
-    [ "$(wc -l < "$work/err")" = 1 ] || fail 'something is said though nothing is proved anew'
+    [ ! -s "$work/out" ] || fail 'half an answer is printed'
     printf 'pub fn one() -> u32 {}\n' > "$small/crates/one/src/lib.rt"
     ends 3 bash "$small/tools/print-book.sh" "$book"
     says 'the printer is not proved'
