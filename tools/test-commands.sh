@@ -124,11 +124,25 @@ full_disk() { # no file may grow
     says 'standard output'
     ends 1 bash -c '"$1" --help > /dev/full' - "$maker"
 }
+others_file() { # a file that somebody else has closed, in a folder that everybody may write: only root can set that up
+    [ "$(id -u)" = 0 ] || return 0
+    local shared=$work/shared
+    chmod 711 "$work"
+    mkdir -m 777 "$shared"
+    cp tools/makebook/target/release/makebook "$shared"
+    printf 'X\nX\n' > "$shared/text"
+    install -m 600 crates/printer/stdin "$shared/closed.book"
+    ends 1 setpriv --reuid=65534 --regid=65534 --clear-groups "$shared/makebook" X "$shared/text" "$shared/closed.book"
+    cmp -s "$shared/closed.book" crates/printer/stdin || fail 'a file of somebody else was replaced'
+    says 'may not be written'
+    ends 0 setpriv --reuid=65534 --regid=65534 --clear-groups "$shared/makebook" X "$shared/text" "$shared/own.book"
+}
 unmade() {
     cp crates/printer/stdin "$work/good.book"
     wrong_names
     wrong_texts
     full_disk
+    others_file
 }
 
 # ---- print-book.sh tells the verdicts apart, run ends well wherever there was one, sign only where all is SAME

@@ -24,7 +24,8 @@ pub fn target(file: &Path, out: &Path) -> Result<PathBuf, String> {
     if !found.is_file() {
         return wrong("is there and is no plain file");
     }
-    if found.permissions().readonly() {
+    // A rename asks for leave to write the folder only, so leave to write the file is asked for here; root always has it.
+    if found.permissions().readonly() || OpenOptions::new().write(true).open(&path).is_err() {
         return wrong("may not be written");
     }
     Ok(path)
