@@ -1,4 +1,1 @@
-pub mod Walk
-pub mod Sound
-pub mod Entry
-pub mod Whole
+pub mod Lines

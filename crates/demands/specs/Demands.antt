@@ -1,4 +1,4 @@
--- The demands, under their own words. A call's contract says that it answers the reply that is defined in crates/calls; here is what the replies are worth.
+-- The demands, under their own words. A call's contract says that it answers the reply that is defined in crates/reply; here is what the replies are worth.
 use mathlib.Core.Bool.{Bool, true, false}
 use mathlib.Core.List.{List}
 use mathlib.Core.Logic.{_↔_}
@@ -20,27 +20,27 @@ use Rattle.horner.specs.definitions.Term.{Term, diff, normℤ, normP, evalℤ, 
 use Rattle.horner.specs.definitions.Value.{evalh}
 use Rattle.horner.specs.laws.Answer.{same-iff, point-is}
 use Rattle.horner.specs.laws.Term.{evalh-norm, normal-norm, theorem-1}
-use Rattle.texts.specs.definitions.Answer.{Reading, read, refused}
-use Rattle.texts.specs.definitions.Bytes.{isRow, same}
-use Rattle.texts.specs.definitions.FormJudging.{acceptForm}
-use Rattle.texts.specs.definitions.FormMeaning.{IsForm}
-use Rattle.texts.specs.definitions.FormText.{text}
-use Rattle.texts.specs.definitions.Limits.{acceptTerm}
-use Rattle.texts.specs.definitions.Meaning.{IsTerm}
-use Rattle.texts.specs.definitions.Parts.{Part, Fits}
-use Rattle.texts.specs.definitions.Tree.{Tree, termOf}
-use Rattle.textlaws.specs.laws.Accepted as Terms
-use Rattle.textlaws.specs.laws.FormAccepted as Forms
-use Rattle.textlaws.specs.laws.FormReading.{text-injective}
-use Rattle.textlaws.specs.laws.Result.{result-form, result-accepted}
-use Rattle.textlaws.specs.laws.Rows.{row-length, accepted-within}
-use Rattle.calls.specs.definitions.Comparing.{Verdict, equal, different, verdictOf, pointOf, compareReply, countersReply, isWidth, bits, multiplesOf}
-use Rattle.calls.specs.definitions.Forms.{judgeReply}
-use Rattle.calls.specs.definitions.Reply.{Reply, gives, refuses, left, right, asked, readAs, enough, opened, fitted}
-use Rattle.calls.specs.definitions.Terms.{formReply}
-use Rattle.walks.specs.Shapes.{Decides}
-use Rattle.counting.specs.laws.Multiples.{multiples-coefs}
-use Rattle.comparing.specs.laws.Verdict.{verdict-same, verdict-bytes, verdict-apart, not-zero}
+use Rattle.text.specs.definitions.Answer.{Reading, read, refused}
+use Rattle.text.specs.definitions.Bytes.{isRow, same}
+use Rattle.text.specs.definitions.FormJudging.{acceptForm}
+use Rattle.text.specs.definitions.FormMeaning.{IsForm}
+use Rattle.text.specs.definitions.FormText.{text}
+use Rattle.text.specs.definitions.Limits.{acceptTerm}
+use Rattle.text.specs.definitions.Meaning.{IsTerm}
+use Rattle.text.specs.definitions.Parts.{Part, Fits}
+use Rattle.text.specs.definitions.Tree.{Tree, termOf}
+use Rattle.text_laws.specs.laws.Accepted as Terms
+use Rattle.text_laws.specs.laws.FormAccepted as Forms
+use Rattle.text_laws.specs.laws.FormReading.{text-injective}
+use Rattle.text_laws.specs.laws.Result.{result-form, result-accepted}
+use Rattle.text_laws.specs.laws.Rows.{row-length, accepted-within}
+use Rattle.reply.specs.definitions.Compare.{Verdict, equal, different, verdictOf, pointOf, compareReply, countersReply, isWidth, bits, multiplesOf}
+use Rattle.reply.specs.definitions.Forms.{judgeReply}
+use Rattle.reply.specs.definitions.Reply.{Reply, gives, refuses, left, right, asked, readAs, enough, opened, fitted}
+use Rattle.reply.specs.definitions.Terms.{formReply}
+use Rattle.code_walk.specs.Shapes.{Decides}
+use Rattle.code_counters.specs.laws.Multiples.{multiples-coefs}
+use Rattle.call_compare.specs.laws.Verdict.{verdict-same, verdict-bytes, verdict-apart, not-zero}
 
 -- what is lent is proper: the row, and the lengths of the work tables
 pub record Lent (row tables : List ℕ) : Type 0 where

@@ -5,9 +5,9 @@ use mathlib.Core.Path.{_≡_, ap, _∙_}
 use Prim.Native.Nat.{ℕ, suc, _+_}
 use native.Mathlib.Omega.{arith}
 use lib.ListN.{length}
-use Rattle.books.specs.definitions.Reading.{Entry}
-use Rattle.books.specs.definitions.Answer.{entryLine, entryLines}
-use Rattle.books.specs.laws.Lines.{lines-apart}
+use Rattle.book.specs.definitions.Reading.{Entry}
+use Rattle.book.specs.definitions.Answer.{entryLine, entryLines}
+use Rattle.book.specs.laws.Lines.{lines-apart}
 
 pub each-its-own :
     (row : List ℕ) (before : List Entry) (e : Entry) (behind : List Entry) →

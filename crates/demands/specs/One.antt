@@ -3,19 +3,19 @@
 use mathlib.Core.List.{List}
 use mathlib.Core.Path.{_≡_, sym, _∙_}
 use Prim.Native.Nat.{ℕ}
-use Rattle.calls.specs.definitions.Buffers.{Tables}
-use Rattle.calls.specs.definitions.Comparing.{Verdict}
-use Rattle.calls.specs.definitions.Reply.{Reply}
-use Rattle.judging.specs.Judging.{verdictOf}
-use Rattle.judging.specs.declared.Verdict.{Verdict as Judgement}
-use Rattle.answering.specs.declared.Written.{Written}
-use Rattle.answering.specs.laws.Whole as Text
-use Rattle.comparing.specs.declared.Compared.{Compared}
-use Rattle.comparing.specs.laws.Whole as Compare
-use Rattle.countering.specs.declared.Counted.{Counted}
-use Rattle.countering.specs.laws.Whole as Count
-use Rattle.pointing.specs.declared.Remaindered.{Remaindered}
-use Rattle.pointing.specs.laws.Whole as Remainder
+use Rattle.reply.specs.definitions.Buffers.{Tables}
+use Rattle.reply.specs.definitions.Compare.{Verdict}
+use Rattle.reply.specs.definitions.Reply.{Reply}
+use Rattle.call_judge.specs.Judge.{verdictOf}
+use Rattle.call_judge.specs.declared.Verdict.{Verdict as Judgement}
+use Rattle.door_result.specs.declared.Written.{Written}
+use Rattle.door_result.specs.laws.Whole as Text
+use Rattle.call_compare.specs.declared.Compared.{Compared}
+use Rattle.call_compare.specs.laws.Whole as Compare
+use Rattle.call_counters.specs.declared.Counted.{Counted}
+use Rattle.call_counters.specs.laws.Whole as Count
+use Rattle.door_point.specs.declared.Remaindered.{Remaindered}
+use Rattle.door_point.specs.laws.Whole as Remainder
 use mathlib.Core.Bool.{Bool}
 
 -- the four work tables

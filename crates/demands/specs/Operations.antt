@@ -14,12 +14,12 @@ use Rattle.horner.specs.definitions.Normal.{Normal}
 use Rattle.horner.specs.definitions.Ring.{Ring, power}
 use Rattle.horner.specs.definitions.Value.{evalh}
 use Rattle.horner.specs.laws.Evalh.{evalh-sum, evalh-negate, evalh-prod, evalh-raise}
-use Rattle.texts.specs.definitions.Answer.{Reading, read}
-use Rattle.texts.specs.definitions.FormJudging.{acceptForm}
-use Rattle.texts.specs.definitions.FormText.{text}
-use Rattle.textlaws.specs.laws.FormAccepted.{accepts}
-use Rattle.calls.specs.definitions.Forms.{Measured, ofSum, ofProduct, ofPower, limited, negateReply, addReply, multiplyReply, raiseReply}
-use Rattle.calls.specs.definitions.Reply.{Reply, left, right, asked, readAs, fitted}
+use Rattle.text.specs.definitions.Answer.{Reading, read}
+use Rattle.text.specs.definitions.FormJudging.{acceptForm}
+use Rattle.text.specs.definitions.FormText.{text}
+use Rattle.text_laws.specs.laws.FormAccepted.{accepts}
+use Rattle.reply.specs.definitions.Forms.{Measured, ofSum, ofProduct, ofPower, limited, negateReply, addReply, multiplyReply, raiseReply}
+use Rattle.reply.specs.definitions.Reply.{Reply, left, right, asked, readAs, fitted}
 use Rattle.demands.specs.Demands.{Lent, goes}
 
 -- of one form

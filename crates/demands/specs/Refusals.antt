@@ -1,5 +1,5 @@
 -- "no refusal but document 01's, each exactly when its line of the table says so": of a term's text and of a form's text, number and place; and that these, on their
--- side, are the calls' refusals of a text. The row, the lengths and the width are tested before any text as crates/calls says, in a line each.
+-- side, are the calls' refusals of a text. The row, the lengths and the width are tested before any text as crates/reply says, in a line each.
 use mathlib.Core.Bool.{Bool, true, false}
 use mathlib.Core.List.{List, [], _∷_, _++_}
 use mathlib.Core.Logic.{_↔_}
@@ -15,37 +15,37 @@ use Rattle.horner.specs.definitions.Form.{Form}
 use Rattle.horner.specs.definitions.Integers.{ℤ-ring}
 use Rattle.horner.specs.definitions.Normal.{Normal}
 use Rattle.horner.specs.definitions.Term.{normℤ}
-use Rattle.texts.specs.definitions.Answer.{Reading, read, refused, fine}
-use Rattle.texts.specs.definitions.Bytes.{isRow}
-use Rattle.texts.specs.definitions.FormJudging as J
-use Rattle.texts.specs.definitions.FormJudging.{Node, nodes, stands, firstWrong, thenJudged, acceptForm}
-use Rattle.texts.specs.definitions.FormMeaning as M
-use Rattle.texts.specs.definitions.FormMeaning.{IsFormText, AllStand, WrongNode}
-use Rattle.texts.specs.definitions.FormReading.{readForm}
-use Rattle.texts.specs.definitions.FormText.{text}
-use Rattle.texts.specs.definitions.Limits.{finishing, firstPast, passes, measured, thenMeasured, acceptTerm}
-use Rattle.texts.specs.definitions.Meaning.{IsTerm, RefusedAs}
-use Rattle.texts.specs.definitions.Parts.{AllPass, FirstOver}
-use Rattle.texts.specs.definitions.Reading.{readTerm}
-use Rattle.texts.specs.definitions.Tree.{Tree, startOf, termOf}
-use Rattle.textlaws.specs.laws.Accepted.{Outcome, not-term, too-big, stands-as, outcome}
-use Rattle.textlaws.specs.laws.Exactly.{refused-exactly}
-use Rattle.textlaws.specs.laws.FormAccepted as F
-use Rattle.textlaws.specs.laws.FormAccepted.{Fits, Measure, within, degree, heavy, many, measure}
-use Rattle.textlaws.specs.laws.FormExactly as FE
-use Rattle.textlaws.specs.laws.FormNormal.{normal-stand}
-use Rattle.textlaws.specs.laws.FormReading as FR
-use Rattle.textlaws.specs.laws.Places.{refusal-parts}
-use Rattle.textlaws.specs.laws.Reading.{reads}
-use Rattle.textlaws.specs.laws.Sofar.{no-refusal}
-use Rattle.calls.specs.definitions.Comparing.{Verdict, verdictOf, compareOf, compareReply}
-use Rattle.calls.specs.definitions.Forms.{judgeReply}
-use Rattle.calls.specs.definitions.Reply.{Reply, Side, gives, refuses, left, right, neither, asked, readAs, fitted}
-use Rattle.calls.specs.definitions.Terms.{formOf, formReply}
+use Rattle.text.specs.definitions.Answer.{Reading, read, refused, fine}
+use Rattle.text.specs.definitions.Bytes.{isRow}
+use Rattle.text.specs.definitions.FormJudging as J
+use Rattle.text.specs.definitions.FormJudging.{Node, nodes, stands, firstWrong, thenJudged, acceptForm}
+use Rattle.text.specs.definitions.FormMeaning as M
+use Rattle.text.specs.definitions.FormMeaning.{IsFormText, AllStand, WrongNode}
+use Rattle.text.specs.definitions.FormReading.{readForm}
+use Rattle.text.specs.definitions.FormText.{text}
+use Rattle.text.specs.definitions.Limits.{finishing, firstPast, passes, measured, thenMeasured, acceptTerm}
+use Rattle.text.specs.definitions.Meaning.{IsTerm, RefusedAs}
+use Rattle.text.specs.definitions.Parts.{AllPass, FirstOver}
+use Rattle.text.specs.definitions.Reading.{readTerm}
+use Rattle.text.specs.definitions.Tree.{Tree, startOf, termOf}
+use Rattle.text_laws.specs.laws.Accepted.{Outcome, not-term, too-big, stands-as, outcome}
+use Rattle.text_laws.specs.laws.Exactly.{refused-exactly}
+use Rattle.text_laws.specs.laws.FormAccepted as F
+use Rattle.text_laws.specs.laws.FormAccepted.{Fits, Measure, within, degree, heavy, many, measure}
+use Rattle.text_laws.specs.laws.FormExactly as FE
+use Rattle.text_laws.specs.laws.FormNormal.{normal-stand}
+use Rattle.text_laws.specs.laws.FormReading as FR
+use Rattle.text_laws.specs.laws.Places.{refusal-parts}
+use Rattle.text_laws.specs.laws.Reading.{reads}
+use Rattle.text_laws.specs.laws.Sofar.{no-refusal}
+use Rattle.reply.specs.definitions.Compare.{Verdict, verdictOf, compareOf, compareReply}
+use Rattle.reply.specs.definitions.Forms.{judgeReply}
+use Rattle.reply.specs.definitions.Reply.{Reply, Side, gives, refuses, left, right, neither, asked, readAs, fitted}
+use Rattle.reply.specs.definitions.Terms.{formOf, formReply}
 use Rattle.demands.specs.Demands.{Lent, goes}
 
 -- ---- a term's text
--- 3, 4, 5 and 6: it is no term, as texts/definitions/Meaning says. 8, 9 and 10: "the first offending node in order of finishing decides"
+-- 3, 4, 5 and 6: it is no term, as text/definitions/Meaning says. 8, 9 and 10: "the first offending node in order of finishing decides"
 pub data TermRefused (row s : List ℕ) (e p : ℕ) : Type 0 where
   no-term : RefusedAs row s e p → TermRefused row s e p
   over-limit : (t : Tree) → IsTerm row s t → FirstOver row t e p → TermRefused row s e p

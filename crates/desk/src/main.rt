@@ -19,7 +19,7 @@ fn answer(fill: usize, line: &[u8], out: &mut [u8]) {
     let mut b = [0u32; 16384];
     let mut c = [0u32; 16384];
     let mut d = [0u32; 16384];
-    let n = asking::answer_line(&line[..fill], out, &mut a, &mut b, &mut c, &mut d);
+    let n = desk_answer::answer_line(&line[..fill], out, &mut a, &mut b, &mut c, &mut d);
     if n < out.len() {
         let e = n + 1;
         out[n] = b'\n';

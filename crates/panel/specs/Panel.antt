@@ -1,13 +1,13 @@
 -- The struct of numbers for each case of each answer.
 use Prim.Native.Nat.{ℕ}
-use Rattle.opening.specs.declared.Side.{Side}
-use Rattle.opening.specs.declared.Side.the-variants.{Left, Right, Neither}
-use Rattle.answering.specs.declared.Written.{Written}
-use Rattle.answering.specs.declared.Written.the-variants as W
-use Rattle.comparing.specs.declared.Compared.{Compared}
-use Rattle.comparing.specs.declared.Compared.the-variants as C
-use Rattle.pointing.specs.declared.Remaindered.{Remaindered}
-use Rattle.pointing.specs.declared.Remaindered.the-variants as R
+use Rattle.door.specs.declared.Side.{Side}
+use Rattle.door.specs.declared.Side.the-variants.{Left, Right, Neither}
+use Rattle.door_result.specs.declared.Written.{Written}
+use Rattle.door_result.specs.declared.Written.the-variants as W
+use Rattle.call_compare.specs.declared.Compared.{Compared}
+use Rattle.call_compare.specs.declared.Compared.the-variants as C
+use Rattle.door_point.specs.declared.Remaindered.{Remaindered}
+use Rattle.door_point.specs.declared.Remaindered.the-variants as R
 use Rattle.panel.specs.declared.PanelAnswer.{PanelAnswer}
 
 -- "The refusal says left, right or neither"

@@ -1,18 +1,18 @@
 // The calls that the panel's build tool makes from C: compare, form and remainder, on numbers and slices. An enum cannot cross, so each answers a struct of
 // numbers; specs/Panel says which. include/panel.h is the same for C.
-use answering::Written;
-use comparing::Compared;
-use opening::Side;
-use pointing::Remaindered;
+use call_compare::Compared;
+use door::Side;
+use door_point::Remaindered;
+use door_result::Written;
 ghost use mathlib.Core.List.{[], _∷_};
 ghost use mathlib.Core.Path.{_≡_};
 ghost use lib.ListN.{length};
-ghost use Rattle.calls.specs.definitions.Buffers.{resultAfter, Tables};
-ghost use Rattle.calls.specs.definitions.Comparing.{compareReply, pointAfter};
-ghost use Rattle.calls.specs.definitions.Terms.{formReply, remainderReply};
-ghost use Rattle.answering.specs.Answering.{writtenOf};
-ghost use Rattle.comparing.specs.Comparing.{comparedOf};
-ghost use Rattle.pointing.specs.Pointing.{remainderedOf};
+ghost use Rattle.reply.specs.definitions.Buffers.{resultAfter, Tables};
+ghost use Rattle.reply.specs.definitions.Compare.{compareReply, pointAfter};
+ghost use Rattle.reply.specs.definitions.Terms.{formReply, remainderReply};
+ghost use Rattle.door_result.specs.Result.{writtenOf};
+ghost use Rattle.call_compare.specs.Compare.{comparedOf};
+ghost use Rattle.door_point.specs.Point.{remainderedOf};
 ghost use Rattle.panel.specs.Panel.{sideNumber, refusal, ofWritten, ofCompared, ofRemaindered};
 
 // kind: 0 same, written, or a remainder; 1 different; 2 refused. Then, of a refusal, its number, its side (0 neither, 1 left, 2 right) and its place; of 'different'
@@ -66,7 +66,7 @@ pub extern "C" fn panel_compare(
     ensures { λ _. ⌜ now (point .exit) ≡ pointAfter (compareReply (now (row .entry)) (length (now (a .entry)) ∷ length (now (b .entry)) ∷ length (now (c .entry)) ∷ length (now (d .entry)) ∷ []) (length (now (point .entry))) (now (s .entry)) (now (t .entry))) (now (point .entry)) ⌝ }
     ensures { λ _. ⌜ Tables (compareReply (now (row .entry)) (length (now (a .entry)) ∷ length (now (b .entry)) ∷ length (now (c .entry)) ∷ length (now (d .entry)) ∷ []) (length (now (point .entry))) (now (s .entry)) (now (t .entry))) (now (a .entry)) (now (b .entry)) (now (c .entry)) (now (d .entry)) (now (a .exit)) (now (b .exit)) (now (c .exit)) (now (d .exit)) ⌝ }
 {
-    let answer = comparing::compare(row, s, t, point, a, b, c, d);
+    let answer = call_compare::compare(row, s, t, point, a, b, c, d);
     match answer {
         Compared::Same => PanelAnswer {
             kind: 0,
@@ -103,7 +103,7 @@ pub extern "C" fn panel_form(
     ensures { λ _. ⌜ now (result .exit) ≡ resultAfter (formReply (now (row .entry)) (length (now (a .entry)) ∷ length (now (b .entry)) ∷ length (now (c .entry)) ∷ length (now (d .entry)) ∷ []) (now (s .entry)) (length (now (result .entry)))) (now (result .entry)) ⌝ }
     ensures { λ _. ⌜ Tables (formReply (now (row .entry)) (length (now (a .entry)) ∷ length (now (b .entry)) ∷ length (now (c .entry)) ∷ length (now (d .entry)) ∷ []) (now (s .entry)) (length (now (result .entry)))) (now (a .entry)) (now (b .entry)) (now (c .entry)) (now (d .entry)) (now (a .exit)) (now (b .exit)) (now (c .exit)) (now (d .exit)) ⌝ }
 {
-    let answer = forming::form(row, s, result, a, b, c, d);
+    let answer = call_form::form(row, s, result, a, b, c, d);
     match answer {
         Written::Text(n) => PanelAnswer {
             kind: 0,
@@ -131,7 +131,7 @@ pub extern "C" fn panel_remainder(
     ensures { λ r. ⌜ r ≡ ofRemaindered (remainderedOf (remainderReply (now (row .entry)) (length (now (a .entry)) ∷ length (now (b .entry)) ∷ length (now (c .entry)) ∷ length (now (d .entry)) ∷ []) (now (s .entry)) (now (point .entry)))) ⌝ }
     ensures { λ _. ⌜ Tables (remainderReply (now (row .entry)) (length (now (a .entry)) ∷ length (now (b .entry)) ∷ length (now (c .entry)) ∷ length (now (d .entry)) ∷ []) (now (s .entry)) (now (point .entry))) (now (a .entry)) (now (b .entry)) (now (c .entry)) (now (d .entry)) (now (a .exit)) (now (b .exit)) (now (c .exit)) (now (d .exit)) ⌝ }
 {
-    let answer = remaindering::remainder(row, s, point, a, b, c, d);
+    let answer = call_remainder::remainder(row, s, point, a, b, c, d);
     match answer {
         Remaindered::Remainder(n) => PanelAnswer {
             kind: 0,

@@ -1,5 +1,5 @@
 // The printer: a formula book from standard input, one line per entry on standard output.
-use answering::Written;
+use door_result::Written;
 
 // Writes the text at the front of out. With buffers of these lengths no answer is refused.
 fn write_answer(answer: Written, out: &[u8]) {
@@ -22,6 +22,6 @@ fn main() {
     let mut b = [0u32; 16384];
     let mut c = [0u32; 16384];
     let mut d = [0u32; 16384];
-    let answer = book::print_book(&bytes[..n], &mut out, &mut a, &mut b, &mut c, &mut d);
+    let answer = book_print::print_book(&bytes[..n], &mut out, &mut a, &mut b, &mut c, &mut d);
     write_answer(answer, &out);
 }

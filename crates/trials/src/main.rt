@@ -96,7 +96,7 @@ fn try_call(call: u32, k: u32, row: &[u8], at: &[i32]) {
 fn try_judge(k: u32, row: &[u8]) {
     let m = letters(k, row.len());
     begin(9, k);
-    say_judged(judging::judge(&row[..m], given(k, 10, b"(POW 2 1 (POW 2 -1 0))")));
+    say_judged(call_judge::judge(&row[..m], given(k, 10, b"(POW 2 1 (POW 2 -1 0))")));
     io::write_all(1, b"\n");
 }
 

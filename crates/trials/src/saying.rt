@@ -1,10 +1,10 @@
 // What came back, on standard output.
-use answering::Written;
-use comparing::Compared;
-use countering::Counted;
-use judging::Verdict;
-use opening::Side;
-use pointing::Remaindered;
+use call_compare::Compared;
+use call_counters::Counted;
+use call_judge::Verdict;
+use door::Side;
+use door_point::Remaindered;
+use door_result::Written;
 
 // How many words are not 0.
 pub fn dirty(t: &[u32]) -> u64 {

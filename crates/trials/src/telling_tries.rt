@@ -5,9 +5,9 @@ use crate::lent::width;
 use crate::saying::say_compared;
 use crate::saying::say_counted;
 use crate::saying::say_remainder;
-use comparing::Compared;
-use countering::Counted;
-use pointing::Remaindered;
+use call_compare::Compared;
+use call_counters::Counted;
+use door_point::Remaindered;
 
 fn try_remainder(
     k: u32,
@@ -19,7 +19,7 @@ fn try_remainder(
     d: &mut [u32],
 ) -> Remaindered {
     let n = coordinates(k, at.len());
-    remaindering::remainder(row, given(k, 10, b"(+ (EXPT X 3) Y)"), &at[..n], a, b, c, d)
+    call_remainder::remainder(row, given(k, 10, b"(+ (EXPT X 3) Y)"), &at[..n], a, b, c, d)
 }
 
 fn try_form_remainder(
@@ -32,7 +32,7 @@ fn try_form_remainder(
     d: &mut [u32],
 ) -> Remaindered {
     let n = coordinates(k, at.len());
-    formremaindering::form_remainder(
+    call_form_remainder::form_remainder(
         row,
         given(k, 10, b"(POW 3 1 (POW 1 1 0))"),
         &at[..n],
@@ -53,7 +53,7 @@ fn try_compare(
     d: &mut [u32],
 ) -> Compared {
     let n = coordinates(k, point.len());
-    comparing::compare(
+    call_compare::compare(
         row,
         given(k, 10, b"(* X Y)"),
         given(k, 11, b"0"),
@@ -73,7 +73,7 @@ fn try_counters(
     c: &mut [u32],
     d: &mut [u32],
 ) -> Counted {
-    countering::counters(
+    call_counters::counters(
         row,
         width(k),
         given(k, 10, b"(* 256 X)"),

@@ -1,7 +1,7 @@
 // Each call with a result text, on what is lent in try k.
 use crate::lent::given;
 use crate::lent::room;
-use answering::Written;
+use door_result::Written;
 
 fn try_form(
     k: u32,
@@ -13,7 +13,7 @@ fn try_form(
     d: &mut [u32],
 ) -> Written {
     let n = room(k, 22, result.len());
-    forming::form(
+    call_form::form(
         row,
         given(k, 10, b"(* (+ X Y) (- X Y))"),
         &mut result[..n],
@@ -34,7 +34,7 @@ fn try_negate(
     d: &mut [u32],
 ) -> Written {
     let n = room(k, 22, result.len());
-    negating::negate(
+    call_negate::negate(
         row,
         given(k, 10, b"(POW 2 1 (POW 2 -1 0))"),
         &mut result[..n],
@@ -55,7 +55,7 @@ fn try_add(
     d: &mut [u32],
 ) -> Written {
     let n = room(k, 21, result.len());
-    adding::add(
+    call_add::add(
         row,
         given(k, 10, b"(POW 1 1 0)"),
         given(k, 11, b"(POP 1 (POW 1 1 0))"),
@@ -77,7 +77,7 @@ fn try_multiply(
     d: &mut [u32],
 ) -> Written {
     let n = room(k, 22, result.len());
-    multiplying::multiply(
+    call_multiply::multiply(
         row,
         given(k, 10, b"(POW 1 1 (POW 1 1 0))"),
         given(k, 11, b"(POW 1 1 (POW 1 -1 0))"),
@@ -99,7 +99,7 @@ fn try_raise(
     d: &mut [u32],
 ) -> Written {
     let n = room(k, 41, result.len());
-    raising::raise(
+    call_raise::raise(
         row,
         given(k, 10, b"(POW 1 1 (POW 1 1 0))"),
         2,

@@ -8,7 +8,7 @@ use Rattle.desk.proofs.answer.Statement.{statement}
 use Rattle.desk.proofs.answer.Tie as tie
 use Rattle.desk.proofs.answer.Reads as reads
 use Rattle.desk.proofs.answer.Lts as lts
-use Rattle.asking.proofs.answer_line.Reads as answer-line-reads
+use Rattle.desk_answer.proofs.answer_line.Reads as answer-line-reads
 use Rattle.io.proofs.write_all.Reads as write-all-reads
 
 -- src/main.rt:15:26

@@ -6,7 +6,7 @@ use Rattle.panel.proofs.panel_compare.Statement.{statement}
 use Rattle.panel.proofs.panel_compare.Tie as tie
 use Rattle.panel.proofs.panel_compare.Reads as reads
 use Rattle.panel.proofs.panel_compare.Lts as lts
-use Rattle.comparing.proofs.compare.Reads as compare-reads
+use Rattle.call_compare.proofs.compare.Reads as compare-reads
 use Rattle.panel.proofs.refused.Reads as refused-reads
 
 -- src/lib.rt:69:9

@@ -6,7 +6,7 @@ use Rattle.panel.proofs.panel_form.Statement.{statement}
 use Rattle.panel.proofs.panel_form.Tie as tie
 use Rattle.panel.proofs.panel_form.Reads as reads
 use Rattle.panel.proofs.panel_form.Lts as lts
-use Rattle.forming.proofs.form.Reads as form-reads
+use Rattle.call_form.proofs.form.Reads as form-reads
 use Rattle.panel.proofs.refused.Reads as refused-reads
 
 -- src/lib.rt:106:9

@@ -7,7 +7,7 @@ use Rattle.panel.proofs.panel_remainder.Tie as tie
 use Rattle.panel.proofs.panel_remainder.Reads as reads
 use Rattle.panel.proofs.panel_remainder.Lts as lts
 use Rattle.panel.proofs.refused.Reads as refused-reads
-use Rattle.remaindering.proofs.remainder.Reads as remainder-reads
+use Rattle.call_remainder.proofs.remainder.Reads as remainder-reads
 
 -- src/lib.rt:134:9
 remainder-requires : tie.Need-remainder-requires

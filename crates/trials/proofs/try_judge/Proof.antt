@@ -7,7 +7,7 @@ use Rattle.trials.proofs.try_judge.Tie as tie
 use Rattle.trials.proofs.try_judge.Reads as reads
 use Rattle.trials.proofs.try_judge.Lts as lts
 use Rattle.io.proofs.write_all.Reads as write-all-reads
-use Rattle.judging.proofs.judge.Reads as judge-reads
+use Rattle.call_judge.proofs.judge.Reads as judge-reads
 use Rattle.trials.proofs.lent.given.Reads as given-reads
 use Rattle.trials.proofs.lent.letters.Reads as letters-reads
 use Rattle.trials.proofs.saying.begin.Reads as begin-reads

@@ -6,7 +6,7 @@ use Rattle.trials.proofs.telling_tries.try_compare.Statement.{statement
 use Rattle.trials.proofs.telling_tries.try_compare.Tie as tie
 use Rattle.trials.proofs.telling_tries.try_compare.Reads as reads
 use Rattle.trials.proofs.telling_tries.try_compare.Lts as lts
-use Rattle.comparing.proofs.compare.Reads as compare-reads
+use Rattle.call_compare.proofs.compare.Reads as compare-reads
 use Rattle.trials.proofs.lent.coordinates.Reads as coordinates-reads
 use Rattle.trials.proofs.lent.given.Reads as given-reads
 

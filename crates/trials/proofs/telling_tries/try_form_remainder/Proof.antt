@@ -6,7 +6,7 @@ use Rattle.trials.proofs.telling_tries.try_form_remainder.Statement.{st
 use Rattle.trials.proofs.telling_tries.try_form_remainder.Tie as tie
 use Rattle.trials.proofs.telling_tries.try_form_remainder.Reads as reads
 use Rattle.trials.proofs.telling_tries.try_form_remainder.Lts as lts
-use Rattle.formremaindering.proofs.form_remainder.Reads as form-remainder-reads
+use Rattle.call_form_remainder.proofs.form_remainder.Reads as form-remainder-reads
 use Rattle.trials.proofs.lent.coordinates.Reads as coordinates-reads
 use Rattle.trials.proofs.lent.given.Reads as given-reads
 

@@ -6,7 +6,7 @@ use Rattle.trials.proofs.telling_tries.try_remainder.Statement.{stateme
 use Rattle.trials.proofs.telling_tries.try_remainder.Tie as tie
 use Rattle.trials.proofs.telling_tries.try_remainder.Reads as reads
 use Rattle.trials.proofs.telling_tries.try_remainder.Lts as lts
-use Rattle.remaindering.proofs.remainder.Reads as remainder-reads
+use Rattle.call_remainder.proofs.remainder.Reads as remainder-reads
 use Rattle.trials.proofs.lent.coordinates.Reads as coordinates-reads
 use Rattle.trials.proofs.lent.given.Reads as given-reads
 

@@ -6,7 +6,7 @@ use Rattle.trials.proofs.writing_tries.try_add.Statement.{statement}
 use Rattle.trials.proofs.writing_tries.try_add.Tie as tie
 use Rattle.trials.proofs.writing_tries.try_add.Reads as reads
 use Rattle.trials.proofs.writing_tries.try_add.Lts as lts
-use Rattle.adding.proofs.add.Reads as add-reads
+use Rattle.call_add.proofs.add.Reads as add-reads
 use Rattle.trials.proofs.lent.given.Reads as given-reads
 use Rattle.trials.proofs.lent.room.Reads as room-reads
 

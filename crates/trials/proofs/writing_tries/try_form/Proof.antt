@@ -6,7 +6,7 @@ use Rattle.trials.proofs.writing_tries.try_form.Statement.{statement}
 use Rattle.trials.proofs.writing_tries.try_form.Tie as tie
 use Rattle.trials.proofs.writing_tries.try_form.Reads as reads
 use Rattle.trials.proofs.writing_tries.try_form.Lts as lts
-use Rattle.forming.proofs.form.Reads as form-reads
+use Rattle.call_form.proofs.form.Reads as form-reads
 use Rattle.trials.proofs.lent.given.Reads as given-reads
 use Rattle.trials.proofs.lent.room.Reads as room-reads
 

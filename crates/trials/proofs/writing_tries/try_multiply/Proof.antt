@@ -6,7 +6,7 @@ use Rattle.trials.proofs.writing_tries.try_multiply.Statement.{statemen
 use Rattle.trials.proofs.writing_tries.try_multiply.Tie as tie
 use Rattle.trials.proofs.writing_tries.try_multiply.Reads as reads
 use Rattle.trials.proofs.writing_tries.try_multiply.Lts as lts
-use Rattle.multiplying.proofs.multiply.Reads as multiply-reads
+use Rattle.call_multiply.proofs.multiply.Reads as multiply-reads
 use Rattle.trials.proofs.lent.given.Reads as given-reads
 use Rattle.trials.proofs.lent.room.Reads as room-reads
 

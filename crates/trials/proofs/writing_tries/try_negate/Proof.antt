@@ -6,7 +6,7 @@ use Rattle.trials.proofs.writing_tries.try_negate.Statement.{statement}
 use Rattle.trials.proofs.writing_tries.try_negate.Tie as tie
 use Rattle.trials.proofs.writing_tries.try_negate.Reads as reads
 use Rattle.trials.proofs.writing_tries.try_negate.Lts as lts
-use Rattle.negating.proofs.negate.Reads as negate-reads
+use Rattle.call_negate.proofs.negate.Reads as negate-reads
 use Rattle.trials.proofs.lent.given.Reads as given-reads
 use Rattle.trials.proofs.lent.room.Reads as room-reads
 

@@ -6,7 +6,7 @@ use Rattle.trials.proofs.writing_tries.try_raise.Statement.{statement}
 use Rattle.trials.proofs.writing_tries.try_raise.Tie as tie
 use Rattle.trials.proofs.writing_tries.try_raise.Reads as reads
 use Rattle.trials.proofs.writing_tries.try_raise.Lts as lts
-use Rattle.raising.proofs.raise.Reads as raise-reads
+use Rattle.call_raise.proofs.raise.Reads as raise-reads
 use Rattle.trials.proofs.lent.given.Reads as given-reads
 use Rattle.trials.proofs.lent.room.Reads as room-reads
 

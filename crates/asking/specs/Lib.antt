@@ -1,3 +1,0 @@
--- What a request line is answered with.
-pub mod Asking
-pub mod Laws

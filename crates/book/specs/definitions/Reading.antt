@@ -1,0 +1,80 @@
+-- Reading a book: its row and its entries, or the refusal.
+use mathlib.Core.Bool.{Bool, true, false, _&&_}
+use mathlib.Core.List.{List, [], _∷_}
+use Prim.Native.Nat.{ℕ, zero, suc, _+_, _*_}
+use lib.Dec.{eqb, leb}
+use lib.ListN.{length, take, drop, getD}
+use Rattle.text.specs.definitions.Answer.{Reading, read, refused}
+use Rattle.text.specs.definitions.Bytes.{isRow}
+
+-- what was read is handed on; the first refusal stays
+abbrev pub onward : {A B : Type 0} → Reading A → (A → Reading B) → Reading B
+onward (read a) r = r a
+onward (refused e p) r = refused e p
+
+-- "13 names the start of the first wrong field": p, unless the test holds
+abbrev pub right : {A : Type 0} → Bool → ℕ → (Unit {0} → Reading A) → Reading A
+right true p r = r tt
+right false p r = refused 13 p
+
+-- "the book's length if a field is cut": k bytes at the place p
+abbrev pub whole : {A : Type 0} → (book : List ℕ) (p k : ℕ) → (Unit {0} → Reading A) → Reading A
+whole book p k r = right (leb (p + k) (length book)) (length book) r
+
+-- "A bad row is 13 here; each letter is a field": with each of the k letters behind the first i, the letters so far are a row
+abbrev pub letters : List ℕ → ℕ → ℕ → Reading (Unit {0})
+letters book i zero = read tt
+letters book i (suc k) = whole book (1 + i) 1 (λ u. right (isRow (take (1 + i) (drop 1 book))) (1 + i) (λ v. letters book (1 + i) k))
+
+-- "little-endian 16-bit numbers": the one at the place p
+abbrev pub number16 : List ℕ → ℕ → ℕ
+number16 book p = getD book p 0 + 256 * getD book (p + 1) 0
+
+-- the length of a body, from the two fields at p: its offset has to be at, since "bodies follow without gaps in that order", and "a length is wrong if its body passes
+-- the end"
+abbrev pub body : List ℕ → ℕ → ℕ → Reading ℕ
+body book p at =
+    whole book p 2
+    (λ u. right (eqb (number16 book p) at) p
+    (λ v. whole book (p + 2) 2 (λ w. right (leb (at + number16 book (p + 2)) (length book)) (p + 2) (λ x. read (number16 book (p + 2))))))
+
+-- "panel offset, panel length, cloud offset, cloud length"
+pub record Entry : Type 0 where
+  pub panel : List ℕ
+  pub cloud : List ℕ
+
+-- n bytes from the place p on
+abbrev pub part : List ℕ → ℕ → ℕ → List ℕ
+part book p n = take n (drop p book)
+
+-- k entries whose fields stand from p on and whose bodies from at on, "to the book's end"; after them "the first byte too many"
+abbrev pub entries : List ℕ → ℕ → ℕ → ℕ → Reading (List Entry)
+entries book p at zero = right (leb (length book) at) at (λ u. read [])
+entries book p at (suc k) =
+    onward (body book p at)
+    (λ m. onward (body book (p + 4) (at + m))
+    (λ n. onward (entries book (p + 8) (at + m + n) k)
+    (λ es. read (record { panel = part book at m; cloud = part book (at + m) n } ∷ es))))
+
+pub record Book : Type 0 where
+  pub row : List ℕ
+  pub all : List Entry
+
+-- "one byte with the number of entries, 1 to 64", behind n letters, and the entries
+abbrev pub contents : List ℕ → ℕ → Reading Book
+contents book n =
+    whole book (1 + n) 1
+    (λ u. right (leb 1 (getD book (1 + n) 0) && leb (getD book (1 + n) 0) 64) (1 + n)
+    (λ v. onward (entries book (2 + n) (2 + n + 8 * getD book (1 + n) 0) (getD book (1 + n) 0))
+    (λ es. read (record { row = part book 1 n; all = es }))))
+
+-- "Byte 0 is the number of variables; then the letters"
+abbrev pub headed : List ℕ → Reading Book
+headed book =
+    whole book 0 1
+    (λ u. right (leb 1 (getD book 0 0) && leb (getD book 0 0) 4) 0
+    (λ v. onward (letters book 0 (getD book 0 0)) (λ w. contents book (getD book 0 0))))
+
+-- "3: .. book over 65,535", place 0
+unfoldable pub readBook : List ℕ → Reading Book
+readBook book = elim (leb (length book) 65535) [ true ↦ headed book | false ↦ refused 3 0 ]

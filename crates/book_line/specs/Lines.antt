@@ -1,0 +1,45 @@
+-- The lines as they are written: piece by piece, each number with the space or the line feed behind it.
+use mathlib.Core.List.{List, [], _∷_, _++_}
+use Prim.Native.Nat.{ℕ}
+use Rattle.text.specs.definitions.Bytes.{bytes}
+use Rattle.text.specs.definitions.Numerals.{dec}
+use Rattle.door.specs.declared.Side.{Side}
+use Rattle.door.specs.declared.Side.the-variants.{Left, Right, Neither}
+use Rattle.call_compare.specs.declared.Compared.{Compared}
+use Rattle.call_compare.specs.declared.Compared.the-variants.{Same, Different, Refused}
+
+-- a number and a space; a number and a line feed
+abbrev pub spaced : ℕ → List ℕ
+spaced n = dec n ++ (32 ∷ [])
+
+abbrev pub ended : ℕ → List ℕ
+ended n = dec n ++ (10 ∷ [])
+
+abbrev pub parted : List ℕ → List ℕ
+parted [] = []
+parted (n ∷ ns) = spaced n ++ parted ns
+
+abbrev pub differentText : List ℕ → ℕ → ℕ → List ℕ
+differentText N l r = ((bytes "DIFF " ++ parted N) ++ spaced l) ++ ended r
+
+abbrev pub refusedStart : Side → List ℕ
+refusedStart Left = bytes "REFUSED E "
+refusedStart Right = bytes "REFUSED C "
+refusedStart Neither = bytes "REFUSED  "
+
+abbrev pub refusedText : ℕ → Side → ℕ → List ℕ
+refusedText e s p = (refusedStart s ++ spaced e) ++ ended p
+
+abbrev pub answerText : Compared → List ℕ → List ℕ
+answerText Same N = bytes "SAME\n"
+answerText (Different l r) N = differentText N l r
+answerText (Refused e s p) N = refusedText e s p
+
+unfoldable pub entryText : ℕ → Compared → List ℕ → List ℕ
+entryText i c N = spaced i ++ answerText c N
+
+unfoldable pub headText : ℕ → ℕ → List ℕ
+headText n m = (bytes "BOOK " ++ spaced n) ++ ended m
+
+unfoldable pub refusalText : ℕ → ℕ → List ℕ
+refusalText e p = (bytes "BOOK REFUSED " ++ spaced e) ++ ended p

@@ -1,0 +1,126 @@
+// The lines of the printer's answer, each written at the front of a lent buffer.
+use call_compare::Compared;
+use door::Side;
+ghost use mathlib.Core.List.{[], _∷_, _++_};
+ghost use mathlib.Core.Path.{_≡_};
+ghost use Prim.Native.Nat.{_≤_, _*_};
+ghost use lib.ListN.{length};
+ghost use Rattle.form_write.specs.Write.{numeral, Wrote};
+ghost use Rattle.book_line.specs.Lines.{parted, refusedStart, refusedText, differentText, answerText, entryText, headText, refusalText};
+
+// A number and the byte behind it: a space, or a line feed.
+fn put_number(n: usize, last: u8, out: &mut [u8]) -> usize
+    requires { ⌜ 21 ≤ length (now out) ⌝ }
+    ensures { λ r. ⌜ Wrote r (numeral n ++ (last ∷ [])) (now (out .entry)) (now (out .exit)) ⌝ }
+    ensures { λ r. ⌜ r ≤ 21 ⌝ }
+{
+    let k = form_write::write_number(n as u64, out);
+    out[k] = last;
+    k + 1
+}
+
+// Numbers, each with a space behind it.
+fn put_numbers(ns: &[u32], out: &mut [u8]) -> usize
+    requires { ⌜ 21 * length (now ns) ≤ length (now out) ⌝ }
+    ensures { λ r. ⌜ Wrote r (parted (now (ns .entry))) (now (out .entry)) (now (out .exit)) ⌝ }
+    ensures { λ r. ⌜ r ≤ 21 * length (now (ns .entry)) ⌝ }
+{
+    if ns.len() == 0 {
+        return 0;
+    }
+    let k = put_number(ns[0] as usize, b' ', out);
+    let m = put_numbers(&ns[1..], &mut out[k..]);
+    k + m
+}
+
+// `DIFF`, the point, both remainders.
+fn different(point: &[u32], l: u32, r: u32, out: &mut [u8]) -> usize
+    requires { ⌜ length (now point) ≤ 4 ⌝ }
+    requires { ⌜ 139 ≤ length (now out) ⌝ }
+    ensures { λ n. ⌜ Wrote n (differentText (now (point .entry)) l r) (now (out .entry)) (now (out .exit)) ⌝ }
+    ensures { λ n. ⌜ n ≤ 139 ⌝ }
+{
+    let a = form_write::put(b"DIFF ", out);
+    let k = put_numbers(point, &mut out[a..]);
+    let b = a + k;
+    let m = put_number(l as usize, b' ', &mut out[b..]);
+    let e = b + m;
+    let n = put_number(r as usize, b'\n', &mut out[e..]);
+    e + n
+}
+
+// `REFUSED`, and E for panel or C for cloud.
+fn put_refused(side: Side, out: &mut [u8]) -> usize
+    requires { ⌜ 10 ≤ length (now out) ⌝ }
+    ensures { λ r. ⌜ Wrote r (refusedStart side) (now (out .entry)) (now (out .exit)) ⌝ }
+{
+    match side {
+        Side::Left => form_write::put(b"REFUSED E ", out),
+        Side::Right => form_write::put(b"REFUSED C ", out),
+        Side::Neither => form_write::put(b"REFUSED  ", out),
+    }
+}
+
+// `REFUSED`, E for panel or C for cloud, number, place.
+fn refused(number: u32, side: Side, place: usize, out: &mut [u8]) -> usize
+    requires { ⌜ 139 ≤ length (now out) ⌝ }
+    ensures { λ r. ⌜ Wrote r (refusedText number side place) (now (out .entry)) (now (out .exit)) ⌝ }
+    ensures { λ n. ⌜ n ≤ 139 ⌝ }
+{
+    let a = put_refused(side, out);
+    let k = put_number(number as usize, b' ', &mut out[a..]);
+    let b = a + k;
+    let m = put_number(place, b'\n', &mut out[b..]);
+    b + m
+}
+
+// The answer to a comparison, where the first point that differs is point.
+fn put_answer(answer: Compared, point: &[u32], out: &mut [u8]) -> usize
+    requires { ⌜ length (now point) ≤ 4 ⌝ }
+    requires { ⌜ 139 ≤ length (now out) ⌝ }
+    ensures { λ r. ⌜ Wrote r (answerText answer (now (point .entry))) (now (out .entry)) (now (out .exit)) ⌝ }
+    ensures { λ n. ⌜ n ≤ 139 ⌝ }
+{
+    match answer {
+        Compared::Same => form_write::put(b"SAME\n", out),
+        Compared::Different(l, r) => different(point, l, r, out),
+        Compared::Refused(e, side, p) => refused(e, side, p, out),
+    }
+}
+
+// The line of the entry with the number i.
+pub fn put_entry(i: usize, answer: Compared, point: &[u32], out: &mut [u8]) -> usize
+    requires { ⌜ length (now point) ≤ 4 ⌝ }
+    requires { ⌜ 160 ≤ length (now out) ⌝ }
+    ensures { λ r. ⌜ Wrote r (entryText i answer (now (point .entry))) (now (out .entry)) (now (out .exit)) ⌝ }
+    ensures { λ n. ⌜ n ≤ 160 ⌝ }
+{
+    let a = put_number(i, b' ', out);
+    let m = put_answer(answer, point, &mut out[a..]);
+    a + m
+}
+
+// The first line: `BOOK`, variables, entries.
+pub fn put_head(variables: usize, entries: usize, out: &mut [u8]) -> usize
+    requires { ⌜ 64 ≤ length (now out) ⌝ }
+    ensures { λ r. ⌜ Wrote r (headText variables entries) (now (out .entry)) (now (out .exit)) ⌝ }
+    ensures { λ n. ⌜ n ≤ 64 ⌝ }
+{
+    let a = form_write::put(b"BOOK ", out);
+    let k = put_number(variables, b' ', &mut out[a..]);
+    let b = a + k;
+    let m = put_number(entries, b'\n', &mut out[b..]);
+    b + m
+}
+
+// The only line of a refused book: `BOOK REFUSED`, number, place.
+pub fn put_refusal(number: u32, place: usize, out: &mut [u8]) -> usize
+    requires { ⌜ 64 ≤ length (now out) ⌝ }
+    ensures { λ r. ⌜ Wrote r (refusalText number place) (now (out .entry)) (now (out .exit)) ⌝ }
+{
+    let a = form_write::put(b"BOOK REFUSED ", out);
+    let k = put_number(number as usize, b' ', &mut out[a..]);
+    let b = a + k;
+    let m = put_number(place, b'\n', &mut out[b..]);
+    b + m
+}

@@ -1,0 +1,4 @@
+pub mod Walk
+pub mod Sound
+pub mod Entry
+pub mod Whole

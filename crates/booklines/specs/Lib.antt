@@ -1,3 +1,0 @@
--- The printer's lines. What the contracts say stands in Lines; that these are the lines of crates/books, in laws/.
-pub mod Lines
-pub mod laws

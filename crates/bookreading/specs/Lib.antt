@@ -1,3 +1,0 @@
--- Reading a book. What is read is defined in crates/books.
-pub mod Heads
-pub mod laws

@@ -1,0 +1,2 @@
+-- The call `add`. Its reply is defined in crates/reply.
+pub mod laws

@@ -1,0 +1,89 @@
+// The call `add`: two forms' texts in, the text of their sum out.
+use door::Side;
+use door_forms::Pair;
+use door_result::Written;
+use measure::Measures;
+ghost use mathlib.Core.Bool.{true};
+ghost use mathlib.Core.List.{[], _∷_};
+ghost use mathlib.Core.Path.{_≡_};
+ghost use Prim.Native.Nat.{_≤_};
+ghost use lib.ListN.{length};
+ghost use Rattle.horner.specs.definitions.Form.{sum};
+ghost use Rattle.horner.specs.definitions.Integers.{ℤ-ring};
+ghost use Rattle.text.specs.definitions.Bytes.{isRow};
+ghost use Rattle.reply.specs.definitions.Buffers.{resultAfter, Tables};
+ghost use Rattle.reply.specs.definitions.Forms.{ofSum, twoOf, addReply};
+ghost use Rattle.door_result.specs.Result.{writtenOf};
+ghost use Rattle.door_forms.specs.Forms.{IsPair};
+
+// The text of the sum of two forms that stand side by side at the front of the table a, with the measures x and y.
+fn write_sum(
+    row: &[u8],
+    s: &[u8],
+    t: &[u8],
+    x: Measures,
+    n: usize,
+    y: Measures,
+    k: usize,
+    result: &mut [u8],
+    a: &mut [u32],
+    b: &mut [u32],
+) -> Written
+    requires { ⌜ (length (now row) ≤ 4) × ((16384 ≤ length (now a)) × (16384 ≤ length (now b))) ⌝ }
+    requires { ⌜ IsPair (length (now row)) (now s) (now t) x n y k (now a) ⌝ }
+    ensures { λ r. ⌜ r ≡ writtenOf (twoOf (ofSum (length (now (row .entry)))) (sum ℤ-ring) (now (row .entry)) (now (s .entry)) (now (t .entry)) (length (now (result .entry)))) ⌝ }
+    ensures { λ _. ⌜ now (result .exit) ≡ resultAfter (twoOf (ofSum (length (now (row .entry)))) (sum ℤ-ring) (now (row .entry)) (now (s .entry)) (now (t .entry)) (length (now (result .entry)))) (now (result .entry)) ⌝ }
+{
+    let e = measure::limit_of(measure::add(x, y));
+    if e != 0 {
+        return Written::Refused(e, Side::Neither, 0);
+    }
+    let words = code_pair::add(a, n, k, &mut b[..16384]);
+    door_result::write_result(&a[..words], result)
+}
+
+// The text of the sum of the forms s and t, where the row is proper and the tables are long enough.
+fn add_of(
+    row: &[u8],
+    s: &[u8],
+    t: &[u8],
+    result: &mut [u8],
+    a: &mut [u32],
+    b: &mut [u32],
+) -> Written
+    requires { ⌜ isRow (now row) ≡ true ⌝ }
+    requires { ⌜ (16384 ≤ length (now a)) × (16384 ≤ length (now b)) ⌝ }
+    ensures { λ r. ⌜ r ≡ writtenOf (twoOf (ofSum (length (now (row .entry)))) (sum ℤ-ring) (now (row .entry)) (now (s .entry)) (now (t .entry)) (length (now (result .entry)))) ⌝ }
+    ensures { λ _. ⌜ now (result .exit) ≡ resultAfter (twoOf (ofSum (length (now (row .entry)))) (sum ℤ-ring) (now (row .entry)) (now (s .entry)) (now (t .entry)) (length (now (result .entry)))) (now (result .entry)) ⌝ }
+{
+    let pair = door_forms::read_pair(row.len(), s, t, a);
+    match pair {
+        Pair::Refused(e, side, p) => Written::Refused(e, side, p),
+        Pair::Forms(x, n, y, k) => write_sum(row, s, t, x, n, y, k, result, a, b),
+    }
+}
+
+// The text of the sum of the forms s and t over the row, at the front of the result buffer; or a refusal. The work tables are cleared, but not where 1 or 2 is
+// refused.
+pub fn add(
+    row: &[u8],
+    s: &[u8],
+    t: &[u8],
+    result: &mut [u8],
+    a: &mut [u32],
+    b: &mut [u32],
+    c: &mut [u32],
+    d: &mut [u32],
+) -> Written
+    ensures { λ r. ⌜ r ≡ writtenOf (addReply (now (row .entry)) (length (now (a .entry)) ∷ length (now (b .entry)) ∷ length (now (c .entry)) ∷ length (now (d .entry)) ∷ []) (now (s .entry)) (now (t .entry)) (length (now (result .entry)))) ⌝ }
+    ensures { λ _. ⌜ now (result .exit) ≡ resultAfter (addReply (now (row .entry)) (length (now (a .entry)) ∷ length (now (b .entry)) ∷ length (now (c .entry)) ∷ length (now (d .entry)) ∷ []) (now (s .entry)) (now (t .entry)) (length (now (result .entry)))) (now (result .entry)) ⌝ }
+    ensures { λ _. ⌜ Tables (addReply (now (row .entry)) (length (now (a .entry)) ∷ length (now (b .entry)) ∷ length (now (c .entry)) ∷ length (now (d .entry)) ∷ []) (now (s .entry)) (now (t .entry)) (length (now (result .entry)))) (now (a .entry)) (now (b .entry)) (now (c .entry)) (now (d .entry)) (now (a .exit)) (now (b .exit)) (now (c .exit)) (now (d .exit)) ⌝ }
+{
+    let e = door::ready(row, a.len(), b.len(), c.len(), d.len());
+    if e != 0 {
+        return Written::Refused(e, Side::Neither, 0);
+    }
+    let answer = add_of(row, s, t, result, a, b);
+    door::clear_tables(a, b, c, d);
+    answer
+}

@@ -1,0 +1,63 @@
+-- What `compare` answers for each reply, and two forms side by side.
+use mathlib.Core.List.{List, _++_}
+use mathlib.Core.Path.{_≡_}
+use Prim.Native.Nat.{ℕ, _≤_}
+use lib.ListN.{length, take, drop}
+use Rattle.horner.specs.definitions.Form.{Form}
+use Rattle.code.specs.Coding.{Coded, dec}
+use Rattle.code.specs.Operations.{sumOf, negateOf, valueOf}
+use Rattle.code.specs.Widths.{Leaf}
+use Rattle.code_point.specs.Points.{pointOf, Ready}
+use Rattle.reply.specs.definitions.Compare.{Verdict, equal, different}
+use Rattle.reply.specs.definitions.Reply.{Reply, gives, refuses}
+use Rattle.door.specs.Door.{told}
+use Rattle.door_terms.specs.declared.Pair.{Pair}
+use Rattle.door_terms.specs.declared.Pair.the-variants as B
+use Rattle.call_compare.specs.declared.Compared.{Compared}
+use Rattle.call_compare.specs.declared.Compared.the-variants.{Same, Different, Refused}
+
+-- document 01's number and values, for each case of the enum
+abbrev pub verdictAs : Verdict → Compared
+verdictAs equal = Same
+verdictAs (different N l r) = Different l r
+
+abbrev pub comparedOf : Reply Verdict → Compared
+comparedOf (gives v) = verdictAs v
+comparedOf (refuses e s p) = Refused e (told s) p
+
+abbrev pub refusedOf : Pair → Compared
+refusedOf (B.Refused e s p) = Refused e s p
+refusedOf (B.Forms k m) = Same
+
+-- two codes side by side: one in the first k words of l, the other behind it
+pub record Sides (k : ℕ) (l : List ℕ) : Type 0 where
+  pub inside : k ≤ length l
+  pub left : Coded 0 (take k l)
+  pub right : Coded 0 (drop k l)
+
+-- the difference of the two forms
+unfoldable pub gapOf : ℕ → List ℕ → Form (Leaf 0)
+gapOf k l = sumOf 0 (dec 0 (take k l)) (negateOf 0 (dec 0 (drop k l)))
+
+-- where the two forms are not the same, their difference has a first point in n variables
+pub record Apart (n k : ℕ) (l : List ℕ) : Type 0 where
+  pub ready : (dec 0 (take k l) ≡ dec 0 (drop k l) → ⊥) → Ready n (gapOf k l)
+
+-- two tables with room for n words each, where a node's word can say so much
+pub record Rooms (n b c : ℕ) : Type 0 where
+  pub first : n ≤ b
+  pub second : n ≤ c
+  pub first-small : b ≤ 33554432
+  pub second-small : c ≤ 33554432
+
+-- two forms of at most 3,073 words each, and three tables of the fixed length or more
+pub record Wide (n a b c : ℕ) : Type 0 where
+  pub forms : n ≤ 6146
+  pub first : 16384 ≤ a
+  pub second : 16384 ≤ b
+  pub third : 16384 ≤ c
+
+-- the answer and the point buffer, of the forms x and y over n variables
+pub record Told (n : ℕ) (x y : Form (Leaf 0)) (r : Compared) (p p′ : List ℕ) : Type 0 where
+  pub same : x ≡ y → (r ≡ Same) × (p′ ≡ p)
+  pub parted : (x ≡ y → ⊥) → let N = pointOf n (sumOf 0 x (negateOf 0 y)) in (r ≡ Different (valueOf 0 x N) (valueOf 0 y N)) × (p′ ≡ N ++ drop n p)

@@ -1,0 +1,49 @@
+-- A first point has a number for each variable.
+use mathlib.Core.Bool.{Bool, true, false}
+use mathlib.Core.List.{List, [], _∷_}
+use mathlib.Core.Path.{_≡_, refl, ap, _∙_}
+use Prim.Native.Nat.{ℕ, suc}
+use lib.ListN.{length}
+use Rattle.horner.specs.definitions.Form.{Form}
+use Rattle.horner.specs.definitions.Measures.{Within}
+use Rattle.horner.specs.definitions.Points.{firstPoint, gap, sides}
+use Rattle.horner.specs.definitions.Residues.{P-ring, Res, prime}
+use Rattle.horner.specs.definitions.Term.{Term, normℤ}
+use Rattle.horner.specs.laws.Answer.{length-sides}
+use Rattle.text.specs.definitions.Answer.{Reading, read, refused}
+use Rattle.text.specs.definitions.Bytes.{same}
+use Rattle.text.specs.definitions.FormText.{text}
+use Rattle.text.specs.definitions.Limits.{acceptTerm}
+use Rattle.text.specs.definitions.Tree.{Tree, termOf}
+use Rattle.text_laws.specs.laws.Rows.{accepted-within}
+use Rattle.reply.specs.definitions.Compare.{Verdict, equal, different, verdictOf, compareOf}
+use Rattle.reply.specs.definitions.Reply.{Reply, Side, gives, refuses, left, right, readAs}
+
+pub data Sized (n : ℕ) : Reply Verdict → Type 0 where
+  alike : Sized n (gives equal)
+  apart : {N : List ℕ} {l r : ℕ} → length N ≡ n → Sized n (gives (different N l r))
+  refusal : {e p : ℕ} {s : Side} → Sized n (refuses e s p)
+
+length-first : (ds : List ℕ) (h : Form (Res prime)) → length (firstPoint P-ring ds h) ≡ length ds
+length-first [] h = refl
+length-first (d ∷ ds) h = ap suc (length-first ds _)
+
+verdict-sized : (n : ℕ) (f g : Term) → Within n f → Within n g → Sized n (gives (verdictOf n f g))
+verdict-sized n f g F G = go (same (text (normℤ f)) (text (normℤ g))) refl
+  where
+    go : (b : Bool) → same (text (normℤ f)) (text (normℤ g)) ≡ b → Sized n (gives (verdictOf n f g))
+    go true e = rw (e, verdictOf) alike
+    go false e = rw (e, verdictOf) (apart (length-first (sides n f g) (gap f g) ∙ length-sides n f g F G))
+
+pub compare-sized : (row s t : List ℕ) → Sized (length row) (compareOf row s t)
+compare-sized row s t = first (acceptTerm row s) refl
+  where
+    second : (f : Tree) → Within (length row) (termOf row f) → (x : Reading Tree) → acceptTerm row t ≡ x →
+        Sized (length row) (readAs right x (λ g. gives (verdictOf (length row) (termOf row f) (termOf row g))))
+    second f F (read g) e = verdict-sized (length row) (termOf row f) (termOf row g) F (accepted-within row t g e)
+    second f F (refused e p) h = refusal
+
+    first : (x : Reading Tree) → acceptTerm row s ≡ x →
+        Sized (length row) (readAs left x (λ f. readAs right (acceptTerm row t) (λ g. gives (verdictOf (length row) (termOf row f) (termOf row g)))))
+    first (read f) e = second f (accepted-within row s f e) (acceptTerm row t) refl
+    first (refused e p) h = refusal

@@ -1,0 +1,3 @@
+-- The call `counters`. Its reply is defined in crates/reply.
+pub mod Counters
+pub mod laws

@@ -1,0 +1,126 @@
+// The call `counters`: two terms as wrapping counters.
+use door::Side;
+use door_terms::Pair;
+ghost use mathlib.Core.Bool.{true};
+ghost use mathlib.Core.List.{[], _∷_};
+ghost use mathlib.Core.Path.{_≡_};
+ghost use Prim.Native.Nat.{_≤_};
+ghost use lib.ListN.{length, take, drop};
+ghost use Rattle.code.specs.Coding.{dec};
+ghost use Rattle.code_counters.specs.Same.{sameOf};
+ghost use Rattle.text.specs.definitions.Bytes.{isRow};
+ghost use Rattle.reply.specs.definitions.Buffers.{Tables};
+ghost use Rattle.reply.specs.definitions.Compare.{isWidth, bits, countersOf, countersReply};
+ghost use Rattle.door.specs.Door.{Long};
+ghost use Rattle.call_compare.specs.Compare.{Sides, Wide};
+ghost use Rattle.call_counters.specs.Counters.{countedOf, refusedOf, answerOf};
+
+// The same, or different; or the refusal's number, side and place.
+pub enum Counted {
+    Same,
+    Different,
+    Refused(u32, Side, usize),
+}
+
+// Whether the width is 8, 16, or 0.
+fn is_width(width: u32) -> bool
+    ensures { λ r. ⌜ r ≡ isWidth width ⌝ }
+{
+    if width == 0 {
+        return true;
+    }
+    if width == 8 {
+        return true;
+    }
+    width == 16
+}
+
+// At how many bits the counters wrap: 0 stands for 16.
+fn bits_of(width: u32) -> u32
+    ensures { λ r. ⌜ r ≡ bits width ⌝ }
+{
+    if width == 8 {
+        return 8;
+    }
+    16
+}
+
+// The form in the first k words of l and the one behind it, as counters.
+fn verdict(width: u32, l: &[u32], k: usize, a: &mut [u32], b: &mut [u32], c: &mut [u32]) -> Counted
+    requires { ⌜ Sides k (now l) ⌝ }
+    requires { ⌜ Wide (length (now l)) (length (now a)) (length (now b)) (length (now c)) ⌝ }
+    ensures { λ r. ⌜ r ≡ answerOf (sameOf width (dec 0 (take k (now (l .entry)))) (dec 0 (drop k (now (l .entry))))) ⌝ }
+{
+    let same = code_counters::same_counters(
+        width,
+        &l[..k],
+        &l[k..],
+        &mut a[..16384],
+        &mut b[..16384],
+        c,
+    );
+    if same {
+        return Counted::Same;
+    }
+    Counted::Different
+}
+
+// The refusal of one of the texts.
+fn refused(pair: Pair) -> Counted
+    ensures { λ r. ⌜ r ≡ refusedOf pair ⌝ }
+{
+    match pair {
+        Pair::Refused(e, side, p) => Counted::Refused(e, side, p),
+        Pair::Forms(_, _) => Counted::Same,
+    }
+}
+
+// The comparison of the terms s and t, where the row is proper and the tables are long enough.
+fn counters_of(
+    row: &[u8],
+    width: u32,
+    s: &[u8],
+    t: &[u8],
+    a: &mut [u32],
+    b: &mut [u32],
+    c: &mut [u32],
+    d: &mut [u32],
+) -> Counted
+    requires { ⌜ isRow (now row) ≡ true ⌝ }
+    requires { ⌜ Long (length (now a)) (length (now b)) (length (now c)) (length (now d)) × (16384 ≤ length (now d)) ⌝ }
+    ensures { λ r. ⌜ r ≡ countedOf (countersOf (now (row .entry)) width (now (s .entry)) (now (t .entry))) ⌝ }
+{
+    let pair = door_terms::read_pair(row, s, t, a, b, c, d);
+    let Pair::Forms(k, m) = pair else {
+        return refused(pair);
+    };
+    let e = k + m;
+    verdict(bits_of(width), &d[..e], k, a, b, c)
+}
+
+// Compares the terms s and t over the row as counters of the width. The work tables are cleared, but not where 1 or 2 is refused.
+pub fn counters(
+    row: &[u8],
+    width: u32,
+    s: &[u8],
+    t: &[u8],
+    a: &mut [u32],
+    b: &mut [u32],
+    c: &mut [u32],
+    d: &mut [u32],
+) -> Counted
+    ensures { λ r. ⌜ r ≡ countedOf (countersReply (now (row .entry)) (length (now (a .entry)) ∷ length (now (b .entry)) ∷ length (now (c .entry)) ∷ length (now (d .entry)) ∷ []) width (now (s .entry)) (now (t .entry))) ⌝ }
+    ensures { λ _. ⌜ Tables (countersReply (now (row .entry)) (length (now (a .entry)) ∷ length (now (b .entry)) ∷ length (now (c .entry)) ∷ length (now (d .entry)) ∷ []) width (now (s .entry)) (now (t .entry))) (now (a .entry)) (now (b .entry)) (now (c .entry)) (now (d .entry)) (now (a .exit)) (now (b .exit)) (now (c .exit)) (now (d .exit)) ⌝ }
+{
+    let e = door::ready(row, a.len(), b.len(), c.len(), d.len());
+    if e != 0 {
+        return Counted::Refused(e, Side::Neither, 0);
+    }
+    if !is_width(width) {
+        door::clear_tables(a, b, c, d);
+        return Counted::Refused(14, Side::Neither, 0);
+    }
+    let answer = counters_of(row, width, s, t, a, b, c, d);
+    door::clear_tables(a, b, c, d);
+    answer
+}

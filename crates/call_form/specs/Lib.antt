@@ -1,0 +1,2 @@
+-- The call `form`. Its reply is defined in crates/reply.
+pub mod laws

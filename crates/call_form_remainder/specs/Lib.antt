@@ -1,0 +1,3 @@
+-- The call `form_remainder`. Its reply is defined in crates/reply.
+pub mod Refusing
+pub mod laws

@@ -1,0 +1,2 @@
+-- The call `negate`. Its reply is defined in crates/reply.
+pub mod laws

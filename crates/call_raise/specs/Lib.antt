@@ -1,0 +1,2 @@
+-- The call `raise`. Its reply is defined in crates/reply.
+pub mod laws

@@ -1,0 +1,3 @@
+-- What an operator makes of two forms side by side in a table.
+pub mod Combine
+pub mod laws

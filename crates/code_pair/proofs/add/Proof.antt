@@ -1,0 +1,76 @@
+-- `code_pair::add` meets its contract: the sum is made in out, and copied to the front.
+-- Assumes nothing.
+use mathlib.Core.Path.{sym}
+use native.Mathlib.Omega.{arith}
+use lib.ListN.{length, take, drop}
+use lib.Seq.{length-take-le}
+use Rattle.code.specs.Coding.{Begins, enc}
+use Rattle.code.specs.Operations.{sumOf}
+use Rattle.code.proofs.Lists.{begins-le, begins-as, copied-front}
+use Rattle.code_pair.specs.Pair.{left, right}
+use Rattle.code_pair.proofs.Pairs.{both-length, both-coded, both-sum, sum-fits}
+use borrow.Author.Needs.{needs}
+use Rattle.code_pair.proofs.add.Statement.{statement}
+use Rattle.code_pair.proofs.add.Tie as tie
+
+made : (c : tie.After-sum-parts) →
+    let start = c .before .before .before .before .before in
+    Begins (c .sum-parts .result) (enc 0 (sumOf 0 (left (start .args .a) (start .args .stack .now)) (right (start .args .a) (start .args .b) (start .args .stack .now)))) (c .sum-parts .last .1 .1 .0)
+made c =
+    let start = c .before .before .before .before .before in
+    begins-as (c .sum-parts .ensures) (both-sum (start .args .a) (start .args .b) (start .args .stack .now))
+
+add-e : tie.Need-add-e
+add-e c = search needs
+
+slice-reshare-prefix-sum-parts : tie.Need-slice-reshare-prefix-sum-parts
+slice-reshare-prefix-sum-parts c = search needs
+
+slice-aggregate-sum-parts : tie.Need-slice-aggregate-sum-parts
+slice-aggregate-sum-parts c = sym (both-length (c .before .before .before .pre .0))
+
+sum-parts-requires : tie.Need-sum-parts-requires
+sum-parts-requires c κs =
+    let start = c .before .before .before .before in
+    (omega (arith, both-length (start .pre .0)), (both-coded (start .pre .0), omega (arith, both-length (start .pre .0), start .pre .1)))
+
+slice-reshare-prefix-copy : tie.Need-slice-reshare-prefix-copy
+slice-reshare-prefix-copy c = begins-le (made (c .before .before))
+
+slice-aggregate-copy : tie.Need-slice-aggregate-copy
+slice-aggregate-copy c = sym (length-take-le (c .before .before .before .sum-parts .result) (c .before .before .before .sum-parts .last .1 .1 .0) (begins-le (made (c .before .before .before))))
+
+copy-requires : tie.Need-copy-requires
+copy-requires c κs =
+    let sum-parts = c .before .before .before .before .sum-parts in
+    let earlier = c .before .before .before .before in
+    let start = c .before .before .before .before .before .before .before .before .before in
+    omega (arith, length-take-le (sum-parts .result) (sum-parts .last .1 .1 .0) (begins-le (made earlier)), made (earlier) .size, sum-fits (start .pre .0))
+
+same-length : tie.Need-same-length
+same-length c = search needs
+
+same-length-2 : tie.Need-same-length-2
+same-length-2 c = search needs
+
+returns : tie.Need-returns
+returns c =
+    let sum-parts = c .before .before .before .before .before .before .before .sum-parts in
+    let earlier = c .before .before .before .before .before .before .before in
+    let start = c .before .before .before .before .before .before .before .before .before .before .before .before in
+    copied-front (drop (length (take (sum-parts .result) (sum-parts .last .1 .1 .0))) (start .args .stack .now)) (made earlier) (c .before .before .copy .ensures)
+
+pub add-spec : {M : Type 1} → statement M
+add-spec =
+    tie.close
+    (tie.spec
+    add-e
+    slice-reshare-prefix-sum-parts
+    slice-aggregate-sum-parts
+    sum-parts-requires
+    slice-reshare-prefix-copy
+    slice-aggregate-copy
+    copy-requires
+    same-length
+    same-length-2
+    returns)

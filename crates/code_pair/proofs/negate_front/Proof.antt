@@ -1,0 +1,62 @@
+-- `code_pair::negate_front` meets its contract: the negative is made in out, and copied back.
+-- Assumes nothing.
+use mathlib.Core.Path.{sym}
+use native.Mathlib.Omega.{arith}
+use lib.ListN.{length, take, drop}
+use lib.Seq.{length-take-le}
+use Rattle.code.specs.Coding.{dec}
+use Rattle.code.specs.laws.Codes.{codes-length}
+use Rattle.code.specs.laws.Sizes.{negate-length}
+use Rattle.code.proofs.Lists.{begins-le, copied-front}
+use borrow.Author.Needs.{needs}
+use Rattle.code_pair.proofs.negate_front.Statement.{statement}
+use Rattle.code_pair.proofs.negate_front.Tie as tie
+
+slice-reshare-prefix-negate : tie.Need-slice-reshare-prefix-negate
+slice-reshare-prefix-negate c = search needs
+
+slice-aggregate-negate : tie.Need-slice-aggregate-negate
+slice-aggregate-negate c = sym (length-take-le (c .before .before .before .args .n) (c .before .before .before .args .stack .now) (c .before .before .before .pre .0 .0))
+
+negate-requires : tie.Need-negate-requires
+negate-requires c κs =
+    let start = c .before .before .before .before in
+    (start .pre .1, omega (arith, length-take-le (start .args .n) (start .args .stack .now) (start .pre .0 .0), start .pre .0 .1))
+
+slice-reshare-prefix-copy : tie.Need-slice-reshare-prefix-copy
+slice-reshare-prefix-copy c = begins-le (c .before .before .negate .ensures)
+
+slice-aggregate-copy : tie.Need-slice-aggregate-copy
+slice-aggregate-copy c = sym (length-take-le (c .before .before .before .negate .result) (c .before .before .before .negate .last .1 .1 .0) (begins-le (c .before .before .before .negate .ensures)))
+
+copy-requires : tie.Need-copy-requires
+copy-requires c κs =
+    let negate = c .before .before .before .before .negate in
+    let start = c .before .before .before .before .before .before .before .before .before in
+    omega (arith, length-take-le (negate .result) (negate .last .1 .1 .0) (begins-le (negate .ensures)), negate .ensures .size, negate-length 0 (dec 0 (take (start .args .n) (start .args .stack .now))), codes-length (start .pre .1), length-take-le (start .args .n) (start .args .stack .now) (start .pre .0 .0), start .pre .0 .0)
+
+same-length : tie.Need-same-length
+same-length c = search needs
+
+same-length-2 : tie.Need-same-length-2
+same-length-2 c = search needs
+
+returns : tie.Need-returns
+returns c =
+    let negate = c .before .before .before .before .before .before .before .negate in
+    let start = c .before .before .before .before .before .before .before .before .before .before .before .before in
+    copied-front (drop (length (take (negate .result) (negate .last .1 .1 .0))) (start .args .stack .now)) (negate .ensures) (c .before .before .copy .ensures)
+
+pub negate-front-spec : {M : Type 1} → statement M
+negate-front-spec =
+    tie.close
+    (tie.spec
+    slice-reshare-prefix-negate
+    slice-aggregate-negate
+    negate-requires
+    slice-reshare-prefix-copy
+    slice-aggregate-copy
+    copy-requires
+    same-length
+    same-length-2
+    returns)

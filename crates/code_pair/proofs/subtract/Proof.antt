@@ -1,0 +1,63 @@
+-- `code_pair::subtract` meets its contract: the second form is negated in its place, and added.
+-- Assumes nothing.
+use mathlib.Core.Path.{sym, subst}
+use native.Mathlib.Omega.{arith}
+use lib.ListN.{take}
+use Rattle.code.specs.Coding.{Coded}
+use Rattle.code.specs.laws.Codes.{tail-part}
+use Rattle.code.proofs.Lists.{begins-as, length-tail-part}
+use Rattle.code_pair.proofs.Pairs.{left-some, negated-size, negated-pair, negated-sum}
+use borrow.Author.Needs.{needs}
+use Rattle.code_pair.proofs.subtract.Statement.{statement}
+use Rattle.code_pair.proofs.subtract.Tie as tie
+
+mul-negate-front : tie.Need-mul-negate-front
+mul-negate-front c = search needs
+
+sub-negate-front : tie.Need-sub-negate-front
+sub-negate-front c = search needs
+
+part-negate-front-start : tie.Need-part-negate-front-start
+part-negate-front-start c = search needs
+
+part-negate-front-end : tie.Need-part-negate-front-end
+part-negate-front-end c = search needs
+
+negate-front-requires : tie.Need-negate-front-requires
+negate-front-requires c κs =
+    let start = c .before .before .before .before in
+    ((omega (arith, length-tail-part (start .args .a) (start .args .stack .now), start .pre .0 .fits), omega (arith, left-some (start .pre .0), start .pre .1)), subst (λ l. Coded 0 (take (start .args .b) l)) (sym (tail-part (start .args .a) (start .args .stack .now))) (start .pre .0 .coded-right))
+
+add-requires : tie.Need-add-requires
+add-requires c κs =
+    let stack = c .before .before .before .before .before .stack in
+    let negate-front = c .before .before .before .before .before .before .negate-front in
+    let start = c .before .before .before .before .before .before .before .before .before .before .before in
+    (negated-pair (start .pre .0) (negate-front .ensures) (stack .given .1), omega (arith, negated-size (start .pre .0) (negate-front .ensures), start .pre .1))
+
+same-length : tie.Need-same-length
+same-length c = search needs
+
+same-length-2 : tie.Need-same-length-2
+same-length-2 c = search needs
+
+returns : tie.Need-returns
+returns c =
+    let add = c .before .before .before .before .add in
+    let negate-front = c .before .before .before .before .before .before .before .before .before .before .before .negate-front in
+    let start = c .before .before .before .before .before .before .before .before .before .before .before .before .before .before .before .before in
+    begins-as (add .ensures) (negated-sum (start .pre .0) (negate-front .ensures))
+
+pub subtract-spec : {M : Type 1} → statement M
+subtract-spec =
+    tie.close
+    (tie.spec
+    mul-negate-front
+    sub-negate-front
+    part-negate-front-start
+    part-negate-front-end
+    negate-front-requires
+    add-requires
+    same-length
+    same-length-2
+    returns)

@@ -1,0 +1,54 @@
+-- `code_pair::sum_parts` meets its contract: `code_sum::sum` of the two parts.
+-- Assumes nothing.
+use mathlib.Core.Path.{sym, ap, subst}
+use native.Mathlib.Omega.{arith}
+use lib.ListN.{take}
+use lib.Seq.{length-take-le}
+use Rattle.code.specs.Coding.{Coded, dec, enc}
+use Rattle.code.specs.Operations.{sumOf}
+use Rattle.code.specs.laws.Codes.{tail-part}
+use Rattle.code.proofs.Lists.{begins-as, length-tail-part}
+use borrow.Author.Needs.{needs}
+use Rattle.code_pair.proofs.sum_parts.Statement.{statement}
+use Rattle.code_pair.proofs.sum_parts.Tie as tie
+
+slice-aggregate-sum : tie.Need-slice-aggregate-sum
+slice-aggregate-sum c = sym (length-take-le (c .before .before .before .args .n) (c .before .before .before .args .s .now) (c .before .before .before .pre .0))
+
+mul-sum : tie.Need-mul-sum
+mul-sum c = search needs
+
+sub-sum : tie.Need-sub-sum
+sub-sum c = search needs
+
+part-sum-start : tie.Need-part-sum-start
+part-sum-start c = search needs
+
+part-sum-end : tie.Need-part-sum-end
+part-sum-end c = search needs
+
+sum-requires : tie.Need-sum-requires
+sum-requires c κs =
+    let start = c .before .before .before .before .before in
+    ((start .pre .1 .0 .0, subst (Coded 0) (sym (tail-part (start .args .n) (start .args .s .now))) (start .pre .1 .0 .1)), omega (arith, start .pre .0, length-take-le (start .args .n) (start .args .s .now) (start .pre .0), length-tail-part (start .args .n) (start .args .s .now), start .pre .1 .1))
+
+same-length : tie.Need-same-length
+same-length c = search needs
+
+returns : tie.Need-returns
+returns c =
+    let start = c .before .before .before .before .before .before .before .before in
+    begins-as (c .before .before .sum .ensures) (ap (λ l. enc 0 (sumOf 0 (dec 0 (take (start .args .n) (start .args .s .now))) (dec 0 l))) (tail-part (start .args .n) (start .args .s .now)))
+
+pub sum-parts-spec : {M : Type 1} → statement M
+sum-parts-spec =
+    tie.close
+    (tie.spec
+    slice-aggregate-sum
+    mul-sum
+    sub-sum
+    part-sum-start
+    part-sum-end
+    sum-requires
+    same-length
+    returns)

@@ -1,0 +1,2 @@
+-- Two forms side by side in a table.
+pub mod Pair

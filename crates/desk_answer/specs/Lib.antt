@@ -1,0 +1,3 @@
+-- What a request line is answered with.
+pub mod Answer
+pub mod Laws

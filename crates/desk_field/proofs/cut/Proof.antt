@@ -1,0 +1,95 @@
+-- `desk_field::cut` meets its contract. The invariant: what is left, from the value so far, is cut to what the whole is cut to.
+use mathlib.Core.Path.{_≡_, refl, sym, ap, _∙_}
+use mathlib.Core.Bool.{true}
+use mathlib.Core.Logic.{⊎-elim}
+use Prim.Native.Nat.{ℕ, _+_, _*_, _≤_, _-_, min}
+use native.Mathlib.Omega.{arith}
+use lib.ListN.{length, drop, getD}
+use denote.Ref.{now}
+use borrow.Author.Needs.{needs}
+use Rattle.text.specs.definitions.Bytes.{all, digit}
+use Rattle.text.specs.definitions.Numerals.{valueFrom}
+use Rattle.text_laws.specs.laws.Bytes.{digit-range}
+use Rattle.text_word.proofs.Walk.{all-here, all-rest, value-on, value-end}
+use Rattle.desk_field.proofs.cut.Statement.{statement}
+use Rattle.desk_field.proofs.cut.Tie as tie
+use Rattle.desk_field.proofs.cut.Reads as reads
+use Rattle.desk_field.proofs.cut.Lts as lts
+
+abbrev Inv-loop : tie.InvT-loop
+Inv-loop w value₀ i₀ value i = (i ≤ length w) × ((value ≤ 4294967296) × ((all digit (drop i w) ≡ true) × (min (valueFrom value (drop i w)) 4294967296 ≡ min (valueFrom 0 w) 4294967296)))
+
+abbrev μ-loop : tie.MeasureT-loop
+μ-loop w value₀ i₀ value i = length w - i
+
+-- src/lib.rt:92:5
+loop-holds : tie.Need-loop-holds Inv-loop μ-loop
+loop-holds c = (omega arith, (omega arith, (c .pre, refl)))
+
+-- src/lib.rt:93:17
+mul-value : tie.Need-mul-value Inv-loop μ-loop
+mul-value c = omega arith
+
+-- src/lib.rt:93:31
+shared-slice-read-value : tie.Need-shared-slice-read-value Inv-loop μ-loop
+shared-slice-read-value c = search needs
+
+-- src/lib.rt:93:31
+sub-value : tie.Need-sub-value Inv-loop μ-loop
+sub-value c = let l = c .before .before .loop in
+    omega (arith, digit-range (getD (now (c .before .before .before .args .w)) (l .i) 0) (all-here digit (now (c .before .before .before .args .w)) (l .i) (c .before .loop-test .taken) (l .inv .1 .1 .0)))
+
+-- src/lib.rt:93:30
+cast-value : tie.Need-cast-value Inv-loop μ-loop
+cast-value c = omega (arith, c .shared-slice-known .given (c .before .before .loop .i))
+
+-- src/lib.rt:93:17
+add-value : tie.Need-add-value Inv-loop μ-loop
+add-value c = omega (arith, c .shared-slice-known .given (c .before .before .loop .i))
+
+-- src/lib.rt:97:9
+add-i : tie.Need-add-i Inv-loop μ-loop
+add-i c = omega arith
+
+-- src/lib.rt:92:5
+loop-less : tie.Need-loop-less Inv-loop μ-loop
+loop-less c = omega arith
+
+-- src/lib.rt:92:5
+loop-again : tie.Need-loop-again Inv-loop μ-loop
+loop-again c =
+    let start = c .before .before .before .before in
+    let l = c .before .before .before .loop in
+    let w = now (start .args .w) in
+    let t = c .before .before .loop-test .taken in
+    let e : c .if1 .value ≡ min (l .value * 10 + (getD w (l .i) 0 - 48)) 4294967296 = ⊎-elim (λ m. omega arith) (λ m. omega arith) (c .if1 .came) in (
+      omega arith,
+      (
+        omega arith,
+        (all-rest digit w (l .i) t (l .inv .1 .1 .0), ap (λ m. min (valueFrom m (drop (l .i + 1) w)) 4294967296) e ∙ sym (value-on w (l .i) (l .value) 4294967296 t) ∙ l .inv .1 .1 .1),
+      ),
+    )
+
+-- src/lib.rt:86:1
+returns : tie.Need-returns Inv-loop μ-loop
+returns c = let l = c .before .loop in
+    let w = now (c .before .before .args .w) in
+    let e : min (l .value) 4294967296 ≡ l .value = omega arith in
+    sym e ∙ ap (λ m. min m 4294967296) (sym (value-end w (l .i) (l .value) (c .loop-test .left))) ∙ l .inv .1 .1 .1
+
+pub cut-spec : {M : Type 1} → statement M
+cut-spec =
+    tie.close
+    (tie.spec
+    Inv-loop
+    μ-loop
+    loop-holds
+    mul-value
+    shared-slice-read-value
+    sub-value
+    cast-value
+    add-value
+    add-i
+    loop-less
+    loop-again
+    returns)

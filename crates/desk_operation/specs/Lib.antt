@@ -1,0 +1,3 @@
+-- What `add` and `multiply` are answered with.
+pub mod Operation
+pub mod Laws

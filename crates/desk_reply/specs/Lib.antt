@@ -1,0 +1,3 @@
+-- The lines that answer requests.
+pub mod Reply
+pub mod laws

@@ -1,0 +1,109 @@
+// The line that answers a request, written at the front of a lent buffer.
+use door::Side;
+use door_result::Written;
+ghost use mathlib.Core.Path.{_≡_};
+ghost use mathlib.Core.List.{_∷_};
+ghost use Prim.Native.Nat.{_*_, _≤_};
+ghost use lib.ListN.{length};
+ghost use Rattle.form_write.specs.Write.{numeral, Wrote};
+ghost use Rattle.desk_reply.specs.Reply.{sideText, wrongText, refusedText, remainderText, spaced, differentText, Room, Replied};
+
+// `? n`: field n of the request is the first wrong one.
+pub fn wrong(n: usize, out: &mut [u8]) -> usize
+    requires { ⌜ 64 ≤ length (now out) ⌝ }
+    ensures { λ r. ⌜ Wrote r (wrongText n) (now (out .entry)) (now (out .exit)) ⌝ }
+{
+    let at = form_write::put(b"? ", out);
+    let k = form_write::write_number(n as u64, &mut out[at..]);
+    at + k
+}
+
+fn put_side(side: Side, out: &mut [u8]) -> usize
+    requires { ⌜ 9 ≤ length (now out) ⌝ }
+    ensures { λ r. ⌜ Wrote r (sideText side) (now (out .entry)) (now (out .exit)) ⌝ }
+{
+    match side {
+        Side::Left => form_write::put(b" left ", out),
+        Side::Right => form_write::put(b" right ", out),
+        Side::Neither => form_write::put(b" neither ", out),
+    }
+}
+
+// `REFUSED number side place`
+pub fn refused(number: u32, side: Side, place: usize, out: &mut [u8]) -> usize
+    requires { ⌜ 64 ≤ length (now out) ⌝ }
+    ensures { λ r. ⌜ Wrote r (refusedText number side place) (now (out .entry)) (now (out .exit)) ⌝ }
+{
+    let a = form_write::put(b"REFUSED ", out);
+    let k = form_write::write_number(number as u64, &mut out[a..]);
+    let b = a + k;
+    let m = put_side(side, &mut out[b..]);
+    let c = b + m;
+    let n = form_write::write_number(place as u64, &mut out[c..]);
+    c + n
+}
+
+// `FORM text`, where the text stands behind the first 5 bytes already; or a refusal.
+pub fn written(answer: Written, out: &mut [u8]) -> usize
+    requires { ⌜ Room answer (length (now out)) ⌝ }
+    ensures { λ r. ⌜ Replied answer r (now (out .entry)) (now (out .exit)) ⌝ }
+{
+    match answer {
+        Written::Text(n) => {
+            let at = form_write::put(b"FORM ", out);
+            at + n
+        }
+        Written::Refused(e, side, p) => refused(e, side, p, out),
+    }
+}
+
+// `REMAINDER n`
+pub fn remainder(n: u32, out: &mut [u8]) -> usize
+    requires { ⌜ 64 ≤ length (now out) ⌝ }
+    ensures { λ r. ⌜ Wrote r (remainderText n) (now (out .entry)) (now (out .exit)) ⌝ }
+{
+    let at = form_write::put(b"REMAINDER ", out);
+    let k = form_write::write_number(n as u64, &mut out[at..]);
+    at + k
+}
+
+// A space and a number.
+fn put_spaced(n: u32, out: &mut [u8]) -> usize
+    requires { ⌜ 11 ≤ length (now out) ⌝ }
+    ensures { λ r. ⌜ Wrote r (32 ∷ numeral n) (now (out .entry)) (now (out .exit)) ⌝ }
+{
+    let at = form_write::put(b" ", out);
+    let k = form_write::write_number(n as u64, &mut out[at..]);
+    at + k
+}
+
+// Each number behind a space.
+fn put_numbers(numbers: &[u32], out: &mut [u8]) -> usize
+    requires { ⌜ 11 * length (now numbers) ≤ length (now out) ⌝ }
+    ensures { λ r. ⌜ Wrote r (spaced (now (numbers .entry))) (now (out .entry)) (now (out .exit)) ⌝ }
+    ensures { λ r. ⌜ r ≤ 11 * length (now (numbers .entry)) ⌝ }
+{
+    let mut at = 0;
+    let mut i = 0;
+    while i < numbers.len() {
+        let k = put_spaced(numbers[i], &mut out[at..]);
+        at += k;
+        i += 1;
+    }
+    at
+}
+
+// `DIFF x1 .. xn l r`
+pub fn different(point: &[u32], l: u32, r: u32, out: &mut [u8]) -> usize
+    requires { ⌜ length (now point) ≤ 4 ⌝ }
+    requires { ⌜ 80 ≤ length (now out) ⌝ }
+    ensures { λ n. ⌜ Wrote n (differentText (now (point .entry)) l r) (now (out .entry)) (now (out .exit)) ⌝ }
+{
+    let a = form_write::put(b"DIFF", out);
+    let k = put_numbers(point, &mut out[a..]);
+    let b = a + k;
+    let m = put_spaced(l, &mut out[b..]);
+    let c = b + m;
+    let n = put_spaced(r, &mut out[c..]);
+    c + n
+}

@@ -1,0 +1,3 @@
+-- What `form` and `remainder` are answered with.
+pub mod Term
+pub mod Laws

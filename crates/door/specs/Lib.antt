@@ -1,0 +1,3 @@
+-- What the calls begin and end with.
+pub mod Door
+pub mod laws

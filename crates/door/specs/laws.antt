@@ -1,0 +1,4 @@
+pub mod Rows
+pub mod Door
+pub mod Numbers
+pub mod Ending

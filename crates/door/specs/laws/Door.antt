@@ -1,0 +1,105 @@
+-- What the test of the row and the tables tells.
+use mathlib.Core.Bool.{Bool, true, false, _&&_}
+use mathlib.Core.List.{List, [], _∷_}
+use mathlib.Core.Path.{_≡_, refl, sym, _∙_}
+use Prim.Native.Nat.{ℕ, _≤_, _<_}
+use native.Mathlib.Omega.{arith}
+use borrow.Author.Tests.{le-leb, lt-leb, leb-true}
+use lib.Dec.{leb}
+use Rattle.text.specs.definitions.Bytes.{isRow}
+use Rattle.reply.specs.definitions.Reply.{Reply, refuses, neither, enough, opened}
+use Rattle.text_laws.specs.laws.Bytes.{and-l, and-r}
+use Rattle.door.specs.Door.{readyOf, Long}
+
+-- ---- the test
+short-second : (a : Bool) → (a && false) ≡ false
+short-second true = refl
+short-second false = refl
+
+pub not-row : (row ts : List ℕ) → isRow row ≡ false → 1 ≡ readyOf row ts
+not-row row ts h = rw h refl
+
+pub tables-short : (row : List ℕ) (ts : List ℕ) → isRow row ≡ true → enough ts ≡ false → 2 ≡ readyOf row ts
+tables-short row ts h k = rw (h, k) refl
+
+pub all-ready : (row : List ℕ) (ts : List ℕ) → isRow row ≡ true → enough ts ≡ true → 0 ≡ readyOf row ts
+all-ready row ts h k = rw (h, k) refl
+
+-- where it is 0, the call goes on; else it is the refusal
+pub record Open (row ts : List ℕ) : Type 0 where
+  pub proper : isRow row ≡ true
+  pub long : enough ts ≡ true
+
+pub ready-open : (row ts : List ℕ) → readyOf row ts ≡ 0 → Open row ts
+ready-open row ts = go (isRow row) (enough ts) refl refl
+  where
+    go : (a b : Bool) → isRow row ≡ a → enough ts ≡ b → readyOf row ts ≡ 0 → Open row ts
+    go true true h k e = record { proper = h; long = k }
+    go true false h k e = absurd (omega (arith, tables-short row ts h k ∙ e))
+    go false b h k e = absurd (omega (arith, not-row row ts h ∙ e))
+
+pub open-goes : {A : Type 0} (row ts : List ℕ) (r : Unit {0} → Reply A) → Open row ts → opened row ts r ≡ r tt
+open-goes row ts r o = rw (o .proper) (rw (o .long) refl)
+
+pub not-open : {A : Type 0} (row ts : List ℕ) (r : Unit {0} → Reply A) → (readyOf row ts ≡ 0 → ⊥) → opened row ts r ≡ refuses (readyOf row ts) neither 0
+not-open row ts r n = go (isRow row) (enough ts) refl refl
+  where
+    go : (a b : Bool) → isRow row ≡ a → enough ts ≡ b → opened row ts r ≡ refuses (readyOf row ts) neither 0
+    go true true h k = absurd (n (sym (all-ready row ts h k)))
+    go true false h k = rw h (rw k refl)
+    go false b h k = rw h refl
+
+-- it is 1 or 2: "1 and 2 touch nothing"
+pub ready-small : (row ts : List ℕ) → readyOf row ts ≤ 2
+ready-small row ts = go (isRow row) (enough ts) refl refl
+  where
+    go : (a b : Bool) → isRow row ≡ a → enough ts ≡ b → readyOf row ts ≤ 2
+    go true true h k = omega (arith, sym (all-ready row ts h k))
+    go true false h k = omega (arith, sym (tables-short row ts h k))
+    go false b h k = omega (arith, sym (not-row row ts h))
+
+-- four lengths
+module _ (a b c d : ℕ) where
+  pub enough-four : 16384 ≤ a → 16384 ≤ b → 16384 ≤ c → 16384 ≤ d → enough (a ∷ b ∷ c ∷ d ∷ []) ≡ true
+  enough-four i j k l = rw (le-leb 16384 a i, le-leb 16384 b j, le-leb 16384 c k, le-leb 16384 d l) refl
+
+  pub first-short : a < 16384 → enough (a ∷ b ∷ c ∷ d ∷ []) ≡ false
+  first-short h = rw (lt-leb 16384 a h) refl
+
+  pub second-short : b < 16384 → enough (a ∷ b ∷ c ∷ d ∷ []) ≡ false
+  second-short h = rw (lt-leb 16384 b h) (short-second (leb 16384 a))
+
+  pub third-short : c < 16384 → enough (a ∷ b ∷ c ∷ d ∷ []) ≡ false
+  third-short h = rw (lt-leb 16384 c h) (drop-two (leb 16384 a) (leb 16384 b))
+    where
+      drop-two : (x y : Bool) → (x && (y && false)) ≡ false
+      drop-two true y = short-second y
+      drop-two false y = refl
+
+  pub fourth-short : d < 16384 → enough (a ∷ b ∷ c ∷ d ∷ []) ≡ false
+  fourth-short h = rw (lt-leb 16384 d h) (drop-three (leb 16384 a) (leb 16384 b) (leb 16384 c))
+    where
+      drop-three : (x y z : Bool) → (x && (y && (z && false))) ≡ false
+      drop-three true true z = short-second z
+      drop-three true false z = refl
+      drop-three false y z = refl
+
+-- four tables of the fixed length
+pub open-long : {row : List ℕ} (a b c d : ℕ) → Open row (a ∷ b ∷ c ∷ d ∷ []) → Long a b c d
+open-long a b c d o =
+    let h = o .long in
+    let k = and-r (leb 16384 a) (enough (b ∷ c ∷ d ∷ [])) h in
+    let l = and-r (leb 16384 b) (enough (c ∷ d ∷ [])) k in
+    let m = leb-true 16384 d (and-l (leb 16384 d) true (and-r (leb 16384 c) (enough (d ∷ [])) l)) in
+    record {
+      first = leb-true 16384 a (and-l (leb 16384 a) (enough (b ∷ c ∷ d ∷ [])) h);
+      second = leb-true 16384 b (and-l (leb 16384 b) (enough (c ∷ d ∷ [])) k);
+      third = leb-true 16384 c (and-l (leb 16384 c) (enough (d ∷ [])) l);
+      fourth = omega (arith, m);
+    }
+
+pub open-fourth : {row : List ℕ} (a b c d : ℕ) → Open row (a ∷ b ∷ c ∷ d ∷ []) → 16384 ≤ d
+open-fourth a b c d o =
+    let k = and-r (leb 16384 a) (enough (b ∷ c ∷ d ∷ [])) (o .long) in
+    let l = and-r (leb 16384 b) (enough (c ∷ d ∷ [])) k in
+    leb-true 16384 d (and-l (leb 16384 d) true (and-r (leb 16384 c) (enough (d ∷ [])) l))

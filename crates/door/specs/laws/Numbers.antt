@@ -1,0 +1,69 @@
+-- The refusals of texts have numbers above 2, so that the tables are cleared after them.
+use mathlib.Core.Bool.{Bool, true, false}
+use mathlib.Core.List.{List}
+use mathlib.Core.Path.{_≡_, refl, sym, _∙_}
+use Prim.Native.Nat.{ℕ, suc, _<_}
+use native.Mathlib.Omega.{arith}
+use Rattle.horner.specs.definitions.Form.{Form}
+use lib.IntN.{ℤ}
+use Rattle.text.specs.definitions.Answer.{Reading, refused}
+use Rattle.text.specs.definitions.FormJudging.{acceptForm}
+use Rattle.text.specs.definitions.FormMeaning as F
+use Rattle.text.specs.definitions.Limits.{acceptTerm, passes, powersFit, weightFits, termsFit}
+use Rattle.text.specs.definitions.Meaning.{RefusedAs, too-long, no-term-so, ended, unknown-letter, too-deep}
+use Rattle.text.specs.definitions.Tree.{Tree}
+use Rattle.text_laws.specs.laws.Accepted as T
+use Rattle.text_laws.specs.laws.FormAccepted as A
+use Rattle.text_laws.specs.laws.FormRefused as FR
+use Rattle.text_laws.specs.laws.Refused.{why}
+use Rattle.text_laws.specs.laws.Sofar.{no-refusal}
+
+same-number : {X : Type 0} {e p e′ p′ : ℕ} → _≡_ {A = Reading X} (refused e p) (refused e′ p′) → e ≡ e′
+same-number h = cc
+
+-- ---- terms
+syntax-number : {row s : List ℕ} {e p : ℕ} → RefusedAs row s e p → 2 < e
+syntax-number (too-long i j k) = omega arith
+syntax-number (no-term-so i j k) = omega arith
+syntax-number (ended i j k l) = omega arith
+syntax-number (unknown-letter i j k) = omega arith
+syntax-number (too-deep i j k) = omega arith
+
+passes-number : (row : List ℕ) (t : Tree) → (passes row t ≡ 0 → ⊥) → 2 < passes row t
+passes-number row t = go (powersFit row t) (weightFits row t) (termsFit row t) refl refl refl
+  where
+    go : (a b c : Bool) → powersFit row t ≡ a → weightFits row t ≡ b → termsFit row t ≡ c → (passes row t ≡ 0 → ⊥) → 2 < passes row t
+    go false b c h k l n = omega (arith, let i : passes row t ≡ 8 = rw (h, passes) refl in i)
+    go true false c h k l n = omega (arith, let i : passes row t ≡ 9 = rw (h, passes) (rw k refl) in i)
+    go true true false h k l n = omega (arith, let i : passes row t ≡ 10 = rw (h, passes) (rw (k, l) refl) in i)
+    go true true true h k l n = absurd (n (rw (h, passes) (rw (k, l) refl)))
+
+pub term-number : (row s : List ℕ) (e p : ℕ) → acceptTerm row s ≡ refused e p → 2 < e
+term-number row s e p h = go (T.outcome row s)
+  where
+    go : T.Outcome row s (acceptTerm row s) → 2 < e
+    go (T.not-term e′ p′ i j) = omega (arith, syntax-number (why row s e′ p′ i), same-number (sym j ∙ h))
+    go (T.too-big t e′ p′ i f j) = omega (arith, passes-number row (f .node) (λ z. f .over (sym (f .number) ∙ z)), f .number, same-number (sym j ∙ h))
+    go (T.stands-as t i f j) = no-refusal (sym h ∙ j)
+
+-- ---- forms
+form-syntax-number : {s : List ℕ} {e p : ℕ} → F.RefusedAs s e p → 2 < e
+form-syntax-number (F.too-long i j k) = omega arith
+form-syntax-number (F.no-form-so i j k) = omega arith
+form-syntax-number (F.ended i j k l) = omega arith
+form-syntax-number (F.too-deep i j k) = omega arith
+
+measure-number : {m e : ℕ} {f : Form ℤ} → A.Measure m f (suc e) → 2 < suc e
+measure-number (A.within i h) = absurd (omega arith)
+measure-number (A.degree i h) = omega arith
+measure-number (A.heavy i h k) = omega arith
+measure-number (A.many i h k l) = omega arith
+
+pub form-number : (m : ℕ) (s : List ℕ) (e p : ℕ) → acceptForm m s ≡ refused e p → 2 < e
+form-number m s e p h = go (A.outcome m s)
+  where
+    go : A.Outcome m s (acceptForm m s) → 2 < e
+    go (A.not-text e′ p′ i j) = omega (arith, form-syntax-number (FR.why s e′ p′ i), same-number (sym j ∙ h))
+    go (A.not-normal f p′ t w j) = omega (arith, same-number (sym j ∙ h))
+    go (A.too-big f e′ t n k j) = omega (arith, measure-number k, same-number (sym j ∙ h))
+    go (A.stands-as f i j) = no-refusal (sym h ∙ j)

@@ -1,0 +1,3 @@
+-- What the operations on forms share.
+pub mod Forms
+pub mod laws

@@ -1,0 +1,4 @@
+pub mod Results
+pub mod Limits
+pub mod Forms
+pub mod Two

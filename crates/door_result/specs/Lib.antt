@@ -1,0 +1,3 @@
+-- What a call with a result text answers.
+pub mod Result
+pub mod laws

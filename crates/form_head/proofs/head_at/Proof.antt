@@ -1,0 +1,66 @@
+-- `form_head::head_at` meets its contract, by the first byte and the fourth.
+-- Assumes nothing.
+use native.Mathlib.Omega.{arith}
+use borrow.Author.Needs.{needs}
+use Rattle.form_head.specs.laws.Heads.{standing-some, node-inside, head-below, head-natural, head-pop, head-pow}
+use Rattle.form_head.proofs.head_at.Statement.{statement}
+use Rattle.form_head.proofs.head_at.Tie as tie
+
+shared-slice-read-b : tie.Need-shared-slice-read-b
+shared-slice-read-b c = standing-some (c .before .before .pre)
+
+add-number-at : tie.Need-add-number-at
+add-number-at c = omega (arith, standing-some (c .before .before .before .pre))
+
+number-at-requires : tie.Need-number-at-requires
+number-at-requires c κs = omega (arith, standing-some (c .before .before .before .pre))
+
+returns : tie.Need-returns
+returns c = head-below _ (c .before .if1 .taken) (c .number-at .ensures)
+
+number-at-requires-2 : tie.Need-number-at-requires-2
+number-at-requires-2 c κs = omega (arith, standing-some (c .before .before .before .before .pre))
+
+returns-2 : tie.Need-returns-2
+returns-2 c = head-natural _ (c .before .before .if1 .left) (c .before .if2 .taken) (c .number-at2 .ensures)
+
+add-number-at-2 : tie.Need-add-number-at-2
+add-number-at-2 c = omega (arith, node-inside (c .before .before .before .before .pre) (c .if2 .left) .0)
+
+number-at-requires-3 : tie.Need-number-at-requires-3
+number-at-requires-3 c κs = omega (arith, node-inside (c .before .before .before .before .pre) (c .if2 .left) .0)
+
+add-next : tie.Need-add-next
+add-next c =
+    let start = c .before .before .before .before .before .before in
+    omega (arith, node-inside (start .pre) (c .before .before .if2 .left) .1 _ _ (c .before .number-at3 .ensures))
+
+add-if3 : tie.Need-add-if3
+add-if3 c = search needs
+
+shared-slice-read-if3 : tie.Need-shared-slice-read-if3
+shared-slice-read-if3 c = omega (arith, node-inside (c .before .before .before .before .before .before .before .pre) (c .before .before .before .if2 .left) .0)
+
+returns-3 : tie.Need-returns-3
+returns-3 c = head-pop _ (c .before .before .before .before .if2 .left) (c .if3 .taken) (c .before .before .before .number-at3 .ensures)
+
+returns-4 : tie.Need-returns-4
+returns-4 c = head-pow _ (c .before .before .before .before .if2 .left) (c .if3 .left) (c .before .before .before .number-at3 .ensures)
+
+pub head-at-spec : {M : Type 1} → statement M
+head-at-spec =
+    tie.close
+    (tie.spec
+    shared-slice-read-b
+    add-number-at
+    number-at-requires
+    returns
+    number-at-requires-2
+    returns-2
+    add-number-at-2
+    number-at-requires-3
+    add-next
+    add-if3
+    shared-slice-read-if3
+    returns-3
+    returns-4)

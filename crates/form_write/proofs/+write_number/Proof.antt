@@ -1,0 +1,57 @@
+-- `form_write::write_number` meets its contract: the digits of the tenth, and one byte behind them. The measure is the number.
+-- Assumes nothing.
+use mathlib.Core.Path.{sym}
+use Prim.Native.Nat.{_%_, _+_, ℕ, _<_}
+use native.Mathlib.Omega.{arith}
+use lib.ListN.{length-set}
+use borrow.Fn.Kinds.{In}
+use borrow.Fn.PlainCycle.{Measures, is, falls, and}
+use Rattle.text_laws.specs.laws.Numerals.{dec-short, dec-long}
+use Rattle.form_write.specs.laws.Sizes.{numeral-long, numeral-some}
+use Rattle.form_write.specs.laws.Wrote.{wrote-none, wrote-as, wrote-byte, wrote-length}
+use Rattle.form_write.proofs.+write_number.{statement}
+use Rattle.form_write.proofs.+write_number.Tie.{close}
+use Rattle.form_write.proofs.write_number.Reads as write-number
+use Rattle.form_write.proofs.write_number.Kinds as write-number-kinds
+use Rattle.form_write.proofs.+write_number.Lts-write_number as write-number-lts
+
+abbrev μ-write-number : Measures 1 write-number-kinds.ps ℕ
+μ-write-number κs a = a .0
+
+abbrev write-number-at : ℕ → In 1 write-number-kinds.ps
+write-number-at t =
+    and 1 write-number-kinds.ps (is 1 write-number-kinds.ps μ-write-number t) write-number.Pre
+
+abbrev write-number-below : ℕ → In 1 write-number-kinds.ps
+write-number-below t =
+    and
+    1
+    write-number-kinds.ps
+    (falls 1 write-number-kinds.ps _<_ μ-write-number t)
+    write-number.Pre
+
+pub +write-number-spec : {M : Type 1} → statement M
++write-number-spec = close μ-write-number λ t.
+    write-number-lts.spec (write-number-below t, write-number.Post) (write-number-at t) write-number.Post
+    (λ c. omega arith)
+    (λ c. omega arith)
+    (λ c. omega (arith, numeral-some (c .before .before .args .n), c .before .before .pre .1))
+    (λ c. simp length-set)
+    (λ c. wrote-as (wrote-byte (wrote-none (c .before .before .args .out .now)) (48 + c .before .before .args .n) (omega (arith, numeral-some (c .before .before .args .n), c .before .before .pre .1))) (sym (dec-short (c .before .before .args .n) (c .if1 .taken))))
+    (λ c κs. (omega (arith, c .before .before .before .pre .0, c .before .if1 .left), omega (arith, c .before .before .before .pre .1, numeral-long (c .before .before .before .args .n) (c .before .if1 .left))))
+    (λ c. omega arith)
+    (λ c. omega arith)
+    (λ c.
+    let if1 = c .before .before .before .before .if1 in
+    let start = c .before .before .before .before .before .before in
+    omega (arith, c .before .before .write-number .ensures .size, wrote-length (c .before .before .write-number .ensures), start .pre .1, numeral-long (start .args .n) (if1 .left)))
+    (λ c.
+    let if1 = c .before .before .before .before .if1 in
+    let good = c .before .before .before .before .before .before .good in
+    let start = c .before .before .before .before .before .before in
+    omega (arith, c .before .before .write-number .ensures .size, start .pre .1, numeral-long (start .args .n) (if1 .left), good))
+    (λ c. simp length-set (wrote-length (c .before .before .write-number .ensures)))
+    (λ c.
+    let if1 = c .before .before .before .before .if1 in
+    let start = c .before .before .before .before .before .before in
+    wrote-as (wrote-byte (c .before .before .write-number .ensures) (48 + start .args .n % 10) (omega (arith, c .before .before .write-number .ensures .size, start .pre .1, numeral-long (start .args .n) (if1 .left)))) (sym (dec-long (start .args .n) (if1 .left))))

@@ -1,0 +1,81 @@
+-- `form_write::write_leaf` meets its contract: a leaf above half of P is written as a sign and what it lacks of P.
+-- Assumes nothing.
+use mathlib.Core.Path.{_∙_}
+use native.Mathlib.Omega.{arith}
+use lib.ListN.{length-set}
+use borrow.Author.Needs.{needs}
+use Rattle.form_write.specs.laws.Sizes.{leaf-length-plain, leaf-length-minus}
+use Rattle.form_write.specs.laws.Texts.{leaf-plain, leaf-minus}
+use Rattle.form_write.specs.laws.Wrote.{wrote-none, wrote-as, wrote-byte, wrote-on, wrote-room}
+use Rattle.form_write.proofs.write_leaf.Statement.{statement}
+use Rattle.form_write.proofs.write_leaf.Tie as tie
+
+write-number-requires : tie.Need-write-number-requires
+write-number-requires c κs = omega (arith, leaf-length-plain (c .before .before .before .args .x) (c .before .if1 .taken), c .before .before .before .pre .1)
+
+same-length : tie.Need-same-length
+same-length c = search needs
+
+returns : tie.Need-returns
+returns c =
+    let if1 = c .before .before .before .before .if1 in
+    let start = c .before .before .before .before .before .before in
+    wrote-as (c .before .before .write-number .ensures) (leaf-plain (start .args .x) (if1 .taken))
+
+slice-write-out : tie.Need-slice-write-out
+slice-write-out c = omega (arith, leaf-length-minus (c .before .before .args .x) (c .if1 .left) (c .before .before .pre .0), c .before .before .pre .1)
+
+sub-write-number : tie.Need-sub-write-number
+sub-write-number c = search needs
+
+cast-write-number : tie.Need-cast-write-number
+cast-write-number c = omega arith
+
+sub-write-number-2 : tie.Need-sub-write-number-2
+sub-write-number-2 c = simp length-set (omega (arith, leaf-length-minus (c .before .before .args .x) (c .if1 .left) (c .before .before .pre .0), c .before .before .pre .1))
+
+part-write-number-start : tie.Need-part-write-number-start
+part-write-number-start c = simp length-set (omega (arith, leaf-length-minus (c .before .before .args .x) (c .if1 .left) (c .before .before .pre .0), c .before .before .pre .1))
+
+part-write-number-end : tie.Need-part-write-number-end
+part-write-number-end c = search needs
+
+write-number-requires-2 : tie.Need-write-number-requires-2
+write-number-requires-2 c κs =
+    let l = leaf-length-minus (c .before .before .before .args .x) (c .before .if1 .left) (c .before .before .before .pre .0) in
+    omega (arith, l, c .before .before .before .pre .1, wrote-room (wrote-byte (wrote-none (c .before .before .before .args .out .now)) 45 (omega (arith, l, c .before .before .before .pre .1))))
+
+add-result : tie.Need-add-result
+add-result c =
+    let if1 = c .before .before .before .before .if1 in
+    let start = c .before .before .before .before .before .before in
+    let good = c .before .before .before .before .before .before .good in
+    omega (arith, c .before .before .write-number2 .ensures .size, leaf-length-minus (start .args .x) (if1 .left) (start .pre .0), start .pre .1, good)
+
+same-length-2 : tie.Need-same-length-2
+same-length-2 c = c .before .out2 .given .1 ∙ length-set (c .before .before .before .before .before .before .args .out .now) 0 45
+
+returns-2 : tie.Need-returns-2
+returns-2 c =
+    let if1 = c .before .before .before .before .if1 in
+    let start = c .before .before .before .before .before .before in
+    let l = leaf-length-minus (start .args .x) (if1 .left) (start .pre .0) in
+    wrote-as (wrote-on (wrote-byte (wrote-none (start .args .out .now)) 45 (omega (arith, l, start .pre .1))) (c .before .before .write-number2 .ensures)) (leaf-minus (start .args .x) (if1 .left) (start .pre .0))
+
+pub write-leaf-spec : {M : Type 1} → statement M
+write-leaf-spec =
+    tie.close
+    (tie.spec
+    write-number-requires
+    same-length
+    returns
+    slice-write-out
+    sub-write-number
+    cast-write-number
+    sub-write-number-2
+    part-write-number-start
+    part-write-number-end
+    write-number-requires-2
+    add-result
+    same-length-2
+    returns-2)

@@ -1,3 +1,0 @@
--- Judging the text of a form, node by node.
-pub mod Judging
-pub mod laws

@@ -1,3 +1,0 @@
--- What `judge`, `negate`, `raise` and `formremainder` are answered with.
-pub mod Formlines
-pub mod Laws

@@ -1,0 +1,50 @@
+-- `measure::limit_of` meets its contract, limit by limit.
+use mathlib.Core.Path.{_≡_, sym, ap, _∙_}
+use borrow.Author.Tests.{eq-eqb, ne-eqb, lt-ltb, le-ltb}
+use Rattle.text_laws.specs.laws.Picks.{pick-yes, pick-no}
+use Rattle.measure.proofs.limit_of.Statement.{statement}
+use Rattle.measure.proofs.limit_of.Tie as tie
+
+returns : tie.Need-returns
+returns c = sym (pick-yes _ _ (lt-ltb _ _ (c .if1 .taken)))
+
+returns-2 : tie.Need-returns-2
+returns-2 c = sym (pick-no _ _ (le-ltb _ _ (c .before .before .if1 .left)) ∙ pick-yes _ _ (lt-ltb _ _ (c .if2 .taken)))
+
+returns-3 : tie.Need-returns-3
+returns-3 c =
+    let if1 = c .before .before .before .before .if1 in
+    sym (pick-no _ _ (le-ltb _ _ (if1 .left)) ∙ pick-no _ _ (le-ltb _ _ (c .before .before .if2 .left)) ∙ pick-yes _ _ (lt-ltb _ _ (c .if3 .taken)))
+
+returns-4 : tie.Need-returns-4
+returns-4 c =
+    let if2 = c .before .before .before .before .if2 in
+    let if1 = c .before .before .before .before .before .before .if1 in
+    sym (pick-no _ _ (le-ltb _ _ (if1 .left)) ∙ pick-no _ _ (le-ltb _ _ (if2 .left)) ∙ pick-no _ _ (le-ltb _ _ (c .before .before .if3 .left)) ∙ pick-yes _ _ (lt-ltb _ _ (c .if4 .taken)))
+
+returns-5 : tie.Need-returns-5
+returns-5 c =
+    let if3 = c .before .before .before .before .if3 in
+    let if2 = c .before .before .before .before .before .before .if2 in
+    let if1 = c .before .before .before .before .before .before .before .before .if1 in
+    sym (pick-no _ _ (le-ltb _ _ (if1 .left)) ∙ pick-no _ _ (le-ltb _ _ (if2 .left)) ∙ pick-no _ _ (le-ltb _ _ (if3 .left)) ∙ pick-no _ _ (le-ltb _ _ (c .before .before .if4 .left)) ∙ pick-yes _ _ (lt-ltb _ _ (c .if5 .taken)))
+
+returns-6 : tie.Need-returns-6
+returns-6 c =
+    let if4 = c .before .before .before .before .if4 in
+    let if3 = c .before .before .before .before .before .before .if3 in
+    let if2 = c .before .before .before .before .before .before .before .before .if2 in
+    let if1 = c .before .before .before .before .before .before .before .before .before .before .if1 in
+    sym (pick-no _ _ (le-ltb _ _ (if1 .left)) ∙ pick-no _ _ (le-ltb _ _ (if2 .left)) ∙ pick-no _ _ (le-ltb _ _ (if3 .left)) ∙ pick-no _ _ (le-ltb _ _ (if4 .left)) ∙ pick-no _ _ (le-ltb _ _ (c .before .before .if5 .left)) ∙ pick-yes _ _ (lt-ltb _ _ (c .if6 .taken)))
+
+returns-7 : tie.Need-returns-7
+returns-7 c =
+    let if4 = c .before .before .before .before .if4 in
+    let if3 = c .before .before .before .before .before .before .if3 in
+    let if2 = c .before .before .before .before .before .before .before .before .if2 in
+    let if1 = c .before .before .before .before .before .before .before .before .before .before .if1 in
+    sym (pick-no _ _ (le-ltb _ _ (if1 .left)) ∙ pick-no _ _ (le-ltb _ _ (if2 .left)) ∙ pick-no _ _ (le-ltb _ _ (if3 .left)) ∙ pick-no _ _ (le-ltb _ _ (if4 .left)) ∙ pick-no _ _ (le-ltb _ _ (c .before .before .if5 .left)) ∙ pick-no _ _ (le-ltb _ _ (c .if6 .left)))
+
+pub limit-of-spec : {M : Type 1} → statement M
+limit-of-spec =
+    tie.close (tie.spec returns returns-2 returns-3 returns-4 returns-5 returns-6 returns-7)

@@ -1,0 +1,54 @@
+-- `measure::raise` meets its contract, field by field.
+use borrow.Author.Needs.{needs}
+use mathlib.Core.Path.{_≡_, refl, sym, ap, _∙_}
+use native.Mathlib.Omega.{arith}
+use Prim.Native.Nat.{ℕ, _*_, _^_, _≤_, min}
+use Rattle.measure.specs.Cuts.{times-63}
+use Rattle.measure.specs.Made.{made}
+use Rattle.measure.proofs.raise.Statement.{statement}
+use Rattle.measure.proofs.raise.Tie as tie
+
+mul-d0 : tie.Need-mul-d0
+mul-d0 c = omega (arith, times-63 (c .before .pre .1) (c .before .pre .0 .small-0))
+
+mul-d1 : tie.Need-mul-d1
+mul-d1 c = omega (arith, times-63 (c .before .before .pre .1) (c .before .before .pre .0 .small-1))
+
+mul-d2 : tie.Need-mul-d2
+mul-d2 c = omega (arith, times-63 (c .before .before .before .pre .1) (c .before .before .before .pre .0 .small-2))
+
+mul-d3 : tie.Need-mul-d3
+mul-d3 c = omega (arith, times-63 (c .before .before .before .before .pre .1) (c .before .before .before .before .pre .0 .small-3))
+
+cut-power-requires : tie.Need-cut-power-requires
+cut-power-requires c κs = search needs
+
+cut-power-requires-2 : tie.Need-cut-power-requires-2
+cut-power-requires-2 c κs = search needs
+
+box-of-requires : tie.Need-box-of-requires
+box-of-requires c κs =
+    let start = c .before .before .before .before .before .before in
+    (omega (arith, times-63 (start .pre .1) (start .pre .0 .small-0)), (omega (arith, times-63 (start .pre .1) (start .pre .0 .small-1)), (omega (arith, times-63 (start .pre .1) (start .pre .0 .small-2)), omega (arith, times-63 (start .pre .1) (start .pre .0 .small-3)))))
+
+lesser-requires : tie.Need-lesser-requires
+lesser-requires c κs = search needs
+
+returns : tie.Need-returns
+returns c =
+    let start = c .before .before .before .before .before .before .before .before in
+    made (λ x. min (min (start .args .a .terms ^ start .args .k) 16777216) x) (c .before .before .before .cut-power .ensures) refl refl refl refl (c .before .box-of .ensures) (c .lesser .ensures ∙ ap (λ m. min m (c .before .box-of .result)) (c .before .before .cut-power2 .ensures))
+
+pub raise-spec : {M : Type 1} → statement M
+raise-spec =
+    tie.close
+    (tie.spec
+    mul-d0
+    mul-d1
+    mul-d2
+    mul-d3
+    cut-power-requires
+    cut-power-requires-2
+    box-of-requires
+    lesser-requires
+    returns)

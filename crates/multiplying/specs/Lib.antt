@@ -1,2 +1,0 @@
--- The call `multiply`. Its reply is defined in crates/calls.
-pub mod laws

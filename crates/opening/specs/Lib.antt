@@ -1,3 +1,0 @@
--- What the calls begin and end with.
-pub mod Opening
-pub mod laws

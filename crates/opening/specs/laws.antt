@@ -1,4 +1,0 @@
-pub mod Rows
-pub mod Opening
-pub mod Numbers
-pub mod Ending

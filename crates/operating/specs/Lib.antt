@@ -1,3 +1,0 @@
--- What the operations on forms share.
-pub mod Pairs
-pub mod laws

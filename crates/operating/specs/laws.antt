@@ -1,4 +1,0 @@
-pub mod Results
-pub mod Limits
-pub mod Pairs
-pub mod Two

@@ -1,3 +1,0 @@
--- What `add` and `multiply` are answered with.
-pub mod Operationlines
-pub mod Laws

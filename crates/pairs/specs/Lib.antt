@@ -1,2 +1,0 @@
--- Two forms side by side in a table.
-pub mod Pairs

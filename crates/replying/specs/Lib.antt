@@ -1,3 +1,0 @@
--- The lines that answer requests.
-pub mod Replying
-pub mod laws

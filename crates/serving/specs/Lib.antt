@@ -1,4 +1,0 @@
--- What the answers to request lines share.
-pub mod Serving
-pub mod Laws
-pub mod Texts

@@ -1,0 +1,56 @@
+-- `term_accept::closing_at` meets its contract, case by case.
+use borrow.Author.Needs.{needs}
+use mathlib.Core.Path.{_≡_, refl, sym, ap, _∙_, subst}
+use denote.Ref.{now}
+use Rattle.term_accept.specs.Steps.{closing-close, closing-open, closing-word, closing-end}
+use Rattle.term_accept.proofs.closing_at.Statement.{statement}
+use Rattle.term_accept.proofs.closing_at.Tie as tie
+
+next-requires : tie.Need-next-requires
+next-requires c κs = search needs
+
+enum-known-step : tie.Need-enum-known-step
+enum-known-step c = search needs
+
+enum-known-step-2 : tie.Need-enum-known-step-2
+enum-known-step-2 c = search needs
+
+enum-known-step-3 : tie.Need-enum-known-step-3
+enum-known-step-3 c = search needs
+
+enum-told : tie.Need-enum-told
+enum-told c = search needs
+
+returns : tie.Need-returns
+returns c =
+    let start = c .before .before .before .before .before in
+    closing-close (now (start .args .s)) _ (start .pre) _ _ (sym (c .before .before .before .next .ensures) ∙ c .before .step .given .1)
+
+returns-2 : tie.Need-returns-2
+returns-2 c =
+    let start = c .before .before .before .before .before in
+    closing-open (now (start .args .s)) _ (start .pre) _ _ (sym (c .before .before .before .next .ensures) ∙ c .before .step2 .given .1)
+
+returns-3 : tie.Need-returns-3
+returns-3 c =
+    let start = c .before .before .before .before .before in
+    closing-word (now (start .args .s)) _ (start .pre) _ _ (sym (c .before .before .before .next .ensures) ∙ c .before .step3 .given .1)
+
+returns-4 : tie.Need-returns-4
+returns-4 c =
+    let start = c .before .before .before .before in
+    closing-end (now (start .args .s)) _ (start .pre) _ (sym (c .before .before .next .ensures) ∙ c .enum-told .given .1)
+
+pub closing-at-spec : {M : Type 1} → statement M
+closing-at-spec =
+    tie.close
+    (tie.spec
+    next-requires
+    enum-known-step
+    enum-known-step-2
+    enum-known-step-3
+    enum-told
+    returns
+    returns-2
+    returns-3
+    returns-4)

@@ -1,3 +1,0 @@
--- What `form` and `remainder` are answered with.
-pub mod Termlines
-pub mod Laws

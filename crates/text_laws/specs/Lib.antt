@@ -1,0 +1,2 @@
+-- What follows from the definitions of crates/text, with its proof.
+pub mod laws

@@ -1,2 +1,0 @@
--- What follows from the definitions of crates/texts, with its proof.
-pub mod laws

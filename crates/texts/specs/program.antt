@@ -1,4 +1,0 @@
--- What a program may keep instead: the same answers (textlaws/Kinds, FormWalk, Capped), from less.
-pub mod Kinds
-pub mod FormKinds
-pub mod Capped

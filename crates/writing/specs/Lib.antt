@@ -1,3 +1,0 @@
--- Writing the text of a coded form. What the contracts say stands in Written; what follows in laws/.
-pub mod Written
-pub mod laws
