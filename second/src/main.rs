@@ -1,7 +1,6 @@
 //! An independent second program, written from the documents alone, to check the real one against.
 
 mod book;
-mod coded;
 mod compare;
 mod desk;
 mod form;
@@ -27,7 +26,6 @@ second desk                              requests on standard input, one answer 
 second book                              a book on standard input, the printer's answer
 second generate SEED COUNT               COUNT request lines for the desk
 second books SEED COUNT DIR              COUNT books as DIR/0.book, DIR/1.book, ...
-second coded SEED COUNT FILE_IN FILE_OUT requests on coded forms, and their answers
 second trials                            what crate trials has to print
 second help                              this text
 ";
@@ -74,10 +72,6 @@ fn run(words: &[&str]) -> Result<(), Trouble> {
         }
         ["books", seed, count, folder] => {
             Ok(make::books::write(decimal(seed)?, decimal(count)?, folder)?)
-        }
-        ["coded", seed, count, file_in, file_out] => {
-            let requests = make::coded::requests(decimal(seed)?, decimal(count)?);
-            Ok(coded::write(&requests, file_in, file_out)?)
         }
         ["trials"] => write_out(trials::lines().as_bytes()),
         ["help"] => write_out(HELP.as_bytes()),

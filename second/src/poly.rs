@@ -57,6 +57,7 @@ impl Poly {
         *self.parts.get(&[0; MOST_LETTERS]).unwrap_or(&0)
     }
 
+    #[cfg(test)]
     pub fn degree(&self, variable: usize) -> u8 {
         self.parts.keys().map(|e| e[variable]).max().unwrap_or(0)
     }

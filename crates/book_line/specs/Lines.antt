@@ -3,10 +3,12 @@ use mathlib.Core.List.{List, [], _∷_, _++_}
 use Prim.Native.Nat.{ℕ}
 use Rattle.text.specs.definitions.Bytes.{bytes}
 use Rattle.text.specs.definitions.Numerals.{dec}
-use Rattle.door.specs.declared.Side.{Side}
-use Rattle.door.specs.declared.Side.the-variants.{Left, Right, Neither}
-use Rattle.call_compare.specs.declared.Compared.{Compared}
-use Rattle.call_compare.specs.declared.Compared.the-variants.{Same, Different, Refused}
+use Rattle.refusal.specs.declared.Fault.{Fault}
+use Rattle.refusal.specs.declared.Refusal.{Refusal}
+use Rattle.refusal.specs.declared.Side.{Side}
+use Rattle.refusal.specs.declared.Side.the-variants.{Left, Right, Neither}
+use Rattle.reply.specs.declared.Compared.{Compared}
+use Rattle.reply.specs.declared.Compared.the-variants.{Same, Different, Refused}
 
 -- a number and a space; a number and a line feed
 abbrev pub spaced : ℕ → List ℕ
@@ -27,13 +29,13 @@ refusedStart Left = bytes "REFUSED E "
 refusedStart Right = bytes "REFUSED C "
 refusedStart Neither = bytes "REFUSED  "
 
-abbrev pub refusedText : ℕ → Side → ℕ → List ℕ
-refusedText e s p = (refusedStart s ++ spaced e) ++ ended p
+abbrev pub refusedText : Refusal → List ℕ
+refusedText bad = (refusedStart (bad .side) ++ spaced (bad .number)) ++ ended (bad .place)
 
 abbrev pub answerText : Compared → List ℕ → List ℕ
 answerText Same N = bytes "SAME\n"
 answerText (Different l r) N = differentText N l r
-answerText (Refused e s p) N = refusedText e s p
+answerText (Refused bad) N = refusedText bad
 
 unfoldable pub entryText : ℕ → Compared → List ℕ → List ℕ
 entryText i c N = spaced i ++ answerText c N
@@ -41,5 +43,5 @@ entryText i c N = spaced i ++ answerText c N
 unfoldable pub headText : ℕ → ℕ → List ℕ
 headText n m = (bytes "BOOK " ++ spaced n) ++ ended m
 
-unfoldable pub refusalText : ℕ → ℕ → List ℕ
-refusalText e p = (bytes "BOOK REFUSED " ++ spaced e) ++ ended p
+unfoldable pub refusalText : Fault → List ℕ
+refusalText bad = (bytes "BOOK REFUSED " ++ spaced (bad .number)) ++ ended (bad .place)

@@ -1,6 +1,8 @@
 // The lines of the printer's answer, each written at the front of a lent buffer.
-use call_compare::Compared;
-use door::Side;
+use refusal::Fault;
+use refusal::Refusal;
+use refusal::Side;
+use reply::Compared;
 ghost use mathlib.Core.List.{[], _∷_, _++_};
 ghost use mathlib.Core.Path.{_≡_};
 ghost use Prim.Native.Nat.{_≤_, _*_};
@@ -62,15 +64,16 @@ fn put_refused(side: Side, out: &mut [u8]) -> usize
 }
 
 // `REFUSED`, E for panel or C for cloud, number, place.
-fn refused(number: u32, side: Side, place: usize, out: &mut [u8]) -> usize
+fn refused(bad: Refusal, out: &mut [u8]) -> usize
     requires { ⌜ 139 ≤ length (now out) ⌝ }
-    ensures { λ r. ⌜ Wrote r (refusedText number side place) (now (out .entry)) (now (out .exit)) ⌝ }
+    ensures { λ r. ⌜ Wrote r (refusedText bad) (now (out .entry)) (now (out .exit)) ⌝ }
     ensures { λ n. ⌜ n ≤ 139 ⌝ }
 {
+    let side = bad.side;
     let a = put_refused(side, out);
-    let k = put_number(number as usize, b' ', &mut out[a..]);
+    let k = put_number(bad.number as usize, b' ', &mut out[a..]);
     let b = a + k;
-    let m = put_number(place, b'\n', &mut out[b..]);
+    let m = put_number(bad.place, b'\n', &mut out[b..]);
     b + m
 }
 
@@ -84,7 +87,7 @@ fn put_answer(answer: Compared, point: &[u32], out: &mut [u8]) -> usize
     match answer {
         Compared::Same => form_write::put(b"SAME\n", out),
         Compared::Different(l, r) => different(point, l, r, out),
-        Compared::Refused(e, side, p) => refused(e, side, p, out),
+        Compared::Refused(bad) => refused(bad, out),
     }
 }
 
@@ -114,13 +117,13 @@ pub fn put_head(variables: usize, entries: usize, out: &mut [u8]) -> usize
 }
 
 // The only line of a refused book: `BOOK REFUSED`, number, place.
-pub fn put_refusal(number: u32, place: usize, out: &mut [u8]) -> usize
+pub fn put_refusal(bad: Fault, out: &mut [u8]) -> usize
     requires { ⌜ 64 ≤ length (now out) ⌝ }
-    ensures { λ r. ⌜ Wrote r (refusalText number place) (now (out .entry)) (now (out .exit)) ⌝ }
+    ensures { λ r. ⌜ Wrote r (refusalText bad) (now (out .entry)) (now (out .exit)) ⌝ }
 {
     let a = form_write::put(b"BOOK REFUSED ", out);
-    let k = put_number(number as usize, b' ', &mut out[a..]);
+    let k = put_number(bad.number as usize, b' ', &mut out[a..]);
     let b = a + k;
-    let m = put_number(place, b'\n', &mut out[b..]);
+    let m = put_number(bad.place, b'\n', &mut out[b..]);
     b + m
 }

@@ -44,7 +44,7 @@ lineAt book n p at i = entryLine (part book 1 n) i (part book at (number16 book 
 -- the entries that were read
 abbrev pub listOf : Reading (List Entry) → List Entry
 listOf (read es) = es
-listOf (refused e p) = []
+listOf (refused bad) = []
 
 unfoldable pub linesFrom : (book : List ℕ) (n p at i k : ℕ) → List ℕ
 linesFrom book n p at i k = entryLines (part book 1 n) i (listOf (entries book p at k))

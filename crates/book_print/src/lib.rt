@@ -1,18 +1,13 @@
 // The printer's answer to a book.
 use book_read::Head;
-use door::Side;
-use door_result::Written;
-ghost use mathlib.Core.Bool.{true};
-ghost use mathlib.Core.List.{[], _∷_};
+use reply::Written;
 ghost use mathlib.Core.Path.{_≡_};
 ghost use Prim.Native.Nat.{_+_, _*_, _≤_};
 ghost use lib.ListN.{length};
-ghost use Rattle.reply.specs.definitions.Buffers.{Tables, resultAfter};
-ghost use Rattle.reply.specs.definitions.Reply.{enough};
-ghost use Rattle.book.specs.definitions.Answer.{printed, printReply};
+ghost use Rattle.reply.specs.definitions.Reply.{work};
+ghost use Rattle.book.specs.definitions.Answer.{printed, PrintCall};
 ghost use Rattle.book.specs.definitions.Reading.{readBook};
 ghost use Rattle.form_write.specs.Write.{Wrote};
-ghost use Rattle.door_result.specs.Result.{writtenOf};
 ghost use Rattle.book_read.specs.Heads.{headOf};
 ghost use Rattle.book_read.specs.declared.Head.the-variants.{Fine};
 ghost use Rattle.book_print.specs.Print.{Row, Here, Left, Lent, lineAt, linesFrom};
@@ -121,28 +116,9 @@ fn print_any(
 {
     let head = book_read::read_book(book);
     match head {
-        Head::Refused(e, p) => book_line::put_refusal(e, p, out),
+        Head::Refused(fault) => book_line::put_refusal(fault, out),
         Head::Fine => print_fine(book, out, a, b, c, d),
     }
-}
-
-// Whether tables of these lengths are long enough.
-fn enough_lent(a: usize, b: usize, c: usize, d: usize) -> bool
-    ensures { λ r. ⌜ r ≡ enough (a ∷ b ∷ c ∷ d ∷ []) ⌝ }
-{
-    if a < 16384 {
-        return false;
-    }
-    if b < 16384 {
-        return false;
-    }
-    if c < 16384 {
-        return false;
-    }
-    if d < 16384 {
-        return false;
-    }
-    true
 }
 
 // Prints the book: the printer's whole answer, at the front of out. The work tables are cleared, but not where 2 is refused.
@@ -154,18 +130,18 @@ pub fn print_book(
     c: &mut [u32],
     d: &mut [u32],
 ) -> Written
-    ensures { λ r. ⌜ r ≡ writtenOf (printReply (length (now (a .entry)) ∷ length (now (b .entry)) ∷ length (now (c .entry)) ∷ length (now (d .entry)) ∷ []) (now (book .entry)) (length (now (out .entry)))) ⌝ }
-    ensures { λ _. ⌜ now (out .exit) ≡ resultAfter (printReply (length (now (a .entry)) ∷ length (now (b .entry)) ∷ length (now (c .entry)) ∷ length (now (d .entry)) ∷ []) (now (book .entry)) (length (now (out .entry)))) (now (out .entry)) ⌝ }
-    ensures { λ _. ⌜ Tables (printReply (length (now (a .entry)) ∷ length (now (b .entry)) ∷ length (now (c .entry)) ∷ length (now (d .entry)) ∷ []) (now (book .entry)) (length (now (out .entry)))) (now (a .entry)) (now (b .entry)) (now (c .entry)) (now (d .entry)) (now (a .exit)) (now (b .exit)) (now (c .exit)) (now (d .exit)) ⌝ }
+    ensures { λ r. ⌜ PrintCall (now (book .entry)) r (now (out .entry)) (now (out .exit))
+        (work (now (a .entry)) (now (b .entry)) (now (c .entry)) (now (d .entry)))
+        (work (now (a .exit)) (now (b .exit)) (now (c .exit)) (now (d .exit))) ⌝ }
 {
-    if !enough_lent(a.len(), b.len(), c.len(), d.len()) {
-        return Written::Refused(2, Side::Neither, 0);
+    if !door::enough(a.len(), b.len(), c.len(), d.len()) {
+        return Written::Refused(refusal::of_neither(2));
     }
     let mut text = [0u8; 16384];
     let n = print_any(book, &mut text, a, b, c, d);
     door::clear_tables(a, b, c, d);
     if out.len() < n {
-        return Written::Refused(11, Side::Neither, 0);
+        return Written::Refused(refusal::of_neither(11));
     }
     form_write::put(&text[..n], out);
     Written::Text(n)

@@ -11,15 +11,11 @@ use Rattle.book_read.specs.declared.Body.the-variants as B
 -- document 01's number and place, for each case of the enum
 abbrev pub headOf : {A : Type 0} → Reading A → Head
 headOf (read a) = H.Fine
-headOf (refused e p) = H.Refused e p
+headOf (refused bad) = H.Refused bad
 
 abbrev pub bodyOf : Reading ℕ → Body
 bodyOf (read n) = B.Length n
-bodyOf (refused e p) = B.Refused e p
-
-abbrev pub refusedOf : Body → Head
-refusedOf (B.Length n) = H.Fine
-refusedOf (B.Refused e p) = H.Refused e p
+bodyOf (refused bad) = B.Refused bad
 
 -- the length of the two bodies of an entry together
 abbrev pub bothOf : List ℕ → ℕ → ℕ → Reading ℕ

@@ -1,20 +1,21 @@
 // A book's head and contents looked at, field by field: fine, or the refusal.
+use refusal::Fault;
 ghost use mathlib.Core.Path.{_≡_};
 ghost use Prim.Native.Nat.{_+_, _*_, _≤_};
 ghost use lib.ListN.{length};
 ghost use Rattle.book.specs.definitions.Reading.{readBook, letters, number16, body, entries, contents};
-ghost use Rattle.book_read.specs.Heads.{headOf, bodyOf, bothOf, refusedOf, Near};
+ghost use Rattle.book_read.specs.Heads.{headOf, bodyOf, bothOf, Near};
 
-// Fine, or the refusal's number and place.
+// Fine, or what is wrong.
 pub enum Head {
     Fine,
-    Refused(u32, usize),
+    Refused(Fault),
 }
 
-// The length of a body, or of an entry's two bodies; or the refusal's number and place.
+// The length of a body, or of an entry's two bodies; or what is wrong.
 pub enum Body {
     Length(usize),
-    Refused(u32, usize),
+    Refused(Fault),
 }
 
 // The little-endian number of 16 bits at p.
@@ -36,18 +37,30 @@ pub fn read_body(book: &[u8], p: usize, at: usize) -> Body
 {
     let q = p + 2;
     if book.len() < q {
-        return Body::Refused(13, book.len());
+        return Body::Refused(Fault {
+            number: 13,
+            place: book.len(),
+        });
     }
     if number_at(book, p) != at {
-        return Body::Refused(13, p);
+        return Body::Refused(Fault {
+            number: 13,
+            place: p,
+        });
     }
     let e = q + 2;
     if book.len() < e {
-        return Body::Refused(13, book.len());
+        return Body::Refused(Fault {
+            number: 13,
+            place: book.len(),
+        });
     }
     let n = number_at(book, q);
     if book.len() < at + n {
-        return Body::Refused(13, q);
+        return Body::Refused(Fault {
+            number: 13,
+            place: q,
+        });
     }
     Body::Length(n)
 }
@@ -69,15 +82,6 @@ fn read_both(book: &[u8], p: usize, at: usize) -> Body
     Body::Length(m + n)
 }
 
-fn refused(b: Body) -> Head
-    ensures { λ r. ⌜ r ≡ refusedOf b ⌝ }
-{
-    match b {
-        Body::Refused(e, p) => Head::Refused(e, p),
-        Body::Length(_) => Head::Fine,
-    }
-}
-
 // The k entries whose fields stand from p on, and whose bodies from the byte at on.
 fn read_entries(book: &[u8], p: usize, at: usize, k: usize) -> Head
     requires { ⌜ (p + 8 * k ≤ 600) × (at ≤ 70000) ⌝ }
@@ -86,15 +90,18 @@ fn read_entries(book: &[u8], p: usize, at: usize, k: usize) -> Head
 {
     if k == 0 {
         if at < book.len() {
-            return Head::Refused(13, at);
+            return Head::Refused(Fault {
+                number: 13,
+                place: at,
+            });
         }
         return Head::Fine;
     }
     let lengths = read_both(book, p, at);
-    let Body::Length(n) = lengths else {
-        return refused(lengths);
-    };
-    read_entries(book, p + 8, at + n, k - 1)
+    match lengths {
+        Body::Refused(fault) => Head::Refused(fault),
+        Body::Length(n) => read_entries(book, p + 8, at + n, k - 1),
+    }
 }
 
 // The k letters behind the first i.
@@ -108,10 +115,16 @@ fn read_letters(book: &[u8], i: usize, k: usize) -> Head
     let p = 1 + i;
     let e = p + 1;
     if book.len() < e {
-        return Head::Refused(13, book.len());
+        return Head::Refused(Fault {
+            number: 13,
+            place: book.len(),
+        });
     }
     if !door::is_row(&book[1..e]) {
-        return Head::Refused(13, p);
+        return Head::Refused(Fault {
+            number: 13,
+            place: p,
+        });
     }
     read_letters(book, p, k - 1)
 }
@@ -125,14 +138,23 @@ fn read_contents(book: &[u8], n: usize) -> Head
     let p = 1 + n;
     let e = p + 1;
     if book.len() < e {
-        return Head::Refused(13, book.len());
+        return Head::Refused(Fault {
+            number: 13,
+            place: book.len(),
+        });
     }
     let k = book[p] as usize;
     if k < 1 {
-        return Head::Refused(13, p);
+        return Head::Refused(Fault {
+            number: 13,
+            place: p,
+        });
     }
     if 64 < k {
-        return Head::Refused(13, p);
+        return Head::Refused(Fault {
+            number: 13,
+            place: p,
+        });
     }
     read_entries(book, e, e + 8 * k, k)
 }
@@ -142,21 +164,33 @@ pub fn read_book(book: &[u8]) -> Head
     ensures { λ r. ⌜ r ≡ headOf (readBook (now (book .entry))) ⌝ }
 {
     if 65535 < book.len() {
-        return Head::Refused(3, 0);
+        return Head::Refused(Fault {
+            number: 3,
+            place: 0,
+        });
     }
     if book.len() < 1 {
-        return Head::Refused(13, book.len());
+        return Head::Refused(Fault {
+            number: 13,
+            place: book.len(),
+        });
     }
     let n = book[0] as usize;
     if n < 1 {
-        return Head::Refused(13, 0);
+        return Head::Refused(Fault {
+            number: 13,
+            place: 0,
+        });
     }
     if 4 < n {
-        return Head::Refused(13, 0);
+        return Head::Refused(Fault {
+            number: 13,
+            place: 0,
+        });
     }
     let row = read_letters(book, 0, n);
     match row {
-        Head::Refused(e, p) => Head::Refused(e, p),
+        Head::Refused(fault) => Head::Refused(fault),
         Head::Fine => read_contents(book, n),
     }
 }

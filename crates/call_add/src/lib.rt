@@ -1,18 +1,18 @@
 // The call `add`: two forms' texts in, the text of their sum out.
-use door::Side;
-use door_forms::Pair;
-use door_result::Written;
+use code::TABLE;
+use door::Entry;
+use door_forms::FormPair;
 use measure::Measures;
+use reply::Written;
 ghost use mathlib.Core.Bool.{true};
-ghost use mathlib.Core.List.{[], _∷_};
 ghost use mathlib.Core.Path.{_≡_};
 ghost use Prim.Native.Nat.{_≤_};
 ghost use lib.ListN.{length};
 ghost use Rattle.horner.specs.definitions.Form.{sum};
 ghost use Rattle.horner.specs.definitions.Integers.{ℤ-ring};
 ghost use Rattle.text.specs.definitions.Bytes.{isRow};
-ghost use Rattle.reply.specs.definitions.Buffers.{resultAfter, Tables};
-ghost use Rattle.reply.specs.definitions.Forms.{ofSum, twoOf, addReply};
+ghost use Rattle.reply.specs.definitions.Reply.{resultAfter, work};
+ghost use Rattle.reply.specs.definitions.Forms.{ofSum, twoOf, AddCall};
 ghost use Rattle.door_result.specs.Result.{writtenOf};
 ghost use Rattle.door_forms.specs.Forms.{IsPair};
 
@@ -36,9 +36,9 @@ fn write_sum(
 {
     let e = measure::limit_of(measure::add(x, y));
     if e != 0 {
-        return Written::Refused(e, Side::Neither, 0);
+        return Written::Refused(refusal::of_neither(e));
     }
-    let words = code_pair::add(a, n, k, &mut b[..16384]);
+    let words = code_pair::add(a, n, k, &mut b[..TABLE]);
     door_result::write_result(&a[..words], result)
 }
 
@@ -58,8 +58,8 @@ fn add_of(
 {
     let pair = door_forms::read_pair(row.len(), s, t, a);
     match pair {
-        Pair::Refused(e, side, p) => Written::Refused(e, side, p),
-        Pair::Forms(x, n, y, k) => write_sum(row, s, t, x, n, y, k, result, a, b),
+        FormPair::Refused(bad) => Written::Refused(bad),
+        FormPair::Forms(x, n, y, k) => write_sum(row, s, t, x, n, y, k, result, a, b),
     }
 }
 
@@ -75,13 +75,13 @@ pub fn add(
     c: &mut [u32],
     d: &mut [u32],
 ) -> Written
-    ensures { λ r. ⌜ r ≡ writtenOf (addReply (now (row .entry)) (length (now (a .entry)) ∷ length (now (b .entry)) ∷ length (now (c .entry)) ∷ length (now (d .entry)) ∷ []) (now (s .entry)) (now (t .entry)) (length (now (result .entry)))) ⌝ }
-    ensures { λ _. ⌜ now (result .exit) ≡ resultAfter (addReply (now (row .entry)) (length (now (a .entry)) ∷ length (now (b .entry)) ∷ length (now (c .entry)) ∷ length (now (d .entry)) ∷ []) (now (s .entry)) (now (t .entry)) (length (now (result .entry)))) (now (result .entry)) ⌝ }
-    ensures { λ _. ⌜ Tables (addReply (now (row .entry)) (length (now (a .entry)) ∷ length (now (b .entry)) ∷ length (now (c .entry)) ∷ length (now (d .entry)) ∷ []) (now (s .entry)) (now (t .entry)) (length (now (result .entry)))) (now (a .entry)) (now (b .entry)) (now (c .entry)) (now (d .entry)) (now (a .exit)) (now (b .exit)) (now (c .exit)) (now (d .exit)) ⌝ }
+    ensures { λ r. ⌜ AddCall (now (row .entry)) (now (s .entry)) (now (t .entry)) r (now (result .entry)) (now (result .exit))
+        (work (now (a .entry)) (now (b .entry)) (now (c .entry)) (now (d .entry)))
+        (work (now (a .exit)) (now (b .exit)) (now (c .exit)) (now (d .exit))) ⌝ }
 {
-    let e = door::ready(row, a.len(), b.len(), c.len(), d.len());
-    if e != 0 {
-        return Written::Refused(e, Side::Neither, 0);
+    let entry = door::ready(row, a.len(), b.len(), c.len(), d.len());
+    if let Entry::Refused(bad) = entry {
+        return Written::Refused(bad);
     }
     let answer = add_of(row, s, t, result, a, b);
     door::clear_tables(a, b, c, d);

@@ -1,6 +1,7 @@
 -- What `compare` answers for each reply, and two forms side by side.
 use mathlib.Core.List.{List, _++_}
-use mathlib.Core.Path.{_≡_}
+use mathlib.Core.Option.{Option, none, some}
+use mathlib.Core.Path.{_≡_, refl, ap, _∙_}
 use Prim.Native.Nat.{ℕ, _≤_}
 use lib.ListN.{length, take, drop}
 use Rattle.horner.specs.definitions.Form.{Form}
@@ -8,26 +9,45 @@ use Rattle.code.specs.Coding.{Coded, dec}
 use Rattle.code.specs.Operations.{sumOf, negateOf, valueOf}
 use Rattle.code.specs.Widths.{Leaf}
 use Rattle.code_point.specs.Points.{pointOf, Ready}
-use Rattle.reply.specs.definitions.Compare.{Verdict, equal, different}
-use Rattle.reply.specs.definitions.Reply.{Reply, gives, refuses}
-use Rattle.door.specs.Door.{told}
-use Rattle.door_terms.specs.declared.Pair.{Pair}
-use Rattle.door_terms.specs.declared.Pair.the-variants as B
-use Rattle.call_compare.specs.declared.Compared.{Compared}
-use Rattle.call_compare.specs.declared.Compared.the-variants.{Same, Different, Refused}
+use Rattle.reply.specs.definitions.Compare.{Verdict, equal, different, remainders, toldCompared, Compares}
+use Rattle.reply.specs.definitions.Reply.{Reply, gives, refuses, said, Work}
+use Rattle.reply.specs.declared.Compared.{Compared}
+use Rattle.reply.specs.declared.Compared.the-variants.{Same, Different, Refused}
 
--- document 01's number and values, for each case of the enum
 abbrev pub verdictAs : Verdict → Compared
 verdictAs equal = Same
 verdictAs (different N l r) = Different l r
 
 abbrev pub comparedOf : Reply Verdict → Compared
 comparedOf (gives v) = verdictAs v
-comparedOf (refuses e s p) = Refused e (told s) p
+comparedOf (refuses bad) = Refused bad
 
-abbrev pub refusedOf : Pair → Compared
-refusedOf (B.Refused e s p) = Refused e s p
-refusedOf (B.Forms k m) = Same
+-- it is the one that tells the reply
+pub tells-compared : (x : Reply Verdict) → toldCompared (comparedOf x) ≡ said remainders x
+tells-compared (gives equal) = refl
+tells-compared (gives (different N l r)) = refl
+tells-compared (refuses bad) = refl
+
+abbrev enumOf : Reply (Option (ℕ × ℕ)) → Compared
+enumOf (gives none) = Same
+enumOf (gives (some p)) = Different (p .0) (p .1)
+enumOf (refuses bad) = Refused bad
+
+enum-told : (r : Compared) → r ≡ enumOf (toldCompared r)
+enum-told Same = refl
+enum-told (Different l r) = refl
+enum-told (Refused bad) = refl
+
+enum-said : (x : Reply Verdict) → enumOf (said remainders x) ≡ comparedOf x
+enum-said (gives equal) = refl
+enum-said (gives (different N l r)) = refl
+enum-said (refuses bad) = refl
+
+one-compared : {r : Compared} (x : Reply Verdict) → toldCompared r ≡ said remainders x → r ≡ comparedOf x
+one-compared {r} x e = enum-told r ∙ ap enumOf e ∙ enum-said x
+
+pub is-compared : {x : Reply Verdict} {r : Compared} {p p′ : List ℕ} {w w′ : Work} → Compares x r p p′ w w′ → r ≡ comparedOf x
+is-compared {x} h = one-compared x (h .answer)
 
 -- two codes side by side: one in the first k words of l, the other behind it
 pub record Sides (k : ℕ) (l : List ℕ) : Type 0 where

@@ -1,8 +1,10 @@
 // The call `compare`: two terms over the whole numbers.
-use door::Side;
-use door_terms::Pair;
+use code::TABLE;
+use door::Entry;
+use door_terms::TermPair;
+use reply::Compared;
 ghost use mathlib.Core.Bool.{true};
-ghost use mathlib.Core.List.{[], _∷_, _++_};
+ghost use mathlib.Core.List.{_++_};
 ghost use mathlib.Core.Path.{_≡_};
 ghost use Prim.Native.Nat.{_≤_, _+_};
 ghost use lib.ListN.{length, take, drop};
@@ -10,17 +12,10 @@ ghost use Rattle.code.specs.Coding.{Coded, Made, Room, dec};
 ghost use Rattle.code.specs.Operations.{valueOf};
 ghost use Rattle.code_point.specs.Points.{pointOf, Ready};
 ghost use Rattle.text.specs.definitions.Bytes.{isRow};
-ghost use Rattle.reply.specs.definitions.Buffers.{Tables};
-ghost use Rattle.reply.specs.definitions.Compare.{compareOf, compareReply, pointAfter};
-ghost use Rattle.door.specs.Door.{Long};
-ghost use Rattle.call_compare.specs.Compare.{comparedOf, refusedOf, gapOf, Told, Sides, Apart, Rooms, Wide};
-
-// The same, or different with both remainders at the first point, left first; or the refusal's number, side and place.
-pub enum Compared {
-    Same,
-    Different(u32, u32),
-    Refused(u32, Side, usize),
-}
+ghost use Rattle.reply.specs.definitions.Reply.{work};
+ghost use Rattle.reply.specs.definitions.Compare.{compareOf, pointAfter, CompareCall};
+ghost use Rattle.code.specs.Lengths.{Long};
+ghost use Rattle.call_compare.specs.Compare.{comparedOf, gapOf, Told, Sides, Apart, Rooms, Wide};
 
 // The difference of the form in the first k words of l and the one behind it, at the front of c.
 fn gap(l: &[u32], k: usize, b: &mut [u32], c: &mut [u32]) -> usize
@@ -77,21 +72,11 @@ fn verdict(
         n,
         l,
         k,
-        &mut a[..16384],
-        &mut b[..16384],
-        &mut c[..16384],
+        &mut a[..TABLE],
+        &mut b[..TABLE],
+        &mut c[..TABLE],
         point,
     )
-}
-
-// The refusal of one of the texts.
-fn refused(pair: Pair) -> Compared
-    ensures { λ r. ⌜ r ≡ refusedOf pair ⌝ }
-{
-    match pair {
-        Pair::Refused(e, side, p) => Compared::Refused(e, side, p),
-        Pair::Forms(_, _) => Compared::Same,
-    }
 }
 
 // The comparison of the terms s and t, where the row is proper and what was lent is long enough.
@@ -112,11 +97,13 @@ fn compare_of(
     ensures { λ _. ⌜ now (point .exit) ≡ pointAfter (compareOf (now (row .entry)) (now (s .entry)) (now (t .entry))) (now (point .entry)) ⌝ }
 {
     let pair = door_terms::read_pair(row, s, t, a, b, c, d);
-    let Pair::Forms(k, m) = pair else {
-        return refused(pair);
-    };
-    let e = k + m;
-    verdict(row.len(), &d[..e], k, a, b, c, point)
+    match pair {
+        TermPair::Refused(bad) => Compared::Refused(bad),
+        TermPair::Forms(k, m) => {
+            let e = k + m;
+            verdict(row.len(), &d[..e], k, a, b, c, point)
+        }
+    }
 }
 
 // Compares the terms s and t over the row. On 'different' the first point stands at the front of the point buffer. The work tables are cleared, but not where 1 or
@@ -131,16 +118,16 @@ pub fn compare(
     c: &mut [u32],
     d: &mut [u32],
 ) -> Compared
-    ensures { λ r. ⌜ r ≡ comparedOf (compareReply (now (row .entry)) (length (now (a .entry)) ∷ length (now (b .entry)) ∷ length (now (c .entry)) ∷ length (now (d .entry)) ∷ []) (length (now (point .entry))) (now (s .entry)) (now (t .entry))) ⌝ }
-    ensures { λ _. ⌜ now (point .exit) ≡ pointAfter (compareReply (now (row .entry)) (length (now (a .entry)) ∷ length (now (b .entry)) ∷ length (now (c .entry)) ∷ length (now (d .entry)) ∷ []) (length (now (point .entry))) (now (s .entry)) (now (t .entry))) (now (point .entry)) ⌝ }
-    ensures { λ _. ⌜ Tables (compareReply (now (row .entry)) (length (now (a .entry)) ∷ length (now (b .entry)) ∷ length (now (c .entry)) ∷ length (now (d .entry)) ∷ []) (length (now (point .entry))) (now (s .entry)) (now (t .entry))) (now (a .entry)) (now (b .entry)) (now (c .entry)) (now (d .entry)) (now (a .exit)) (now (b .exit)) (now (c .exit)) (now (d .exit)) ⌝ }
+    ensures { λ r. ⌜ CompareCall (now (row .entry)) (now (s .entry)) (now (t .entry)) r (now (point .entry)) (now (point .exit))
+        (work (now (a .entry)) (now (b .entry)) (now (c .entry)) (now (d .entry)))
+        (work (now (a .exit)) (now (b .exit)) (now (c .exit)) (now (d .exit))) ⌝ }
 {
-    let e = door::ready(row, a.len(), b.len(), c.len(), d.len());
-    if e != 0 {
-        return Compared::Refused(e, Side::Neither, 0);
+    let entry = door::ready(row, a.len(), b.len(), c.len(), d.len());
+    if let Entry::Refused(bad) = entry {
+        return Compared::Refused(bad);
     }
     if point.len() < row.len() {
-        return Compared::Refused(2, Side::Neither, 0);
+        return Compared::Refused(refusal::of_neither(2));
     }
     let answer = compare_of(row, s, t, point, a, b, c, d);
     door::clear_tables(a, b, c, d);

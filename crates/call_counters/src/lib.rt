@@ -1,26 +1,20 @@
 // The call `counters`: two terms as wrapping counters.
-use door::Side;
-use door_terms::Pair;
+use code::TABLE;
+use door::Entry;
+use door_terms::TermPair;
+use reply::Counted;
 ghost use mathlib.Core.Bool.{true};
-ghost use mathlib.Core.List.{[], _∷_};
 ghost use mathlib.Core.Path.{_≡_};
 ghost use Prim.Native.Nat.{_≤_};
 ghost use lib.ListN.{length, take, drop};
 ghost use Rattle.code.specs.Coding.{dec};
 ghost use Rattle.code_counters.specs.Same.{sameOf};
 ghost use Rattle.text.specs.definitions.Bytes.{isRow};
-ghost use Rattle.reply.specs.definitions.Buffers.{Tables};
-ghost use Rattle.reply.specs.definitions.Compare.{isWidth, bits, countersOf, countersReply};
-ghost use Rattle.door.specs.Door.{Long};
+ghost use Rattle.reply.specs.definitions.Reply.{work};
+ghost use Rattle.reply.specs.definitions.Compare.{isWidth, bits, countersOf, CountersCall};
+ghost use Rattle.code.specs.Lengths.{Long};
 ghost use Rattle.call_compare.specs.Compare.{Sides, Wide};
-ghost use Rattle.call_counters.specs.Counters.{countedOf, refusedOf, answerOf};
-
-// The same, or different; or the refusal's number, side and place.
-pub enum Counted {
-    Same,
-    Different,
-    Refused(u32, Side, usize),
-}
+ghost use Rattle.call_counters.specs.Counters.{countedOf, answerOf};
 
 // Whether the width is 8, 16, or 0.
 fn is_width(width: u32) -> bool
@@ -55,24 +49,14 @@ fn verdict(width: u32, l: &[u32], k: usize, a: &mut [u32], b: &mut [u32], c: &mu
         width,
         &l[..k],
         &l[k..],
-        &mut a[..16384],
-        &mut b[..16384],
+        &mut a[..TABLE],
+        &mut b[..TABLE],
         c,
     );
     if same {
         return Counted::Same;
     }
     Counted::Different
-}
-
-// The refusal of one of the texts.
-fn refused(pair: Pair) -> Counted
-    ensures { λ r. ⌜ r ≡ refusedOf pair ⌝ }
-{
-    match pair {
-        Pair::Refused(e, side, p) => Counted::Refused(e, side, p),
-        Pair::Forms(_, _) => Counted::Same,
-    }
 }
 
 // The comparison of the terms s and t, where the row is proper and the tables are long enough.
@@ -91,11 +75,13 @@ fn counters_of(
     ensures { λ r. ⌜ r ≡ countedOf (countersOf (now (row .entry)) width (now (s .entry)) (now (t .entry))) ⌝ }
 {
     let pair = door_terms::read_pair(row, s, t, a, b, c, d);
-    let Pair::Forms(k, m) = pair else {
-        return refused(pair);
-    };
-    let e = k + m;
-    verdict(bits_of(width), &d[..e], k, a, b, c)
+    match pair {
+        TermPair::Refused(bad) => Counted::Refused(bad),
+        TermPair::Forms(k, m) => {
+            let e = k + m;
+            verdict(bits_of(width), &d[..e], k, a, b, c)
+        }
+    }
 }
 
 // Compares the terms s and t over the row as counters of the width. The work tables are cleared, but not where 1 or 2 is refused.
@@ -109,16 +95,17 @@ pub fn counters(
     c: &mut [u32],
     d: &mut [u32],
 ) -> Counted
-    ensures { λ r. ⌜ r ≡ countedOf (countersReply (now (row .entry)) (length (now (a .entry)) ∷ length (now (b .entry)) ∷ length (now (c .entry)) ∷ length (now (d .entry)) ∷ []) width (now (s .entry)) (now (t .entry))) ⌝ }
-    ensures { λ _. ⌜ Tables (countersReply (now (row .entry)) (length (now (a .entry)) ∷ length (now (b .entry)) ∷ length (now (c .entry)) ∷ length (now (d .entry)) ∷ []) width (now (s .entry)) (now (t .entry))) (now (a .entry)) (now (b .entry)) (now (c .entry)) (now (d .entry)) (now (a .exit)) (now (b .exit)) (now (c .exit)) (now (d .exit)) ⌝ }
+    ensures { λ r. ⌜ CountersCall (now (row .entry)) width (now (s .entry)) (now (t .entry)) r
+        (work (now (a .entry)) (now (b .entry)) (now (c .entry)) (now (d .entry)))
+        (work (now (a .exit)) (now (b .exit)) (now (c .exit)) (now (d .exit))) ⌝ }
 {
-    let e = door::ready(row, a.len(), b.len(), c.len(), d.len());
-    if e != 0 {
-        return Counted::Refused(e, Side::Neither, 0);
+    let entry = door::ready(row, a.len(), b.len(), c.len(), d.len());
+    if let Entry::Refused(bad) = entry {
+        return Counted::Refused(bad);
     }
     if !is_width(width) {
         door::clear_tables(a, b, c, d);
-        return Counted::Refused(14, Side::Neither, 0);
+        return Counted::Refused(refusal::of_neither(14));
     }
     let answer = counters_of(row, width, s, t, a, b, c, d);
     door::clear_tables(a, b, c, d);

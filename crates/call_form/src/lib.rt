@@ -1,15 +1,15 @@
 // The call `form`: a term in, its form's text out.
-use door::Read;
-use door::Side;
-use door_result::Written;
+use door::Entry;
+use refusal::Side;
+use reply::Written;
+use term_read::TermReading;
 ghost use mathlib.Core.Bool.{true};
-ghost use mathlib.Core.List.{[], _∷_};
 ghost use mathlib.Core.Path.{_≡_};
 ghost use lib.ListN.{length};
 ghost use Rattle.text.specs.definitions.Bytes.{isRow};
-ghost use Rattle.reply.specs.definitions.Buffers.{resultAfter, Tables};
-ghost use Rattle.reply.specs.definitions.Terms.{formOf, formReply};
-ghost use Rattle.door.specs.Door.{Long};
+ghost use Rattle.reply.specs.definitions.Reply.{resultAfter, work};
+ghost use Rattle.reply.specs.definitions.Terms.{formOf, FormCall};
+ghost use Rattle.code.specs.Lengths.{Long};
 ghost use Rattle.door_result.specs.Result.{writtenOf};
 
 // The form's text of the term s, where the row is proper and the tables are long enough.
@@ -28,10 +28,10 @@ fn form_of(
     ensures { λ _. ⌜ now (result .exit) ≡ resultAfter (formOf (now (row .entry)) (now (s .entry)) (length (now (result .entry)))) (now (result .entry)) ⌝ }
 {
     let reading = term_read::read_term(row, s, a, b, c, d);
-    let Read::Form(n) = reading else {
-        return door_result::refused(reading, Side::Left);
-    };
-    door_result::write_result(&a[..n], result)
+    match reading {
+        TermReading::Refused(fault) => Written::Refused(refusal::on_side(Side::Left, fault)),
+        TermReading::Form(n) => door_result::write_result(&a[..n], result),
+    }
 }
 
 // The form's text of the term s over the row, at the front of the result buffer; or a refusal. The work tables are cleared, but not where 1 or 2 is refused.
@@ -44,13 +44,13 @@ pub fn form(
     c: &mut [u32],
     d: &mut [u32],
 ) -> Written
-    ensures { λ r. ⌜ r ≡ writtenOf (formReply (now (row .entry)) (length (now (a .entry)) ∷ length (now (b .entry)) ∷ length (now (c .entry)) ∷ length (now (d .entry)) ∷ []) (now (s .entry)) (length (now (result .entry)))) ⌝ }
-    ensures { λ _. ⌜ now (result .exit) ≡ resultAfter (formReply (now (row .entry)) (length (now (a .entry)) ∷ length (now (b .entry)) ∷ length (now (c .entry)) ∷ length (now (d .entry)) ∷ []) (now (s .entry)) (length (now (result .entry)))) (now (result .entry)) ⌝ }
-    ensures { λ _. ⌜ Tables (formReply (now (row .entry)) (length (now (a .entry)) ∷ length (now (b .entry)) ∷ length (now (c .entry)) ∷ length (now (d .entry)) ∷ []) (now (s .entry)) (length (now (result .entry)))) (now (a .entry)) (now (b .entry)) (now (c .entry)) (now (d .entry)) (now (a .exit)) (now (b .exit)) (now (c .exit)) (now (d .exit)) ⌝ }
+    ensures { λ r. ⌜ FormCall (now (row .entry)) (now (s .entry)) r (now (result .entry)) (now (result .exit))
+        (work (now (a .entry)) (now (b .entry)) (now (c .entry)) (now (d .entry)))
+        (work (now (a .exit)) (now (b .exit)) (now (c .exit)) (now (d .exit))) ⌝ }
 {
-    let e = door::ready(row, a.len(), b.len(), c.len(), d.len());
-    if e != 0 {
-        return Written::Refused(e, Side::Neither, 0);
+    let entry = door::ready(row, a.len(), b.len(), c.len(), d.len());
+    if let Entry::Refused(bad) = entry {
+        return Written::Refused(bad);
     }
     let answer = form_of(row, s, result, a, b, c, d);
     door::clear_tables(a, b, c, d);

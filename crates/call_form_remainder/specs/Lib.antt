@@ -1,3 +1,2 @@
 -- The call `form_remainder`. Its reply is defined in crates/reply.
-pub mod Refusing
 pub mod laws

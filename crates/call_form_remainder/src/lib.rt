@@ -1,27 +1,16 @@
 // The call `form_remainder`: a form's text and a point in, the remainder by P of the form's value there out.
-use door::Side;
-use door_point::Remaindered;
-use form_read::Read;
+use door::Entry;
+use form_read::FormReading;
+use refusal::Side;
+use reply::Remaindered;
 ghost use mathlib.Core.Bool.{true};
-ghost use mathlib.Core.List.{[], _∷_};
 ghost use mathlib.Core.Path.{_≡_};
 ghost use Prim.Native.Nat.{_≤_};
 ghost use lib.ListN.{length};
 ghost use Rattle.text.specs.definitions.Bytes.{isRow};
-ghost use Rattle.reply.specs.definitions.Buffers.{Tables};
-ghost use Rattle.reply.specs.definitions.Forms.{formRemainderOf, formRemainderReply};
+ghost use Rattle.reply.specs.definitions.Reply.{work};
+ghost use Rattle.reply.specs.definitions.Forms.{formRemainderOf, FormRemainderCall};
 ghost use Rattle.door_point.specs.Point.{remainderedOf};
-ghost use Rattle.call_form_remainder.specs.Refusing.{refusedOf};
-
-// The refusal of a text that was read.
-fn refused(reading: Read) -> Remaindered
-    ensures { λ r. ⌜ r ≡ refusedOf reading ⌝ }
-{
-    match reading {
-        Read::Refused(e, p) => Remaindered::Refused(e, Side::Left, p),
-        Read::Form(_, _) => Remaindered::Remainder(0),
-    }
-}
 
 // The remainder of the form s at the point, where the row is proper, the tables are long enough and the point is as long as the row.
 fn form_remainder_of(
@@ -37,13 +26,15 @@ fn form_remainder_of(
     ensures { λ r. ⌜ r ≡ remainderedOf (formRemainderOf (now (row .entry)) (now (s .entry)) (now (point .entry))) ⌝ }
 {
     let reading = form_read::read_form(row.len(), s, a);
-    let Read::Form(_, n) = reading else {
-        return refused(reading);
-    };
-    door_point::put_point(point, b);
-    let k = point.len();
-    let v = code_walk::value(0, &a[..n], &b[..k]);
-    Remaindered::Remainder(v)
+    match reading {
+        FormReading::Refused(fault) => Remaindered::Refused(refusal::on_side(Side::Left, fault)),
+        FormReading::Form(_, n) => {
+            door_point::put_point(point, b);
+            let k = point.len();
+            let v = code_walk::value(0, &a[..n], &b[..k]);
+            Remaindered::Remainder(v)
+        }
+    }
 }
 
 // The remainder by P of the value of the form s over the row, at a point of signed coordinates; or a refusal. The work tables are cleared, but not where 1 or 2 is
@@ -57,18 +48,19 @@ pub fn form_remainder(
     c: &mut [u32],
     d: &mut [u32],
 ) -> Remaindered
-    ensures { λ r. ⌜ r ≡ remainderedOf (formRemainderReply (now (row .entry)) (length (now (a .entry)) ∷ length (now (b .entry)) ∷ length (now (c .entry)) ∷ length (now (d .entry)) ∷ []) (now (s .entry)) (now (point .entry))) ⌝ }
-    ensures { λ _. ⌜ Tables (formRemainderReply (now (row .entry)) (length (now (a .entry)) ∷ length (now (b .entry)) ∷ length (now (c .entry)) ∷ length (now (d .entry)) ∷ []) (now (s .entry)) (now (point .entry))) (now (a .entry)) (now (b .entry)) (now (c .entry)) (now (d .entry)) (now (a .exit)) (now (b .exit)) (now (c .exit)) (now (d .exit)) ⌝ }
+    ensures { λ r. ⌜ FormRemainderCall (now (row .entry)) (now (s .entry)) (now (point .entry)) r
+        (work (now (a .entry)) (now (b .entry)) (now (c .entry)) (now (d .entry)))
+        (work (now (a .exit)) (now (b .exit)) (now (c .exit)) (now (d .exit))) ⌝ }
 {
-    let e = door::ready(row, a.len(), b.len(), c.len(), d.len());
-    if e != 0 {
-        return Remaindered::Refused(e, Side::Neither, 0);
+    let entry = door::ready(row, a.len(), b.len(), c.len(), d.len());
+    if let Entry::Refused(bad) = entry {
+        return Remaindered::Refused(bad);
     }
     let n = point.len();
     let k = row.len();
     if n != k {
         door::clear_tables(a, b, c, d);
-        return Remaindered::Refused(12, Side::Neither, 0);
+        return Remaindered::Refused(refusal::of_neither(12));
     }
     let answer = form_remainder_of(row, s, point, a, b);
     door::clear_tables(a, b, c, d);

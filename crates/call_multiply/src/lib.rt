@@ -1,20 +1,20 @@
 // The call `multiply`: two forms' texts in, the text of their product out.
-use door::Side;
-use door_forms::Pair;
-use door_result::Written;
+use code::TABLE;
+use door::Entry;
+use door_forms::FormPair;
 use measure::Measures;
+use reply::Written;
 ghost use mathlib.Core.Bool.{true};
-ghost use mathlib.Core.List.{[], _∷_};
 ghost use mathlib.Core.Path.{_≡_};
 ghost use Prim.Native.Nat.{_≤_};
 ghost use lib.ListN.{length};
 ghost use Rattle.horner.specs.definitions.Form.{prod};
 ghost use Rattle.horner.specs.definitions.Integers.{ℤ-ring};
 ghost use Rattle.text.specs.definitions.Bytes.{isRow};
-ghost use Rattle.reply.specs.definitions.Buffers.{resultAfter, Tables};
-ghost use Rattle.reply.specs.definitions.Forms.{ofProduct, twoOf, multiplyReply};
+ghost use Rattle.reply.specs.definitions.Reply.{resultAfter, work};
+ghost use Rattle.reply.specs.definitions.Forms.{ofProduct, twoOf, MultiplyCall};
 ghost use Rattle.door_result.specs.Result.{writtenOf};
-ghost use Rattle.door.specs.Door.{Long};
+ghost use Rattle.code.specs.Lengths.{Long};
 ghost use Rattle.door_forms.specs.Forms.{IsPair};
 
 // The text of the product of two forms that stand side by side at the front of the table a, with the measures x and y.
@@ -39,9 +39,9 @@ fn write_product(
 {
     let e = measure::limit_of(measure::multiply(x, y));
     if e != 0 {
-        return Written::Refused(e, Side::Neither, 0);
+        return Written::Refused(refusal::of_neither(e));
     }
-    let words = code_combine::multiply(a, n, k, &mut b[..16384], &mut c[..16384], &mut d[..6146]);
+    let words = code_combine::multiply(a, n, k, &mut b[..TABLE], &mut c[..TABLE], &mut d[..6146]);
     door_result::write_result(&a[..words], result)
 }
 
@@ -63,8 +63,8 @@ fn multiply_of(
 {
     let pair = door_forms::read_pair(row.len(), s, t, a);
     match pair {
-        Pair::Refused(e, side, p) => Written::Refused(e, side, p),
-        Pair::Forms(x, n, y, k) => write_product(row, s, t, x, n, y, k, result, a, b, c, d),
+        FormPair::Refused(bad) => Written::Refused(bad),
+        FormPair::Forms(x, n, y, k) => write_product(row, s, t, x, n, y, k, result, a, b, c, d),
     }
 }
 
@@ -80,13 +80,13 @@ pub fn multiply(
     c: &mut [u32],
     d: &mut [u32],
 ) -> Written
-    ensures { λ r. ⌜ r ≡ writtenOf (multiplyReply (now (row .entry)) (length (now (a .entry)) ∷ length (now (b .entry)) ∷ length (now (c .entry)) ∷ length (now (d .entry)) ∷ []) (now (s .entry)) (now (t .entry)) (length (now (result .entry)))) ⌝ }
-    ensures { λ _. ⌜ now (result .exit) ≡ resultAfter (multiplyReply (now (row .entry)) (length (now (a .entry)) ∷ length (now (b .entry)) ∷ length (now (c .entry)) ∷ length (now (d .entry)) ∷ []) (now (s .entry)) (now (t .entry)) (length (now (result .entry)))) (now (result .entry)) ⌝ }
-    ensures { λ _. ⌜ Tables (multiplyReply (now (row .entry)) (length (now (a .entry)) ∷ length (now (b .entry)) ∷ length (now (c .entry)) ∷ length (now (d .entry)) ∷ []) (now (s .entry)) (now (t .entry)) (length (now (result .entry)))) (now (a .entry)) (now (b .entry)) (now (c .entry)) (now (d .entry)) (now (a .exit)) (now (b .exit)) (now (c .exit)) (now (d .exit)) ⌝ }
+    ensures { λ r. ⌜ MultiplyCall (now (row .entry)) (now (s .entry)) (now (t .entry)) r (now (result .entry)) (now (result .exit))
+        (work (now (a .entry)) (now (b .entry)) (now (c .entry)) (now (d .entry)))
+        (work (now (a .exit)) (now (b .exit)) (now (c .exit)) (now (d .exit))) ⌝ }
 {
-    let e = door::ready(row, a.len(), b.len(), c.len(), d.len());
-    if e != 0 {
-        return Written::Refused(e, Side::Neither, 0);
+    let entry = door::ready(row, a.len(), b.len(), c.len(), d.len());
+    if let Entry::Refused(bad) = entry {
+        return Written::Refused(bad);
     }
     let answer = multiply_of(row, s, t, result, a, b, c, d);
     door::clear_tables(a, b, c, d);

@@ -1,15 +1,15 @@
 // The call `negate`: a form's text in, the text of its negative out.
-use door::Side;
-use door_result::Written;
-use form_read::Read;
+use door::Entry;
+use form_read::FormReading;
+use refusal::Side;
+use reply::Written;
 ghost use mathlib.Core.Bool.{true};
-ghost use mathlib.Core.List.{[], _∷_};
 ghost use mathlib.Core.Path.{_≡_};
 ghost use Prim.Native.Nat.{_≤_};
 ghost use lib.ListN.{length};
 ghost use Rattle.text.specs.definitions.Bytes.{isRow};
-ghost use Rattle.reply.specs.definitions.Buffers.{resultAfter, Tables};
-ghost use Rattle.reply.specs.definitions.Forms.{negateOf, negateReply};
+ghost use Rattle.reply.specs.definitions.Reply.{resultAfter, work};
+ghost use Rattle.reply.specs.definitions.Forms.{negateOf, NegateCall};
 ghost use Rattle.door_result.specs.Result.{writtenOf};
 
 // The text of the negative of the form s, where the row is proper and the tables are long enough.
@@ -21,8 +21,8 @@ fn negate_of(row: &[u8], s: &[u8], result: &mut [u8], a: &mut [u32], b: &mut [u3
 {
     let reading = form_read::read_form(row.len(), s, a);
     match reading {
-        Read::Refused(e, p) => Written::Refused(e, Side::Left, p),
-        Read::Form(_, n) => {
+        FormReading::Refused(fault) => Written::Refused(refusal::on_side(Side::Left, fault)),
+        FormReading::Form(_, n) => {
             let k = code_walk::negate(0, &a[..n], b);
             door_result::write_result(&b[..k], result)
         }
@@ -39,13 +39,13 @@ pub fn negate(
     c: &mut [u32],
     d: &mut [u32],
 ) -> Written
-    ensures { λ r. ⌜ r ≡ writtenOf (negateReply (now (row .entry)) (length (now (a .entry)) ∷ length (now (b .entry)) ∷ length (now (c .entry)) ∷ length (now (d .entry)) ∷ []) (now (s .entry)) (length (now (result .entry)))) ⌝ }
-    ensures { λ _. ⌜ now (result .exit) ≡ resultAfter (negateReply (now (row .entry)) (length (now (a .entry)) ∷ length (now (b .entry)) ∷ length (now (c .entry)) ∷ length (now (d .entry)) ∷ []) (now (s .entry)) (length (now (result .entry)))) (now (result .entry)) ⌝ }
-    ensures { λ _. ⌜ Tables (negateReply (now (row .entry)) (length (now (a .entry)) ∷ length (now (b .entry)) ∷ length (now (c .entry)) ∷ length (now (d .entry)) ∷ []) (now (s .entry)) (length (now (result .entry)))) (now (a .entry)) (now (b .entry)) (now (c .entry)) (now (d .entry)) (now (a .exit)) (now (b .exit)) (now (c .exit)) (now (d .exit)) ⌝ }
+    ensures { λ r. ⌜ NegateCall (now (row .entry)) (now (s .entry)) r (now (result .entry)) (now (result .exit))
+        (work (now (a .entry)) (now (b .entry)) (now (c .entry)) (now (d .entry)))
+        (work (now (a .exit)) (now (b .exit)) (now (c .exit)) (now (d .exit))) ⌝ }
 {
-    let e = door::ready(row, a.len(), b.len(), c.len(), d.len());
-    if e != 0 {
-        return Written::Refused(e, Side::Neither, 0);
+    let entry = door::ready(row, a.len(), b.len(), c.len(), d.len());
+    if let Entry::Refused(bad) = entry {
+        return Written::Refused(bad);
     }
     let answer = negate_of(row, s, result, a, b);
     door::clear_tables(a, b, c, d);

@@ -1,17 +1,18 @@
 // The call `raise`: a form's text in, the text of its power out.
-use door::Side;
-use door_result::Written;
-use form_read::Read;
+use code::TABLE;
+use door::Entry;
+use form_read::FormReading;
 use measure::Measures;
+use refusal::Side;
+use reply::Written;
 ghost use mathlib.Core.Bool.{true};
-ghost use mathlib.Core.List.{[], _∷_};
 ghost use mathlib.Core.Path.{_≡_};
 ghost use Prim.Native.Nat.{_≤_};
 ghost use lib.ListN.{length};
 ghost use Rattle.text.specs.definitions.Bytes.{isRow};
-ghost use Rattle.reply.specs.definitions.Buffers.{resultAfter, Tables};
-ghost use Rattle.reply.specs.definitions.Forms.{raiseOf, raiseReply};
-ghost use Rattle.door.specs.Door.{Long};
+ghost use Rattle.reply.specs.definitions.Reply.{resultAfter, work};
+ghost use Rattle.reply.specs.definitions.Forms.{raiseOf, RaiseCall};
+ghost use Rattle.code.specs.Lengths.{Long};
 ghost use Rattle.door_result.specs.Result.{writtenOf};
 ghost use Rattle.form_read.specs.Read.{IsForm};
 
@@ -34,13 +35,13 @@ fn write_power(
     ensures { λ _. ⌜ now (result .exit) ≡ resultAfter (raiseOf (now (row .entry)) (now (s .entry)) k (length (now (result .entry)))) (now (result .entry)) ⌝ }
 {
     if 63 < k {
-        return Written::Refused(8, Side::Neither, 0);
+        return Written::Refused(refusal::of_neither(8));
     }
     let e = measure::limit_of(measure::raise(x, k));
     if e != 0 {
-        return Written::Refused(e, Side::Neither, 0);
+        return Written::Refused(refusal::of_neither(e));
     }
-    let words = code_power::raise(0, a, n, k, &mut b[..16384], &mut c[..16384], &mut d[..6146]);
+    let words = code_power::raise(0, a, n, k, &mut b[..TABLE], &mut c[..TABLE], &mut d[..6146]);
     door_result::write_result(&a[..words], result)
 }
 
@@ -62,8 +63,8 @@ fn raise_of(
 {
     let reading = form_read::read_form(row.len(), s, a);
     match reading {
-        Read::Refused(e, p) => Written::Refused(e, Side::Left, p),
-        Read::Form(x, n) => write_power(row, s, x, n, k, result, a, b, c, d),
+        FormReading::Refused(fault) => Written::Refused(refusal::on_side(Side::Left, fault)),
+        FormReading::Form(x, n) => write_power(row, s, x, n, k, result, a, b, c, d),
     }
 }
 
@@ -79,13 +80,13 @@ pub fn raise(
     c: &mut [u32],
     d: &mut [u32],
 ) -> Written
-    ensures { λ r. ⌜ r ≡ writtenOf (raiseReply (now (row .entry)) (length (now (a .entry)) ∷ length (now (b .entry)) ∷ length (now (c .entry)) ∷ length (now (d .entry)) ∷ []) (now (s .entry)) k (length (now (result .entry)))) ⌝ }
-    ensures { λ _. ⌜ now (result .exit) ≡ resultAfter (raiseReply (now (row .entry)) (length (now (a .entry)) ∷ length (now (b .entry)) ∷ length (now (c .entry)) ∷ length (now (d .entry)) ∷ []) (now (s .entry)) k (length (now (result .entry)))) (now (result .entry)) ⌝ }
-    ensures { λ _. ⌜ Tables (raiseReply (now (row .entry)) (length (now (a .entry)) ∷ length (now (b .entry)) ∷ length (now (c .entry)) ∷ length (now (d .entry)) ∷ []) (now (s .entry)) k (length (now (result .entry)))) (now (a .entry)) (now (b .entry)) (now (c .entry)) (now (d .entry)) (now (a .exit)) (now (b .exit)) (now (c .exit)) (now (d .exit)) ⌝ }
+    ensures { λ r. ⌜ RaiseCall (now (row .entry)) (now (s .entry)) k r (now (result .entry)) (now (result .exit))
+        (work (now (a .entry)) (now (b .entry)) (now (c .entry)) (now (d .entry)))
+        (work (now (a .exit)) (now (b .exit)) (now (c .exit)) (now (d .exit))) ⌝ }
 {
-    let e = door::ready(row, a.len(), b.len(), c.len(), d.len());
-    if e != 0 {
-        return Written::Refused(e, Side::Neither, 0);
+    let entry = door::ready(row, a.len(), b.len(), c.len(), d.len());
+    if let Entry::Refused(bad) = entry {
+        return Written::Refused(bad);
     }
     let answer = raise_of(row, s, k, result, a, b, c, d);
     door::clear_tables(a, b, c, d);

@@ -1,3 +1,2 @@
 -- The call `remainder`. Its reply is defined in crates/reply.
-pub mod Remainder
 pub mod laws

@@ -1,27 +1,16 @@
 // The call `remainder`: a term and a point in, the remainder by P of the term's value there out.
-use door::Read;
-use door::Side;
-use door_point::Remaindered;
+use door::Entry;
+use refusal::Side;
+use reply::Remaindered;
+use term_read::TermReading;
 ghost use mathlib.Core.Bool.{true};
-ghost use mathlib.Core.List.{[], _∷_};
 ghost use mathlib.Core.Path.{_≡_};
 ghost use lib.ListN.{length};
 ghost use Rattle.text.specs.definitions.Bytes.{isRow};
-ghost use Rattle.reply.specs.definitions.Buffers.{Tables};
-ghost use Rattle.reply.specs.definitions.Terms.{remainderOf, remainderReply};
-ghost use Rattle.door.specs.Door.{Long};
+ghost use Rattle.reply.specs.definitions.Reply.{work};
+ghost use Rattle.reply.specs.definitions.Terms.{remainderOf, RemainderCall};
+ghost use Rattle.code.specs.Lengths.{Long};
 ghost use Rattle.door_point.specs.Point.{remainderedOf};
-ghost use Rattle.call_remainder.specs.Remainder.{refusedOf};
-
-// The refusal of a text that was read.
-pub fn refused(reading: Read) -> Remaindered
-    ensures { λ r. ⌜ r ≡ refusedOf reading ⌝ }
-{
-    match reading {
-        Read::Refused(e, p) => Remaindered::Refused(e, Side::Left, p),
-        Read::Form(_) => Remaindered::Remainder(0),
-    }
-}
 
 // The remainder of the term s at the point, where the row is proper, the tables are long enough and the point is as long as the row.
 fn remainder_of(
@@ -39,13 +28,15 @@ fn remainder_of(
     ensures { λ r. ⌜ r ≡ remainderedOf (remainderOf (now (row .entry)) (now (s .entry)) (now (point .entry))) ⌝ }
 {
     let reading = term_read::read_term(row, s, a, b, c, d);
-    let Read::Form(n) = reading else {
-        return refused(reading);
-    };
-    door_point::put_point(point, b);
-    let k = point.len();
-    let v = code_walk::value(0, &a[..n], &b[..k]);
-    Remaindered::Remainder(v)
+    match reading {
+        TermReading::Refused(fault) => Remaindered::Refused(refusal::on_side(Side::Left, fault)),
+        TermReading::Form(n) => {
+            door_point::put_point(point, b);
+            let k = point.len();
+            let v = code_walk::value(0, &a[..n], &b[..k]);
+            Remaindered::Remainder(v)
+        }
+    }
 }
 
 // The remainder by P of the value of the term s over the row, at a point of signed coordinates; or a refusal. The work tables are cleared, but not where 1 or 2 is
@@ -59,18 +50,19 @@ pub fn remainder(
     c: &mut [u32],
     d: &mut [u32],
 ) -> Remaindered
-    ensures { λ r. ⌜ r ≡ remainderedOf (remainderReply (now (row .entry)) (length (now (a .entry)) ∷ length (now (b .entry)) ∷ length (now (c .entry)) ∷ length (now (d .entry)) ∷ []) (now (s .entry)) (now (point .entry))) ⌝ }
-    ensures { λ _. ⌜ Tables (remainderReply (now (row .entry)) (length (now (a .entry)) ∷ length (now (b .entry)) ∷ length (now (c .entry)) ∷ length (now (d .entry)) ∷ []) (now (s .entry)) (now (point .entry))) (now (a .entry)) (now (b .entry)) (now (c .entry)) (now (d .entry)) (now (a .exit)) (now (b .exit)) (now (c .exit)) (now (d .exit)) ⌝ }
+    ensures { λ r. ⌜ RemainderCall (now (row .entry)) (now (s .entry)) (now (point .entry)) r
+        (work (now (a .entry)) (now (b .entry)) (now (c .entry)) (now (d .entry)))
+        (work (now (a .exit)) (now (b .exit)) (now (c .exit)) (now (d .exit))) ⌝ }
 {
-    let e = door::ready(row, a.len(), b.len(), c.len(), d.len());
-    if e != 0 {
-        return Remaindered::Refused(e, Side::Neither, 0);
+    let entry = door::ready(row, a.len(), b.len(), c.len(), d.len());
+    if let Entry::Refused(bad) = entry {
+        return Remaindered::Refused(bad);
     }
     let n = point.len();
     let k = row.len();
     if n != k {
         door::clear_tables(a, b, c, d);
-        return Remaindered::Refused(12, Side::Neither, 0);
+        return Remaindered::Refused(refusal::of_neither(12));
     }
     let answer = remainder_of(row, s, point, a, b, c, d);
     door::clear_tables(a, b, c, d);

@@ -2,4 +2,5 @@
 pub mod Widths
 pub mod Coding
 pub mod Operations
+pub mod Lengths
 pub mod laws

@@ -12,6 +12,9 @@ ghost use Rattle.code.specs.Widths.{modulus};
 ghost use Rattle.code.specs.Coding.{Coded, Good, Begins, Made, Room, dec};
 ghost use Rattle.code.specs.Operations.{popOf, powOf};
 
+// The fixed length of a work table, in words.
+pub const TABLE: usize = 16384;
+
 // A head word from here on is a node's; one below is a leaf.
 pub const NODE: u32 = 2147483648;
 

@@ -10,7 +10,7 @@ use Rattle.code.specs.Coding.{limits}
 use Rattle.code.specs.Widths.{Leaf, ringOf}
 use Rattle.code_first.specs.First.{atFirstOf}
 
--- the first point in n variables. The bound 63 of each degree stands for any other that holds (laws/Points, `point-any`)
+-- the first point in n variables; 63 is a bound of each degree
 unfoldable pub pointOf : ℕ → Form (Leaf 0) → List ℕ
 pointOf n h = firstPoint (ringOf 0) (limits n) h
 

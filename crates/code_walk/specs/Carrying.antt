@@ -22,4 +22,4 @@ reduceOf w x = mapNormal (ringOf w) (carried 0 w) x
 
 -- the same from any width, and each leaf times a
 unfoldable pub carryOf : (v w a : ℕ) → Form (Leaf v) → Form (Leaf w)
-carryOf v w a x = mapNormal (ringOf w) (λ c. ringOf w .mul (leaf w a) (carried v w c)) x
+carryOf v w a x = mapNormal (ringOf w) (λ c. ringOf w ._·_ (leaf w a) (carried v w c)) x

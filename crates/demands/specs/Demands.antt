@@ -10,7 +10,8 @@ use lib.Dec.{leb}
 use lib.IntN.{ℤ, natAbs}
 use lib.ListN.{length}
 use lib.Pow.{pow-pos}
-use Rattle.horner.specs.definitions.Coefficients.{coefAt}
+use Rattle.refusal.specs.declared.Side.the-variants.{Left, Right}
+use Rattle.horner.specs.definitions.Coefficients.{coefAt, multiplesOf}
 use Rattle.horner.specs.definitions.Form.{Form, isZero}
 use Rattle.horner.specs.definitions.Integers.{ℤ-ring}
 use Rattle.horner.specs.definitions.Measures.{Within}
@@ -34,9 +35,9 @@ use Rattle.text_laws.specs.laws.FormAccepted as Forms
 use Rattle.text_laws.specs.laws.FormReading.{text-injective}
 use Rattle.text_laws.specs.laws.Result.{result-form, result-accepted}
 use Rattle.text_laws.specs.laws.Rows.{row-length, accepted-within}
-use Rattle.reply.specs.definitions.Compare.{Verdict, equal, different, verdictOf, pointOf, compareReply, countersReply, isWidth, bits, multiplesOf}
+use Rattle.reply.specs.definitions.Compare.{Verdict, equal, different, verdictOf, pointOf, compareReply, countersReply, isWidth, bits}
 use Rattle.reply.specs.definitions.Forms.{judgeReply}
-use Rattle.reply.specs.definitions.Reply.{Reply, gives, refuses, left, right, asked, readAs, enough, opened, fitted}
+use Rattle.reply.specs.definitions.Reply.{Reply, gives, refuses, asked, readAs, enough, opened, fitted}
 use Rattle.reply.specs.definitions.Terms.{formReply}
 use Rattle.code_walk.specs.Shapes.{Decides}
 use Rattle.code_counters.specs.laws.Multiples.{multiples-coefs}
@@ -64,7 +65,7 @@ module _ (row tables s : List ℕ) (l : Lent row tables) (t : Tree) (is : IsTerm
   unfolding formReply
   never-refused =
       let k = result-form row s t (l .proper) accepted .0 in
-      goes _ l ∙ ap (λ (x : Reading Tree). readAs left x (λ t. fitted n (text (normℤ (termOf row t))))) accepted
+      goes _ l ∙ ap (λ (x : Reading Tree). readAs Left x (λ t. fitted n (text (normℤ (termOf row t))))) accepted
       ∙ ap (λ b. asked b 11 (λ u. gives (text form))) (le-leb (length (text form)) n (omega (arith, k)))
 
   -- its text is that of a normal form within the limits, and read back it is that form
@@ -85,7 +86,7 @@ pub record Form-text (m : ℕ) (s : List ℕ) : Type 0 where
 
 module _ (row s : List ℕ) (r : isRow row ≡ true) where
   abbrev judged : Reading (Form ℤ) → Reply (Unit {0})
-  judged x = readAs left x (λ f. gives tt)
+  judged x = readAs Left x (λ f. gives tt)
 
   judge-is : judgeReply row s ≡ judged (acceptForm (length row) s)
   unfolding judgeReply
@@ -93,7 +94,7 @@ module _ (row s : List ℕ) (r : isRow row ≡ true) where
 
   yes : (x : Reading (Form ℤ)) → acceptForm (length row) s ≡ x → judged x ≡ gives tt → Form-text (length row) s
   yes (read f) h e = record { form = f; is = Forms.accepts (length row) s f .0 h }
-  yes (refused e p) h k = absurd (let z : _≡_ {A = ℕ} 0 1 = cc in omega arith)
+  yes (refused bad) h k = absurd (let z : _≡_ {A = ℕ} 0 1 = cc in omega arith)
 
   pub judge-exactly : (judgeReply row s ≡ gives tt) ↔ Form-text (length row) s
   judge-exactly = (λ e. yes (acceptForm (length row) s) refl (sym judge-is ∙ e), λ f. judge-is ∙ ap judged (Forms.accepts (length row) s (f .form) .1 (f .is)))
@@ -119,9 +120,9 @@ module _ (row tables s t : List ℕ) (l : Lent row tables) (k : ℕ) (room : len
   pub compare-is : compareReply row tables k s t ≡ gives (verdictOf n f g)
   unfolding compareReply
   compare-is =
-      goes _ l ∙ ap (λ b. asked b 2 (λ x. readAs left (acceptTerm row s) (λ y. readAs right (acceptTerm row t) (λ z. gives (verdictOf n (termOf row y) (termOf row z)))))) (le-leb n k room)
-      ∙ ap (λ (x : Reading Tree). readAs left x (λ y. readAs right (acceptTerm row t) (λ z. gives (verdictOf n (termOf row y) (termOf row z))))) left-is
-      ∙ ap (λ (x : Reading Tree). readAs right x (λ z. gives (verdictOf n f (termOf row z)))) right-is
+      goes _ l ∙ ap (λ b. asked b 2 (λ x. readAs Left (acceptTerm row s) (λ y. readAs Right (acceptTerm row t) (λ z. gives (verdictOf n (termOf row y) (termOf row z)))))) (le-leb n k room)
+      ∙ ap (λ (x : Reading Tree). readAs Left x (λ y. readAs Right (acceptTerm row t) (λ z. gives (verdictOf n (termOf row y) (termOf row z))))) left-is
+      ∙ ap (λ (x : Reading Tree). readAs Right x (λ z. gives (verdictOf n f (termOf row z)))) right-is
 
   pub same-bytes-values : (text (normℤ f) ≡ text (normℤ g)) ↔ ((N : List ℤ) → length N ≡ n → evalℤ f N ≡ evalℤ g N)
   same-bytes-values =
@@ -153,9 +154,9 @@ module _ (row tables s t : List ℕ) (l : Lent row tables) (w : ℕ) (width : is
   unfolding countersReply
   counters-is =
       goes _ l
-      ∙ ap (λ b. asked b 14 (λ x. readAs left (acceptTerm row s) (λ y. readAs right (acceptTerm row t) (λ z. gives (multiplesOf (2 ^ bits w) (normℤ (diff (termOf row y) (termOf row z)))))))) width
-      ∙ ap (λ (x : Reading Tree). readAs left x (λ y. readAs right (acceptTerm row t) (λ z. gives (multiplesOf (2 ^ bits w) (normℤ (diff (termOf row y) (termOf row z))))))) left-is
-      ∙ ap (λ (x : Reading Tree). readAs right x (λ z. gives (multiplesOf (2 ^ bits w) (normℤ (diff (termOf row u) (termOf row z)))))) right-is
+      ∙ ap (λ b. asked b 14 (λ x. readAs Left (acceptTerm row s) (λ y. readAs Right (acceptTerm row t) (λ z. gives (multiplesOf (2 ^ bits w) (normℤ (diff (termOf row y) (termOf row z)))))))) width
+      ∙ ap (λ (x : Reading Tree). readAs Left x (λ y. readAs Right (acceptTerm row t) (λ z. gives (multiplesOf (2 ^ bits w) (normℤ (diff (termOf row y) (termOf row z))))))) left-is
+      ∙ ap (λ (x : Reading Tree). readAs Right x (λ z. gives (multiplesOf (2 ^ bits w) (normℤ (diff (termOf row u) (termOf row z)))))) right-is
 
   pub counters-exactly : Decides (multiplesOf (2 ^ bits w) difference) ((ks : List ℕ) → length ks ≡ length row → natAbs (coefAt ℤ-ring ks difference) % 2 ^ bits w ≡ 0)
   counters-exactly =

@@ -1,59 +1,83 @@
--- Demand 1: "Every call ends with an answer .. what every lent buffer holds afterwards is laid down." No public call has a `requires`; each contract is an
--- equation for the answer and one for each lent buffer. So no two distinct answers, nor buffers, meet a contract.
+-- Demand 1: "Every call ends with an answer .. what every lent buffer holds afterwards is laid down." No public call has a `requires`; each cites one record in its own
+-- `ensures`. No two distinct answers, nor buffers, meet that record: here for each public call, under its name. b is the result or point buffer when the call begins,
+-- w the four work tables.
 use mathlib.Core.List.{List}
 use mathlib.Core.Path.{_≡_, sym, _∙_}
 use Prim.Native.Nat.{ℕ}
-use Rattle.reply.specs.definitions.Buffers.{Tables}
-use Rattle.reply.specs.definitions.Compare.{Verdict}
-use Rattle.reply.specs.definitions.Reply.{Reply}
-use Rattle.call_judge.specs.Judge.{verdictOf}
-use Rattle.call_judge.specs.declared.Verdict.{Verdict as Judgement}
-use Rattle.door_result.specs.declared.Written.{Written}
-use Rattle.door_result.specs.laws.Whole as Text
-use Rattle.call_compare.specs.declared.Compared.{Compared}
-use Rattle.call_compare.specs.laws.Whole as Compare
-use Rattle.call_counters.specs.declared.Counted.{Counted}
-use Rattle.call_counters.specs.laws.Whole as Count
-use Rattle.door_point.specs.declared.Remaindered.{Remaindered}
-use Rattle.door_point.specs.laws.Whole as Remainder
 use mathlib.Core.Bool.{Bool}
+use lib.IntN.{ℤ}
+use Rattle.book.specs.definitions.Answer.{PrintCall}
+use Rattle.call_compare.specs.Compare.{is-compared}
+use Rattle.call_counters.specs.Counters.{is-counted}
+use Rattle.call_judge.specs.Judge.{is-judged}
+use Rattle.door_point.specs.Point.{is-remainder}
+use Rattle.door_result.specs.Result.{is-written}
+use Rattle.panel.specs.Panel.{PanelCompareCall, PanelFormCall, PanelRemainderCall}
+use Rattle.panel.specs.declared.PanelAnswer.{PanelAnswer}
+use Rattle.reply.specs.declared.Compared.{Compared}
+use Rattle.reply.specs.declared.Counted.{Counted}
+use Rattle.reply.specs.declared.Judged.{Judged}
+use Rattle.reply.specs.declared.Remaindered.{Remaindered}
+use Rattle.reply.specs.declared.Written.{Written}
+use Rattle.reply.specs.definitions.Compare.{CompareCall, CountersCall}
+use Rattle.reply.specs.definitions.Forms.{JudgeCall, NegateCall, AddCall, MultiplyCall, RaiseCall, FormRemainderCall}
+use Rattle.reply.specs.definitions.Reply.{Reply, Work, Writes, Remainders}
+use Rattle.reply.specs.definitions.Terms.{FormCall, RemainderCall}
 
--- the four work tables
-pub record Same (a b c d a′ b′ c′ d′ : List ℕ) : Type 0 where
-  pub first : a ≡ a′
-  pub second : b ≡ b′
-  pub third : c ≡ c′
-  pub fourth : d ≡ d′
+-- ---- a call with a result text
+module _ {r q : Written} {b₁ b₂ : List ℕ} {w₁ w₂ : Work} where
+  one-text : {x : Reply (List ℕ)} {b : List ℕ} {w : Work} → Writes x r b b₁ w w₁ → Writes x q b b₂ w w₂ → (r ≡ q) × ((b₁ ≡ b₂) × (w₁ ≡ w₂))
+  one-text s t = (is-written s ∙ sym (is-written t), (s .result ∙ sym (t .result), s .tables ∙ sym (t .tables)))
 
-module _ {A : Type 0} (x : Reply A) (a b c d : List ℕ) where
-  one-tables : {a₁ b₁ c₁ d₁ a₂ b₂ c₂ d₂ : List ℕ} → Tables x a b c d a₁ b₁ c₁ d₁ → Tables x a b c d a₂ b₂ c₂ d₂ → Same a₁ b₁ c₁ d₁ a₂ b₂ c₂ d₂
-  one-tables s t = record {
-    first = s .first ∙ sym (t .first);
-    second = s .second ∙ sym (t .second);
-    third = s .third ∙ sym (t .third);
-    fourth = s .fourth ∙ sym (t .fourth);
-  }
+  module _ (row s t b : List ℕ) (k : ℕ) (w : Work) where
+    pub one-form : FormCall row s r b b₁ w w₁ → FormCall row s q b b₂ w w₂ → (r ≡ q) × ((b₁ ≡ b₂) × (w₁ ≡ w₂))
+    one-form x y = one-text x y
 
-module _ (a b c d : List ℕ) {a₁ b₁ c₁ d₁ a₂ b₂ c₂ d₂ : List ℕ} where
-  -- `form`, `negate`, `add`, `multiply`, `raise`: the answer, the result buffer, the tables
-  pub one-text : (x : Reply (List ℕ)) (r : List ℕ) {p q : Written} {r₁ r₂ : List ℕ} → Text.Whole x p r r₁ a b c d a₁ b₁ c₁ d₁ → Text.Whole x q r r₂ a b c d a₂ b₂ c₂ d₂
-      → (p ≡ q) × ((r₁ ≡ r₂) × Same a₁ b₁ c₁ d₁ a₂ b₂ c₂ d₂)
-  one-text x r s t = (s .0 ∙ sym (t .0), (s .1 .0 ∙ sym (t .1 .0), one-tables x a b c d (s .1 .1) (t .1 .1)))
+    pub one-negate : NegateCall row s r b b₁ w w₁ → NegateCall row s q b b₂ w w₂ → (r ≡ q) × ((b₁ ≡ b₂) × (w₁ ≡ w₂))
+    one-negate x y = one-text x y
 
-  -- `compare`: the answer, the point buffer, the tables
-  pub one-verdict : (x : Reply Verdict) (r : List ℕ) {p q : Compared} {r₁ r₂ : List ℕ} → Compare.Whole x p r r₁ a b c d a₁ b₁ c₁ d₁
-      → Compare.Whole x q r r₂ a b c d a₂ b₂ c₂ d₂ → (p ≡ q) × ((r₁ ≡ r₂) × Same a₁ b₁ c₁ d₁ a₂ b₂ c₂ d₂)
-  one-verdict x r s t = (s .0 ∙ sym (t .0), (s .1 .0 ∙ sym (t .1 .0), one-tables x a b c d (s .1 .1) (t .1 .1)))
+    pub one-add : AddCall row s t r b b₁ w w₁ → AddCall row s t q b b₂ w w₂ → (r ≡ q) × ((b₁ ≡ b₂) × (w₁ ≡ w₂))
+    one-add x y = one-text x y
 
-  -- `counters`: the answer, the tables
-  pub one-count : (x : Reply Bool) {p q : Counted} → Count.Whole x p a b c d a₁ b₁ c₁ d₁ → Count.Whole x q a b c d a₂ b₂ c₂ d₂ → (p ≡ q) × Same a₁ b₁ c₁ d₁ a₂ b₂ c₂ d₂
-  one-count x s t = (s .0 ∙ sym (t .0), one-tables x a b c d (s .1) (t .1))
+    pub one-multiply : MultiplyCall row s t r b b₁ w w₁ → MultiplyCall row s t q b b₂ w w₂ → (r ≡ q) × ((b₁ ≡ b₂) × (w₁ ≡ w₂))
+    one-multiply x y = one-text x y
 
-  -- `remainder`: the answer, the tables
-  pub one-remainder : (x : Reply ℕ) {p q : Remaindered} → Remainder.Whole x p a b c d a₁ b₁ c₁ d₁ → Remainder.Whole x q a b c d a₂ b₂ c₂ d₂
-      → (p ≡ q) × Same a₁ b₁ c₁ d₁ a₂ b₂ c₂ d₂
-  one-remainder x s t = (s .0 ∙ sym (t .0), one-tables x a b c d (s .1) (t .1))
+    pub one-raise : RaiseCall row s k r b b₁ w w₁ → RaiseCall row s k q b b₂ w w₂ → (r ≡ q) × ((b₁ ≡ b₂) × (w₁ ≡ w₂))
+    one-raise x y = one-text x y
 
--- `judge`: the answer alone; no buffer is lent
-pub one-judgement : (x : Reply (Unit {0})) {p q : Judgement} → p ≡ verdictOf x → q ≡ verdictOf x → p ≡ q
-one-judgement x s t = s ∙ sym t
+  pub one-print : (book b : List ℕ) (w : Work) → PrintCall book r b b₁ w w₁ → PrintCall book q b b₂ w w₂ → (r ≡ q) × ((b₁ ≡ b₂) × (w₁ ≡ w₂))
+  one-print book b w x y = one-text x y
+
+-- ---- a call that gives a remainder
+module _ {r q : Remaindered} {w₁ w₂ : Work} where
+  one-number : {x : Reply ℕ} {w : Work} → Remainders x r w w₁ → Remainders x q w w₂ → (r ≡ q) × (w₁ ≡ w₂)
+  one-number s t = (is-remainder s ∙ sym (is-remainder t), s .tables ∙ sym (t .tables))
+
+  module _ (row s : List ℕ) (N : List ℤ) (w : Work) where
+    pub one-remainder : RemainderCall row s N r w w₁ → RemainderCall row s N q w w₂ → (r ≡ q) × (w₁ ≡ w₂)
+    one-remainder x y = one-number x y
+
+    pub one-form-remainder : FormRemainderCall row s N r w w₁ → FormRemainderCall row s N q w w₂ → (r ≡ q) × (w₁ ≡ w₂)
+    one-form-remainder x y = one-number x y
+
+-- ---- the comparisons, and judging
+module _ (row s t : List ℕ) (w : Work) {w₁ w₂ : Work} where
+  pub one-compare : (p : List ℕ) {p₁ p₂ : List ℕ} {r q : Compared} → CompareCall row s t r p p₁ w w₁ → CompareCall row s t q p p₂ w w₂ → (r ≡ q) × ((p₁ ≡ p₂) × (w₁ ≡ w₂))
+  one-compare p x y = (is-compared x ∙ sym (is-compared y), (x .point ∙ sym (y .point), x .tables ∙ sym (y .tables)))
+
+  pub one-counters : (width : ℕ) {r q : Counted} → CountersCall row width s t r w w₁ → CountersCall row width s t q w w₂ → (r ≡ q) × (w₁ ≡ w₂)
+  one-counters width x y = (is-counted x ∙ sym (is-counted y), x .tables ∙ sym (y .tables))
+
+pub one-judge : (row s : List ℕ) {r q : Judged} → JudgeCall row s r → JudgeCall row s q → r ≡ q
+one-judge row s x y = is-judged x ∙ sym (is-judged y)
+
+-- ---- from C
+module _ (row s t b : List ℕ) (w : Work) {r q : PanelAnswer} {w₁ w₂ : Work} where
+  pub one-panel-compare : {b₁ b₂ : List ℕ} → PanelCompareCall row s t r b b₁ w w₁ → PanelCompareCall row s t q b b₂ w w₂ → (r ≡ q) × ((b₁ ≡ b₂) × (w₁ ≡ w₂))
+  one-panel-compare x y = (x .answer ∙ sym (y .answer), (x .point ∙ sym (y .point), x .tables ∙ sym (y .tables)))
+
+  pub one-panel-form : {b₁ b₂ : List ℕ} → PanelFormCall row s r b b₁ w w₁ → PanelFormCall row s q b b₂ w w₂ → (r ≡ q) × ((b₁ ≡ b₂) × (w₁ ≡ w₂))
+  one-panel-form x y = (x .answer ∙ sym (y .answer), (x .result ∙ sym (y .result), x .tables ∙ sym (y .tables)))
+
+  pub one-panel-remainder : (N : List ℤ) → PanelRemainderCall row s N r w w₁ → PanelRemainderCall row s N q w w₂ → (r ≡ q) × (w₁ ≡ w₂)
+  one-panel-remainder N x y = (x .answer ∙ sym (y .answer), x .tables ∙ sym (y .tables))

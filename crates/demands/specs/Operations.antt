@@ -8,6 +8,7 @@ use native.Mathlib.Omega.{arith}
 use lib.Dec.{leb}
 use lib.IntN.{ℤ}
 use lib.ListN.{length}
+use Rattle.refusal.specs.declared.Side.the-variants.{Left, Right}
 use Rattle.horner.specs.definitions.Form.{Form, sum, negate, prod, raise}
 use Rattle.horner.specs.definitions.Integers.{ℤ-ring}
 use Rattle.horner.specs.definitions.Normal.{Normal}
@@ -19,7 +20,7 @@ use Rattle.text.specs.definitions.FormJudging.{acceptForm}
 use Rattle.text.specs.definitions.FormText.{text}
 use Rattle.text_laws.specs.laws.FormAccepted.{accepts}
 use Rattle.reply.specs.definitions.Forms.{Measured, ofSum, ofProduct, ofPower, limited, negateReply, addReply, multiplyReply, raiseReply}
-use Rattle.reply.specs.definitions.Reply.{Reply, left, right, asked, readAs, fitted}
+use Rattle.reply.specs.definitions.Reply.{Reply, asked, readAs, fitted}
 use Rattle.demands.specs.Demands.{Lent, goes}
 
 -- of one form
@@ -29,7 +30,7 @@ module _ (row tables s : List ℕ) (l : Lent row tables) (x : Form ℤ) (is : ac
 
   pub negate-is : negateReply row tables s n ≡ fitted n (text (negate ℤ-ring x))
   unfolding negateReply
-  negate-is = goes _ l ∙ ap (λ (r : Reading (Form ℤ)). readAs left r (λ x. fitted n (text (negate ℤ-ring x)))) is
+  negate-is = goes _ l ∙ ap (λ (r : Reading (Form ℤ)). readAs Left r (λ x. fitted n (text (negate ℤ-ring x)))) is
 
   pub negate-value : (N : List ℤ) → length N ≡ length row → evalh ℤ-ring (negate ℤ-ring x) N ≡ ℤ-ring .neg (evalh ℤ-ring x N)
   negate-value N e = evalh-negate ℤ-ring (length row) N (omega (arith, e)) x normal
@@ -38,7 +39,7 @@ module _ (row tables s : List ℕ) (l : Lent row tables) (x : Form ℤ) (is : ac
   unfolding raiseReply
   raise-is k =
       goes _ l
-      ∙ ap (λ (r : Reading (Form ℤ)). readAs left r (λ x. asked (leb k 63) 8 (λ v. limited (ofPower (length row) x k) (λ w. fitted n (text (raise ℤ-ring x k)))))) is
+      ∙ ap (λ (r : Reading (Form ℤ)). readAs Left r (λ x. asked (leb k 63) 8 (λ v. limited (ofPower (length row) x k) (λ w. fitted n (text (raise ℤ-ring x k)))))) is
 
   pub raise-value : (k : ℕ) (N : List ℤ) → length N ≡ length row → evalh ℤ-ring (raise ℤ-ring x k) N ≡ power ℤ-ring (evalh ℤ-ring x N) k
   raise-value k N e = evalh-raise ℤ-ring (length row) N (omega (arith, e)) x k normal
@@ -49,22 +50,22 @@ module _ (row tables s : List ℕ) (l : Lent row tables) (x : Form ℤ) (is : ac
     normal′ = accepts (length row) t y .0 is′ .normal
 
     two-is : (m : Form ℤ → Form ℤ → Measured) (op : Form ℤ → Form ℤ → Form ℤ)
-        → readAs left (acceptForm (length row) s) (λ x. readAs right (acceptForm (length row) t) (λ y. limited (m x y) (λ v. fitted n (text (op x y)))))
+        → readAs Left (acceptForm (length row) s) (λ x. readAs Right (acceptForm (length row) t) (λ y. limited (m x y) (λ v. fitted n (text (op x y)))))
         ≡ limited (m x y) (λ v. fitted n (text (op x y)))
     two-is m op =
-        ap (λ (r : Reading (Form ℤ)). readAs left r (λ x. readAs right (acceptForm (length row) t) (λ y. limited (m x y) (λ v. fitted n (text (op x y)))))) is
-        ∙ ap (λ (r : Reading (Form ℤ)). readAs right r (λ y. limited (m x y) (λ v. fitted n (text (op x y))))) is′
+        ap (λ (r : Reading (Form ℤ)). readAs Left r (λ x. readAs Right (acceptForm (length row) t) (λ y. limited (m x y) (λ v. fitted n (text (op x y)))))) is
+        ∙ ap (λ (r : Reading (Form ℤ)). readAs Right r (λ y. limited (m x y) (λ v. fitted n (text (op x y))))) is′
 
     pub add-is : addReply row tables s t n ≡ limited (ofSum (length row) x y) (λ v. fitted n (text (sum ℤ-ring x y)))
     unfolding addReply
     add-is = goes _ l ∙ two-is (ofSum (length row)) (sum ℤ-ring)
 
-    pub add-value : (N : List ℤ) → length N ≡ length row → evalh ℤ-ring (sum ℤ-ring x y) N ≡ ℤ-ring .add (evalh ℤ-ring x N) (evalh ℤ-ring y N)
+    pub add-value : (N : List ℤ) → length N ≡ length row → evalh ℤ-ring (sum ℤ-ring x y) N ≡ ℤ-ring ._⊞_ (evalh ℤ-ring x N) (evalh ℤ-ring y N)
     add-value N e = evalh-sum ℤ-ring (length row) N (omega (arith, e)) x y normal normal′
 
     pub multiply-is : multiplyReply row tables s t n ≡ limited (ofProduct (length row) x y) (λ v. fitted n (text (prod ℤ-ring x y)))
     unfolding multiplyReply
     multiply-is = goes _ l ∙ two-is (ofProduct (length row)) (prod ℤ-ring)
 
-    pub multiply-value : (N : List ℤ) → length N ≡ length row → evalh ℤ-ring (prod ℤ-ring x y) N ≡ ℤ-ring .mul (evalh ℤ-ring x N) (evalh ℤ-ring y N)
+    pub multiply-value : (N : List ℤ) → length N ≡ length row → evalh ℤ-ring (prod ℤ-ring x y) N ≡ ℤ-ring ._·_ (evalh ℤ-ring x N) (evalh ℤ-ring y N)
     multiply-value N e = evalh-prod ℤ-ring (length row) N (omega (arith, e)) x y normal normal′

@@ -11,11 +11,15 @@ use borrow.Author.Tests.{le-leb}
 use lib.Dec.{leb}
 use lib.IntN.{ℤ}
 use lib.ListN.{length}
+use Rattle.refusal.specs.Refusal.{fault, onSide, ofNeither}
+use Rattle.refusal.specs.declared.Refusal.{Refusal}
+use Rattle.refusal.specs.declared.Side.the-variants.{Left, Right, Neither}
+use Rattle.refusal.specs.declared.Side.{Side}
 use Rattle.horner.specs.definitions.Form.{Form}
 use Rattle.horner.specs.definitions.Integers.{ℤ-ring}
 use Rattle.horner.specs.definitions.Normal.{Normal}
 use Rattle.horner.specs.definitions.Term.{normℤ}
-use Rattle.text.specs.definitions.Answer.{Reading, read, refused, fine}
+use Rattle.text.specs.definitions.Answer.{Reading, read, refused, refusedAt, fine}
 use Rattle.text.specs.definitions.Bytes.{isRow}
 use Rattle.text.specs.definitions.FormJudging as J
 use Rattle.text.specs.definitions.FormJudging.{Node, nodes, stands, firstWrong, thenJudged, acceptForm}
@@ -40,7 +44,7 @@ use Rattle.text_laws.specs.laws.Reading.{reads}
 use Rattle.text_laws.specs.laws.Sofar.{no-refusal}
 use Rattle.reply.specs.definitions.Compare.{Verdict, verdictOf, compareOf, compareReply}
 use Rattle.reply.specs.definitions.Forms.{judgeReply}
-use Rattle.reply.specs.definitions.Reply.{Reply, Side, gives, refuses, left, right, neither, asked, readAs, fitted}
+use Rattle.reply.specs.definitions.Reply.{Reply, gives, refuses, asked, readAs, fitted}
 use Rattle.reply.specs.definitions.Terms.{formOf, formReply}
 use Rattle.demands.specs.Demands.{Lent, goes}
 
@@ -51,28 +55,28 @@ pub data TermRefused (row s : List ℕ) (e p : ℕ) : Type 0 where
   over-limit : (t : Tree) → IsTerm row s t → FirstOver row t e p → TermRefused row s e p
 
 module _ (row : List ℕ) where
-  first-past : (r : Reading Tree) (us : List Tree) (u : Tree) (vs : List Tree) (e : ℕ) → AllPass row us → passes row u ≡ suc e → firstPast row r (us ++ (u ∷ vs)) ≡ refused (suc e) (startOf u)
+  first-past : (r : Reading Tree) (us : List Tree) (u : Tree) (vs : List Tree) (e : ℕ) → AllPass row us → passes row u ≡ suc e → firstPast row r (us ++ (u ∷ vs)) ≡ refusedAt (suc e) (startOf u)
   first-past r [] u vs e a h = rw h
   first-past r (t ∷ us) u vs e a h = rw (a .0) (first-past r us u vs e (a .1) h)
 
-  measured-first : (t : Tree) (e p : ℕ) → FirstOver row t e p → measured row t ≡ refused e p
+  measured-first : (t : Tree) (e p : ℕ) → FirstOver row t e p → measured row t ≡ refusedAt e p
   unfolding measured
   measured-first t zero p w = absurd (w .over refl)
   measured-first t (suc e) p w =
-      ap (firstPast row (read t)) (w .parts) ∙ first-past (read t) (w .before) (w .node) (w .behind) e (w .pass) (w .number) ∙ ap (refused (suc e)) (sym (w .place))
+      ap (firstPast row (read t)) (w .parts) ∙ first-past (read t) (w .before) (w .node) (w .behind) e (w .pass) (w .number) ∙ ap (refusedAt (suc e)) (sym (w .place))
 
   module _ (s : List ℕ) (e p : ℕ) where
-    why-term : Outcome row s (acceptTerm row s) → acceptTerm row s ≡ refused e p → TermRefused row s e p
+    why-term : Outcome row s (acceptTerm row s) → acceptTerm row s ≡ refusedAt e p → TermRefused row s e p
     why-term (not-term e′ p′ i j) h = no-term (refused-exactly row s e p .0 (i ∙ sym j ∙ h))
     why-term (too-big t e′ p′ i w j) h = let q = refusal-parts e′ p′ e p (sym j ∙ h) in over-limit t i (rw (q .0, q .1) w)
     why-term (stands-as t i w j) h = no-refusal (sym h ∙ j)
 
-    of-why : TermRefused row s e p → acceptTerm row s ≡ refused e p
+    of-why : TermRefused row s e p → acceptTerm row s ≡ refusedAt e p
     unfolding acceptTerm
     of-why (no-term a) = ap (thenMeasured row) (refused-exactly row s e p .1 a)
     of-why (over-limit t i w) = ap (thenMeasured row) (reads row s t .1 i) ∙ measured-first t e p w
 
-    pub term-refused : (acceptTerm row s ≡ refused e p) ↔ TermRefused row s e p
+    pub term-refused : (acceptTerm row s ≡ refusedAt e p) ↔ TermRefused row s e p
     term-refused = (why-term (outcome row s), of-why)
 
 -- ---- a form's text
@@ -101,16 +105,16 @@ module _ (m : ℕ) where
   one-measure f e e′ (many i h w t) (heavy j k l) = absurd (omega arith)
   one-measure f e e′ (many i h w t) (many j k l o) = i ∙ sym j
 
-  first-wrong : (r : Reading (Form ℤ)) (ls : List Node) (k : Node) (js : List Node) → AllStand m ls → stands m (k .level) (k .form) ≡ false → firstWrong m r (ls ++ (k ∷ js)) ≡ refused 7 (k .place)
+  first-wrong : (r : Reading (Form ℤ)) (ls : List Node) (k : Node) (js : List Node) → AllStand m ls → stands m (k .level) (k .form) ≡ false → firstWrong m r (ls ++ (k ∷ js)) ≡ refusedAt 7 (k .place)
   first-wrong r [] k js a h = rw (h, firstWrong)
   first-wrong r (l ∷ ls) k js a h = rw (a .0, firstWrong) (first-wrong r ls k js (a .1) h)
 
-  over-fine : (f : Form ℤ) (e : ℕ) → (e ≡ 0 → ⊥) → Measure m f e → fine (J.passes m f) 0 (λ u. read f) ≡ refused e 0
+  over-fine : (f : Form ℤ) (e : ℕ) → (e ≡ 0 → ⊥) → Measure m f e → fine (J.passes m f) 0 (λ u. read f) ≡ refusedAt e 0
   over-fine f zero z w = absurd (z refl)
   over-fine f (suc e) z w = rw (one-measure f (J.passes m f) (suc e) (measure m f) w)
 
   module _ (s : List ℕ) (e p : ℕ) where
-    why-form : F.Outcome m s (acceptForm m s) → acceptForm m s ≡ refused e p → FormRefused m s e p
+    why-form : F.Outcome m s (acceptForm m s) → acceptForm m s ≡ refusedAt e p → FormRefused m s e p
     why-form (F.not-text e′ p′ i j) h = no-form (FE.refused-exactly s e p .0 (i ∙ sym j ∙ h))
     why-form (F.not-normal f p′ t w j) h = let q = refusal-parts 7 p′ e p (sym j ∙ h) in not-normal f t (q .0) (rw (q .1) w)
     why-form (F.too-big f e′ t n w j) h =
@@ -118,7 +122,7 @@ module _ (m : ℕ) where
         over-measure f t n (λ z. omega (arith, q .0, z)) (rw (q .0) w) (q .1)
     why-form (F.stands-as f k j) h = no-refusal (sym h ∙ j)
 
-    of-why-form : FormRefused m s e p → acceptForm m s ≡ refused e p
+    of-why-form : FormRefused m s e p → acceptForm m s ≡ refusedAt e p
     unfolding acceptForm
     of-why-form (no-form a) = ap (thenJudged m) (FE.refused-exactly s e p .1 a)
     of-why-form (not-normal f t i w) =
@@ -126,39 +130,45 @@ module _ (m : ℕ) where
         ∙ ap (J.thenMeasured m) (ap (firstWrong m (read f)) (w .parts) ∙ first-wrong (read f) (w .before) (w .node) (w .behind) (w .stand) (w .falls))
         ∙ rw (i, w .place)
     of-why-form (over-measure f t n z w i) =
-        ap (thenJudged m) (FR.reads s f .1 t) ∙ ap (J.thenMeasured m) (F.all-stand m (read f) (nodes 0 0 f) (normal-stand m f 0 0 (rw sub-zero n))) ∙ over-fine f e z w ∙ ap (refused e) (sym i)
+        ap (thenJudged m) (FR.reads s f .1 t) ∙ ap (J.thenMeasured m) (F.all-stand m (read f) (nodes 0 0 f) (normal-stand m f 0 0 (rw sub-zero n))) ∙ over-fine f e z w ∙ ap (refusedAt e) (sym i)
 
-    pub form-refused : (acceptForm m s ≡ refused e p) ↔ FormRefused m s e p
+    pub form-refused : (acceptForm m s ≡ refusedAt e p) ↔ FormRefused m s e p
     form-refused = (why-form (F.outcome m s), of-why-form)
 
 -- ---- the calls: what they refuse of a text is exactly that
 module _ (e p : ℕ) where
-  not-given : {A : Type 0} (a : A) (s : Side) → _≡_ {A = Reply A} (gives a) (refuses e s p) → ⊥
+  not-given : {A : Type 0} (a : A) (s : Side) → _≡_ {A = Reply A} (gives a) (refuses (onSide s (fault e p))) → ⊥
   not-given a s h = let z : _≡_ {A = ℕ} 0 1 = cc in omega arith
 
-  not-asked : {A : Type 0} (b : Bool) (k : ℕ) (a : A) → _≡_ {A = Reply A} (asked b k (λ u. gives a)) (refuses e left p) → ⊥
-  not-asked true k a h = not-given a left h
-  not-asked false k a h = let z : _≡_ {A = ℕ} 0 1 = cc in omega arith
+  not-asked : {A : Type 0} (b : Bool) (k : ℕ) (a : A) → _≡_ {A = Reply A} (asked b k (λ u. gives a)) (refuses (onSide Left (fault e p))) → ⊥
+  not-asked true k a h = not-given a Left h
+  not-asked false k a h =
+      let same : ofNeither k ≡ onSide Left (fault e p) = cc in
+      let side : Neither ≡ Left = ap (λ (r : Refusal). r .side) same in
+      let z : _≡_ {A = ℕ} 0 1 = cc in
+      omega arith
 
-  same-refusal : {A B : Type 0} (e′ p′ : ℕ) (s : Side) → _≡_ {A = Reply B} (refuses e′ s p′) (refuses e s p) → _≡_ {A = Reading A} (refused e′ p′) (refused e p)
-  same-refusal e′ p′ s h = let i : e′ ≡ e = cc in let j : p′ ≡ p = cc in ap₂ refused i j
+  same-refusal : {A B : Type 0} (e′ p′ : ℕ) (s : Side) → _≡_ {A = Reply B} (refuses (onSide s (fault e′ p′))) (refuses (onSide s (fault e p))) → _≡_ {A = Reading A} (refusedAt e′ p′) (refusedAt e p)
+  same-refusal e′ p′ s h =
+      let same : onSide s (fault e′ p′) ≡ onSide s (fault e p) = cc in
+      ap (λ (r : Refusal). refusedAt (r .number) (r .place)) same
 
   module _ {A B : Type 0} (s : Side) (x : Reading A) (k : A → Reply B) where
-    of-side : (y : Reading A) → ((a : A) → k a ≡ refuses e s p → ⊥) → readAs s y k ≡ refuses e s p → y ≡ refused e p
-    of-side (refused e′ p′) q h = same-refusal e′ p′ s h
+    of-side : (y : Reading A) → ((a : A) → k a ≡ refuses (onSide s (fault e p)) → ⊥) → readAs s y k ≡ refuses (onSide s (fault e p)) → y ≡ refusedAt e p
+    of-side (refused bad) q h = same-refusal (bad .number) (bad .place) s h
     of-side (read a) q h = absurd (q a h)
 
-    at-side : x ≡ refused e p → readAs s x k ≡ refuses e s p
+    at-side : x ≡ refusedAt e p → readAs s x k ≡ refuses (onSide s (fault e p))
     at-side h = ap (λ (y : Reading A). readAs s y k) h
 
 module _ (row tables s : List ℕ) (l : Lent row tables) (e p : ℕ) where
-  pub form-refuses : (n : ℕ) → (formReply row tables s n ≡ refuses e left p) ↔ TermRefused row s e p
+  pub form-refuses : (n : ℕ) → (formReply row tables s n ≡ refuses (onSide Left (fault e p))) ↔ TermRefused row s e p
   unfolding formReply
   form-refuses n = (
     λ h. term-refused row s e p .0
-        (of-side e p left (acceptTerm row s) (λ t. fitted n (text (normℤ (termOf row t)))) (acceptTerm row s)
+        (of-side e p Left (acceptTerm row s) (λ t. fitted n (text (normℤ (termOf row t)))) (acceptTerm row s)
         (λ t. not-asked e p (leb (length (text (normℤ (termOf row t)))) n) 11 (text (normℤ (termOf row t)))) (sym (goes _ l) ∙ h)),
-    λ h. goes _ l ∙ at-side e p left (acceptTerm row s) (λ t. fitted n (text (normℤ (termOf row t)))) (term-refused row s e p .1 h),
+    λ h. goes _ l ∙ at-side e p Left (acceptTerm row s) (λ t. fitted n (text (normℤ (termOf row t)))) (term-refused row s e p .1 h),
   )
 
   -- "A refusal of the left text ends the call before the right one is read": whatever the right one is
@@ -170,35 +180,39 @@ module _ (row tables s : List ℕ) (l : Lent row tables) (e p : ℕ) where
     unfolding compareReply
     opens = goes _ l ∙ ap (λ b. asked b 2 (λ v. compareOf row s t)) (le-leb (length row) k room)
 
-    not-left : (y : Reading Tree) (f : Tree) → readAs right y (then f) ≡ refuses e left p → ⊥
-    not-left (read g) f h = not-given e p (verdictOf (length row) (termOf row f) (termOf row g)) left h
-    not-left (refused e′ p′) f h = let z : _≡_ {A = ℕ} 0 1 = cc in omega arith
+    not-left : (y : Reading Tree) (f : Tree) → readAs Right y (then f) ≡ refuses (onSide Left (fault e p)) → ⊥
+    not-left (read g) f h = not-given e p (verdictOf (length row) (termOf row f) (termOf row g)) Left h
+    not-left (refused bad) f h =
+        let same : onSide Right bad ≡ onSide Left (fault e p) = cc in
+        let side : Right ≡ Left = ap (λ (r : Refusal). r .side) same in
+        let z : _≡_ {A = ℕ} 0 1 = cc in
+        omega arith
 
-    pub left-refused : (compareReply row tables k s t ≡ refuses e left p) ↔ TermRefused row s e p
+    pub left-refused : (compareReply row tables k s t ≡ refuses (onSide Left (fault e p))) ↔ TermRefused row s e p
     left-refused = (
       λ h. term-refused row s e p .0
-          (of-side e p left (acceptTerm row s) (λ f. readAs right (acceptTerm row t) (then f)) (acceptTerm row s) (not-left (acceptTerm row t)) (sym opens ∙ h)),
-      λ h. opens ∙ at-side e p left (acceptTerm row s) (λ f. readAs right (acceptTerm row t) (then f)) (term-refused row s e p .1 h),
+          (of-side e p Left (acceptTerm row s) (λ f. readAs Right (acceptTerm row t) (then f)) (acceptTerm row s) (not-left (acceptTerm row t)) (sym opens ∙ h)),
+      λ h. opens ∙ at-side e p Left (acceptTerm row s) (λ f. readAs Right (acceptTerm row t) (then f)) (term-refused row s e p .1 h),
     )
 
     -- the right one is refused where the left one is accepted
-    pub right-refused : (f : Tree) → acceptTerm row s ≡ read f → (compareReply row tables k s t ≡ refuses e right p) ↔ TermRefused row t e p
+    pub right-refused : (f : Tree) → acceptTerm row s ≡ read f → (compareReply row tables k s t ≡ refuses (onSide Right (fault e p))) ↔ TermRefused row t e p
     right-refused f is = (
       λ h. term-refused row t e p .0
-          (of-side e p right (acceptTerm row t) (then f) (acceptTerm row t) (λ g. not-given e p (verdictOf (length row) (termOf row f) (termOf row g)) right) (sym reads-left ∙ h)),
-      λ h. reads-left ∙ at-side e p right (acceptTerm row t) (then f) (term-refused row t e p .1 h),
+          (of-side e p Right (acceptTerm row t) (then f) (acceptTerm row t) (λ g. not-given e p (verdictOf (length row) (termOf row f) (termOf row g)) Right) (sym reads-left ∙ h)),
+      λ h. reads-left ∙ at-side e p Right (acceptTerm row t) (then f) (term-refused row t e p .1 h),
     )
       where
-        reads-left : compareReply row tables k s t ≡ readAs right (acceptTerm row t) (then f)
-        reads-left = opens ∙ ap (λ (x : Reading Tree). readAs left x (λ f. readAs right (acceptTerm row t) (then f))) is
+        reads-left : compareReply row tables k s t ≡ readAs Right (acceptTerm row t) (then f)
+        reads-left = opens ∙ ap (λ (x : Reading Tree). readAs Left x (λ f. readAs Right (acceptTerm row t) (then f))) is
 
 -- `judge` refuses the text exactly so
-pub judge-refuses : (row s : List ℕ) (e p : ℕ) → isRow row ≡ true → (judgeReply row s ≡ refuses e left p) ↔ FormRefused (length row) s e p
+pub judge-refuses : (row s : List ℕ) (e p : ℕ) → isRow row ≡ true → (judgeReply row s ≡ refuses (onSide Left (fault e p))) ↔ FormRefused (length row) s e p
 unfolding judgeReply
 judge-refuses row s e p r = (
-  λ h. form-refused (length row) s e p .0 (of-side e p left (acceptForm (length row) s) (λ f. gives tt) (acceptForm (length row) s) (λ f. not-given e p tt left) (sym opens ∙ h)),
-  λ h. opens ∙ at-side e p left (acceptForm (length row) s) (λ f. gives tt) (form-refused (length row) s e p .1 h),
+  λ h. form-refused (length row) s e p .0 (of-side e p Left (acceptForm (length row) s) (λ f. gives tt) (acceptForm (length row) s) (λ f. not-given e p tt Left) (sym opens ∙ h)),
+  λ h. opens ∙ at-side e p Left (acceptForm (length row) s) (λ f. gives tt) (form-refused (length row) s e p .1 h),
 )
   where
-    opens : judgeReply row s ≡ readAs left (acceptForm (length row) s) (λ f. gives tt)
-    opens = ap (λ b. asked b 1 (λ u. readAs left (acceptForm (length row) s) (λ f. gives tt))) r
+    opens : judgeReply row s ≡ readAs Left (acceptForm (length row) s) (λ f. gives tt)
+    opens = ap (λ b. asked b 1 (λ u. readAs Left (acceptForm (length row) s) (λ f. gives tt))) r

@@ -5,27 +5,26 @@ use Prim.Native.Nat.{ℕ}
 use Rattle.text.specs.definitions.Bytes.{bytes}
 use Rattle.reply.specs.definitions.Compare.{Verdict, equal, different, compareReply, countersReply}
 use Rattle.reply.specs.definitions.Reply.{Reply, gives, refuses}
-use Rattle.door.specs.Door.{told}
 use Rattle.desk_field.specs.Fields.{fieldOf}
 use Rattle.desk_reply.specs.Reply.{refusedText, differentText}
 use Rattle.desk_serve.specs.Serve.{counted, numbered}
-use Rattle.call_compare.specs.declared.Compared.{Compared}
-use Rattle.call_compare.specs.declared.Compared.the-variants as C
-use Rattle.call_counters.specs.declared.Counted.{Counted}
-use Rattle.call_counters.specs.declared.Counted.the-variants as K
+use Rattle.reply.specs.declared.Compared.{Compared}
+use Rattle.reply.specs.declared.Compared.the-variants as C
+use Rattle.reply.specs.declared.Counted.{Counted}
+use Rattle.reply.specs.declared.Counted.the-variants as K
 
 -- ---- over the whole numbers
 -- the line of a comparison
 abbrev pub comparedText : Reply Verdict → List ℕ
 comparedText (gives equal) = bytes "SAME"
 comparedText (gives (different N l r)) = differentText N l r
-comparedText (refuses e s p) = refusedText e (told s) p
+comparedText (refuses bad) = refusedText bad
 
 -- the same of the answer that the call gives, and of the point
 abbrev pub comparedLine : Compared → List ℕ → List ℕ
 comparedLine C.Same N = bytes "SAME"
 comparedLine (C.Different l r) N = differentText N l r
-comparedLine (C.Refused e s p) N = refusedText e s p
+comparedLine (C.Refused bad) N = refusedText bad
 
 -- `compare ROW TERM TERM`, with a point buffer of four numbers
 abbrev pub compareLine : List ℕ → List ℕ → List ℕ
@@ -35,13 +34,13 @@ compareLine tables line = counted 4 line (comparedText (compareReply (fieldOf li
 -- the line of a comparison as counters
 abbrev pub countedText : Reply Bool → List ℕ
 countedText (gives b) = cond b (bytes "SAME") (bytes "DIFF")
-countedText (refuses e s p) = refusedText e (told s) p
+countedText (refuses bad) = refusedText bad
 
 -- the same of the answer that the call gives
 abbrev pub countedLine : Counted → List ℕ
 countedLine K.Same = bytes "SAME"
 countedLine K.Different = bytes "DIFF"
-countedLine (K.Refused e s p) = refusedText e s p
+countedLine (K.Refused bad) = refusedText bad
 
 -- `counters ROW WIDTH TERM TERM`, where WIDTH is the number w
 abbrev pub countersBy : List ℕ → List ℕ → ℕ → List ℕ

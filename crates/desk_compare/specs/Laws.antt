@@ -17,10 +17,10 @@ use Rattle.desk_field.specs.declared.Number.the-variants.{Is}
 use Rattle.desk_reply.specs.Reply.{wrongText, differentText}
 use Rattle.desk_serve.specs.Laws.{counted-is, counted-not, three-fields, numbered-is}
 use Rattle.call_compare.specs.Compare.{comparedOf}
-use Rattle.call_compare.specs.declared.Compared.{Compared}
+use Rattle.reply.specs.declared.Compared.{Compared}
 use Rattle.call_compare.specs.laws.Sized.{Sized, alike, apart, refusal, compare-sized}
 use Rattle.call_counters.specs.Counters.{countedOf}
-use Rattle.call_counters.specs.declared.Counted.{Counted}
+use Rattle.reply.specs.declared.Counted.{Counted}
 use Rattle.desk_compare.specs.Compare.{comparedText, comparedLine, compareLine, countedText, countedLine, countersBy, countersLine}
 
 -- ---- compare
@@ -65,7 +65,7 @@ compare-fields tables line p {n} {m} {row} {s} {t} {q} {x} is h r i j k a b =
 counted-line : (x : Reply Bool) → countedLine (countedOf x) ≡ countedText x
 counted-line (gives true) = refl
 counted-line (gives false) = refl
-counted-line (refuses e s p) = refl
+counted-line (refuses bad) = refl
 
 module _ (tables line : List ℕ) {n w : ℕ} {field : List ℕ} {x : Number} (is : n ≡ countOf line) (there : 3 ≤ n) (read : x ≡ naturalOf field) (at : field ≡ fieldOf line 2) (known : x ≡ Is w) where
   counters-is : countersBy tables line w ≡ countersLine tables line

@@ -1,7 +1,7 @@
 // The lines of `compare` and `counters`: each reads the fields of its request, makes its call and writes the answer's line.
-use call_compare::Compared;
-use call_counters::Counted;
 use desk_field::Number;
+use reply::Compared;
+use reply::Counted;
 ghost use mathlib.Core.List.{[], _∷_};
 ghost use mathlib.Core.Path.{_≡_};
 ghost use Prim.Native.Nat.{_≤_, min};
@@ -18,7 +18,7 @@ fn compared(answer: Compared, point: &[u32], out: &mut [u8]) -> usize
     match answer {
         Compared::Same => form_write::put(b"SAME", out),
         Compared::Different(l, r) => desk_reply::different(point, l, r, out),
-        Compared::Refused(e, side, p) => desk_reply::refused(e, side, p, out),
+        Compared::Refused(bad) => desk_reply::refused(bad, out),
     }
 }
 
@@ -65,7 +65,7 @@ fn counted(answer: Counted, out: &mut [u8]) -> usize
     match answer {
         Counted::Same => form_write::put(b"SAME", out),
         Counted::Different => form_write::put(b"DIFF", out),
-        Counted::Refused(e, side, p) => desk_reply::refused(e, side, p, out),
+        Counted::Refused(bad) => desk_reply::refused(bad, out),
     }
 }
 

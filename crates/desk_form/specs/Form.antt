@@ -4,22 +4,21 @@ use Prim.Native.Nat.{ℕ}
 use Rattle.text.specs.definitions.Bytes.{bytes}
 use Rattle.reply.specs.definitions.Forms.{judgeReply, negateReply, raiseReply, formRemainderReply}
 use Rattle.reply.specs.definitions.Reply.{Reply, gives, refuses}
-use Rattle.door.specs.Door.{told}
 use Rattle.desk_field.specs.Fields.{fieldOf}
 use Rattle.desk_reply.specs.Reply.{refusedText, resultText}
 use Rattle.desk_serve.specs.Serve.{counted, numbered, pointOf, pointed, remainderedText}
-use Rattle.call_judge.specs.declared.Verdict.{Verdict}
-use Rattle.call_judge.specs.declared.Verdict.the-variants.{Form, Refused}
+use Rattle.reply.specs.declared.Judged.{Judged}
+use Rattle.reply.specs.declared.Judged.the-variants.{Form, Refused}
 
 -- the line of a judgement
 abbrev pub judgedText : Reply (Unit {0}) → List ℕ
 judgedText (gives u) = bytes "YES"
-judgedText (refuses e s p) = refusedText e (told s) p
+judgedText (refuses bad) = refusedText bad
 
 -- the same of the answer that the call gives
-abbrev pub judgedLine : Verdict → List ℕ
+abbrev pub judgedLine : Judged → List ℕ
 judgedLine Form = bytes "YES"
-judgedLine (Refused e s p) = refusedText e s p
+judgedLine (Refused bad) = refusedText bad
 
 -- `judge ROW FORM`, with no work tables
 abbrev pub judgeLine : List ℕ → List ℕ

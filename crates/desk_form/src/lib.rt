@@ -1,6 +1,6 @@
 // The lines of `judge`, `negate`, `raise` and `formremainder`, the words on one form: each reads the fields of its request, makes its call and writes the answer's line.
-use call_judge::Verdict;
 use desk_field::Number;
+use reply::Judged;
 ghost use mathlib.Core.List.{[], _∷_};
 ghost use Prim.Native.Nat.{_≤_};
 ghost use lib.ListN.{length};
@@ -11,13 +11,13 @@ ghost use Rattle.desk_form.specs.Form.{judgedLine, judgeLine, negateLine
 const ROOM: usize = 65540;
 
 // The line of a judgement.
-fn judged(answer: Verdict, out: &mut [u8]) -> usize
+fn judged(answer: Judged, out: &mut [u8]) -> usize
     requires { ⌜ 65540 ≤ length (now out) ⌝ }
     ensures { λ r. ⌜ Wrote r (judgedLine answer) (now (out .entry)) (now (out .exit)) ⌝ }
 {
     match answer {
-        Verdict::Form => form_write::put(b"YES", out),
-        Verdict::Refused(e, side, p) => desk_reply::refused(e, side, p, out),
+        Judged::Form => form_write::put(b"YES", out),
+        Judged::Refused(bad) => desk_reply::refused(bad, out),
     }
 }
 

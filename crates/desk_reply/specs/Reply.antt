@@ -6,11 +6,11 @@ use Rattle.text.specs.definitions.Bytes.{bytes}
 use Rattle.text.specs.definitions.Numerals.{dec}
 use Rattle.form_write.specs.Write.{Wrote}
 use Rattle.reply.specs.definitions.Reply.{Reply, gives, refuses}
-use Rattle.door.specs.Door.{told}
-use Rattle.door.specs.declared.Side.{Side}
-use Rattle.door.specs.declared.Side.the-variants.{Left, Right, Neither}
-use Rattle.door_result.specs.declared.Written.{Written}
-use Rattle.door_result.specs.declared.Written.the-variants.{Text, Refused}
+use Rattle.refusal.specs.declared.Refusal.{Refusal}
+use Rattle.refusal.specs.declared.Side.{Side}
+use Rattle.refusal.specs.declared.Side.the-variants.{Left, Right, Neither}
+use Rattle.reply.specs.declared.Written.{Written}
+use Rattle.reply.specs.declared.Written.the-variants.{Text, Refused}
 
 -- `? n`
 abbrev pub wrongText : ℕ → List ℕ
@@ -22,13 +22,13 @@ sideText Right = bytes " right "
 sideText Neither = bytes " neither "
 
 -- `REFUSED number side place`
-abbrev pub refusedText : ℕ → Side → ℕ → List ℕ
-refusedText e s p = ((bytes "REFUSED " ++ dec e) ++ sideText s) ++ dec p
+abbrev pub refusedText : Refusal → List ℕ
+refusedText bad = ((bytes "REFUSED " ++ dec (bad .number)) ++ sideText (bad .side)) ++ dec (bad .place)
 
 -- the line of a call with a result text: `FORM text`, or its refusal
 abbrev pub resultText : Reply (List ℕ) → List ℕ
 resultText (gives w) = bytes "FORM " ++ w
-resultText (refuses e s p) = refusedText e (told s) p
+resultText (refuses bad) = refusedText bad
 
 -- `REMAINDER n`
 abbrev pub remainderText : ℕ → List ℕ
@@ -46,9 +46,9 @@ differentText N l r = ((bytes "DIFF" ++ spaced N) ++ (32 ∷ dec l)) ++ (32 ∷ 
 -- a buffer of k bytes has room for the line of an answer
 abbrev pub Room : Written → ℕ → Type 0
 Room (Text n) k = (5 + n ≤ k) × (64 ≤ k)
-Room (Refused e s p) k = 64 ≤ k
+Room (Refused bad) k = 64 ≤ k
 
 -- the line of an answer: where there is a result text, `FORM ` is written in front of it
 abbrev pub Replied : Written → ℕ → List ℕ → List ℕ → Type 0
 Replied (Text n) r old new = (r ≡ 5 + n) × Wrote 5 (bytes "FORM ") old new
-Replied (Refused e s p) r old new = Wrote r (refusedText e s p) old new
+Replied (Refused bad) r old new = Wrote r (refusedText bad) old new

@@ -1,6 +1,7 @@
 // The line that answers a request, written at the front of a lent buffer.
-use door::Side;
-use door_result::Written;
+use refusal::Refusal;
+use refusal::Side;
+use reply::Written;
 ghost use mathlib.Core.Path.{_≡_};
 ghost use mathlib.Core.List.{_∷_};
 ghost use Prim.Native.Nat.{_*_, _≤_};
@@ -30,16 +31,17 @@ fn put_side(side: Side, out: &mut [u8]) -> usize
 }
 
 // `REFUSED number side place`
-pub fn refused(number: u32, side: Side, place: usize, out: &mut [u8]) -> usize
+pub fn refused(bad: Refusal, out: &mut [u8]) -> usize
     requires { ⌜ 64 ≤ length (now out) ⌝ }
-    ensures { λ r. ⌜ Wrote r (refusedText number side place) (now (out .entry)) (now (out .exit)) ⌝ }
+    ensures { λ r. ⌜ Wrote r (refusedText bad) (now (out .entry)) (now (out .exit)) ⌝ }
 {
+    let side = bad.side;
     let a = form_write::put(b"REFUSED ", out);
-    let k = form_write::write_number(number as u64, &mut out[a..]);
+    let k = form_write::write_number(bad.number as u64, &mut out[a..]);
     let b = a + k;
     let m = put_side(side, &mut out[b..]);
     let c = b + m;
-    let n = form_write::write_number(place as u64, &mut out[c..]);
+    let n = form_write::write_number(bad.place as u64, &mut out[c..]);
     c + n
 }
 
@@ -53,7 +55,7 @@ pub fn written(answer: Written, out: &mut [u8]) -> usize
             let at = form_write::put(b"FORM ", out);
             at + n
         }
-        Written::Refused(e, side, p) => refused(e, side, p, out),
+        Written::Refused(bad) => refused(bad, out),
     }
 }
 

@@ -15,7 +15,7 @@ use Rattle.desk_field.specs.declared.Number.{Number}
 use Rattle.desk_field.specs.declared.Number.the-variants.{Is, Wrong}
 use Rattle.desk_reply.specs.Reply.{wrongText}
 use Rattle.door_point.specs.Point.{remainderedOf}
-use Rattle.door_point.specs.declared.Remaindered.{Remaindered}
+use Rattle.reply.specs.declared.Remaindered.{Remaindered}
 use Rattle.desk_serve.specs.Serve.{counted, numberOr, numbered, pointFault, fiveOf, pointOf, pointed, remainderedText, remainderedLine}
 
 -- ---- the number of fields
@@ -89,7 +89,7 @@ module _ (line w : List ℕ) {f : ℕ} (is : f ≡ pointFault line) where
 
 remaindered-is : (x : Reply ℕ) → remainderedLine (remainderedOf x) ≡ remainderedText x
 remaindered-is (gives n) = refl
-remaindered-is (refuses e s p) = refl
+remaindered-is (refuses bad) = refl
 
 -- the point is the first e of the five numbers
 module _ (line : List ℕ) {five : List ℤ} {e : ℕ} (five-is : five ≡ fiveOf line) (e-is : e ≡ min (countOf line - 3) 5) where

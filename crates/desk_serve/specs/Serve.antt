@@ -11,9 +11,8 @@ use Rattle.desk_field.specs.Fields.{fieldOf, restOf, countOf, naturalOf, signed
 use Rattle.desk_field.specs.declared.Number.{Number}
 use Rattle.desk_field.specs.declared.Number.the-variants.{Is, Wrong}
 use Rattle.desk_reply.specs.Reply.{wrongText, refusedText, remainderText}
-use Rattle.door.specs.Door.{told}
-use Rattle.door_point.specs.declared.Remaindered.{Remaindered}
-use Rattle.door_point.specs.declared.Remaindered.the-variants.{Remainder, Refused}
+use Rattle.reply.specs.declared.Remaindered.{Remaindered}
+use Rattle.reply.specs.declared.Remaindered.the-variants.{Remainder, Refused}
 
 -- w where the line's word is the one that is named, else what comes after
 abbrev pub asks : List ℕ → List ℕ → List ℕ → List ℕ → List ℕ
@@ -59,9 +58,9 @@ pointed line w = cond (eqb (pointFault line) 0) w (wrongText (pointFault line))
 -- ---- the line of a remainder
 abbrev pub remainderedText : Reply ℕ → List ℕ
 remainderedText (gives n) = remainderText n
-remainderedText (refuses e s p) = refusedText e (told s) p
+remainderedText (refuses bad) = refusedText bad
 
 -- the same of the answer that the call gives
 abbrev pub remainderedLine : Remaindered → List ℕ
 remainderedLine (Remainder n) = remainderText n
-remainderedLine (Refused e s p) = refusedText e s p
+remainderedLine (Refused bad) = refusedText bad

@@ -9,12 +9,12 @@ use Rattle.horner.specs.definitions.Measures.{box}
 use Rattle.text.specs.definitions.Bytes.{all, isRow}
 use Rattle.form_write.specs.Write.{Wrote}
 use Rattle.form_write.specs.laws.Wrote.{wrote-as}
-use Rattle.reply.specs.definitions.Buffers.{resultAfter}
+use Rattle.reply.specs.definitions.Reply.{resultAfter}
 use Rattle.reply.specs.definitions.Forms.{Measured, limited}
 use Rattle.reply.specs.definitions.Reply.{Reply, enough, opened}
 use Rattle.desk_field.specs.Fields.{fieldOf, countOf}
 use Rattle.door_result.specs.Result.{writtenOf}
-use Rattle.door_result.specs.declared.Written.{Written}
+use Rattle.reply.specs.declared.Written.{Written}
 use Rattle.desk_reply.specs.Reply.{resultText, Replied}
 use Rattle.desk_reply.specs.laws.Replies.{Within, within-asked, text-line}
 use Rattle.desk_serve.specs.Serve.{counted}

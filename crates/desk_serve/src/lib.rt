@@ -1,5 +1,5 @@
 // What the lines of the desk share: the number of their fields, the coordinates of a point, the line of a remainder.
-use door_point::Remaindered;
+use reply::Remaindered;
 ghost use mathlib.Core.Path.{_≡_};
 ghost use Prim.Native.Nat.{_-_, _≤_, min};
 ghost use lib.ListN.{length};
@@ -68,6 +68,6 @@ pub fn remaindered(answer: Remaindered, out: &mut [u8]) -> usize
 {
     match answer {
         Remaindered::Remainder(n) => desk_reply::remainder(n, out),
-        Remaindered::Refused(e, side, p) => desk_reply::refused(e, side, p, out),
+        Remaindered::Refused(bad) => desk_reply::refused(bad, out),
     }
 }

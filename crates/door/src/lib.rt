@@ -1,21 +1,17 @@
 // What the calls begin and end with: the row and the tables looked at, the tables cleared.
+use code::TABLE;
+use refusal::Refusal;
 ghost use mathlib.Core.List.{[], _∷_};
 ghost use mathlib.Core.Path.{_≡_};
 ghost use lib.ListN.{length, replicate};
 ghost use Rattle.text.specs.definitions.Bytes.{inRow, isRow};
+ghost use Rattle.reply.specs.definitions.Reply.{enough};
 ghost use Rattle.door.specs.Door.{readyOf};
 
-// Which text a refusal speaks of.
-pub enum Side {
-    Left,
-    Right,
-    Neither,
-}
-
-// How many words the form of a text takes, or the refusal's number and place.
-pub enum Read {
-    Form(usize),
-    Refused(u32, usize),
+// The call goes on, or the refusal 1 or 2.
+pub enum Entry {
+    Granted,
+    Refused(Refusal),
 }
 
 // Whether the letter is among those of the row.
@@ -56,26 +52,36 @@ pub fn is_row(row: &[u8]) -> bool
     true
 }
 
-// 0, or the refusal 1 of the row, or 2 of tables with these lengths.
-pub fn ready(row: &[u8], a: usize, b: usize, c: usize, d: usize) -> u32
+// Whether tables of these lengths are long enough.
+pub fn enough(a: usize, b: usize, c: usize, d: usize) -> bool
+    ensures { λ r. ⌜ r ≡ enough (a ∷ b ∷ c ∷ d ∷ []) ⌝ }
+{
+    if a < TABLE {
+        return false;
+    }
+    if b < TABLE {
+        return false;
+    }
+    if c < TABLE {
+        return false;
+    }
+    if d < TABLE {
+        return false;
+    }
+    true
+}
+
+// Whether the row is proper and tables of these lengths are long enough; or the refusal 1 or 2.
+pub fn ready(row: &[u8], a: usize, b: usize, c: usize, d: usize) -> Entry
     ensures { λ r. ⌜ r ≡ readyOf (now (row .entry)) (a ∷ b ∷ c ∷ d ∷ []) ⌝ }
 {
     if !is_row(row) {
-        return 1;
+        return Entry::Refused(refusal::of_neither(1));
     }
-    if a < 16384 {
-        return 2;
+    if !enough(a, b, c, d) {
+        return Entry::Refused(refusal::of_neither(2));
     }
-    if b < 16384 {
-        return 2;
-    }
-    if c < 16384 {
-        return 2;
-    }
-    if d < 16384 {
-        return 2;
-    }
-    0
+    Entry::Granted
 }
 
 // Fills the four tables with zeros.
@@ -85,8 +91,19 @@ pub fn clear_tables(a: &mut [u32], b: &mut [u32], c: &mut [u32], d: &mut [u32])
     ensures { λ _. ⌜ now (c .exit) ≡ replicate (length (now (c .entry))) 0 ⌝ }
     ensures { λ _. ⌜ now (d .exit) ≡ replicate (length (now (d .entry))) 0 ⌝ }
 {
-    residue::clear(a);
-    residue::clear(b);
-    residue::clear(c);
-    residue::clear(d);
+    clear(a);
+    clear(b);
+    clear(c);
+    clear(d);
+}
+
+// Fills a table with zeros.
+fn clear(t: &mut [u32])
+    ensures { λ _. ⌜ now (t .exit) ≡ replicate (length (now (t .entry))) 0 ⌝ }
+{
+    let mut i = 0usize;
+    while i < t.len() {
+        t[i] = 0;
+        i += 1;
+    }
 }

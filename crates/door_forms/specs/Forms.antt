@@ -8,17 +8,25 @@ use Rattle.horner.specs.definitions.Form.{Form as HForm}
 use Rattle.text.specs.definitions.Answer.{read, refused}
 use Rattle.text.specs.definitions.FormJudging.{acceptForm}
 use Rattle.measure.specs.declared.Measures.{Measures}
-use Rattle.door.specs.declared.Side.{Side}
-use Rattle.door.specs.declared.Side.the-variants.{Left, Right}
+use Rattle.measure.specs.Made.{of}
+use Rattle.refusal.specs.Refusal.{onSide}
+use Rattle.refusal.specs.declared.Fault.{Fault}
+use Rattle.refusal.specs.declared.Side.the-variants.{Left, Right}
 use Rattle.form_read.specs.Read.{IsForm}
-use Rattle.form_read.specs.declared.Read.{Read}
-use Rattle.form_read.specs.declared.Read.the-variants as R
-use Rattle.door_forms.specs.declared.Pair.{Pair}
-use Rattle.door_forms.specs.declared.Pair.the-variants.{Forms, Refused}
+use Rattle.form_read.specs.declared.FormReading.{FormReading}
+use Rattle.form_read.specs.declared.FormReading.the-variants as R
+use Rattle.door_forms.specs.declared.FormPair.{FormPair}
+use Rattle.door_forms.specs.declared.FormPair.the-variants.{Forms, Refused}
 
-abbrev pub pairRefused : Read → Side → Pair
-pairRefused (R.Refused e p) s = Refused e s p
-pairRefused (R.Form a n) s = Forms a n a n
+-- the pair when its left text has been read, and nothing stands behind it yet
+abbrev pub begun : FormReading → FormPair
+begun (R.Refused bad) = Refused (onSide Left bad)
+begun (R.Form x n) = Forms x n (of 0 0 0 0 0 0) 0
+
+-- the pair when its right text has been read behind a left form of n words with the measures x
+abbrev pub ended : Measures → ℕ → FormReading → FormPair
+ended x n (R.Refused bad) = Refused (onSide Right bad)
+ended x n (R.Form y k) = Forms x n y k
 
 -- both are accepted: the left form stands in the first n words of l, the right one in the k words behind it
 pub record IsPair (m : ℕ) (s t : List ℕ) (x : Measures) (n : ℕ) (y : Measures) (k : ℕ) (l : List ℕ) : Type 0 where
@@ -26,7 +34,7 @@ pub record IsPair (m : ℕ) (s t : List ℕ) (x : Measures) (n : ℕ) (y : Measu
   pub of-right : IsForm m t y k (drop n l)
 
 -- "A refusal of the left text ends the call before the right one is read"
-pub data PairRead (m : ℕ) (s t : List ℕ) (r : Pair) (l : List ℕ) : Type 0 where
-  left-refusal : (e p : ℕ) → acceptForm m s ≡ refused e p → r ≡ Refused e Left p → PairRead m s t r l
-  right-refusal : (f : HForm ℤ) (e p : ℕ) → acceptForm m s ≡ read f → acceptForm m t ≡ refused e p → r ≡ Refused e Right p → PairRead m s t r l
+pub data PairRead (m : ℕ) (s t : List ℕ) (r : FormPair) (l : List ℕ) : Type 0 where
+  left-refusal : (bad : Fault) → acceptForm m s ≡ refused bad → r ≡ Refused (onSide Left bad) → PairRead m s t r l
+  right-refusal : (f : HForm ℤ) (bad : Fault) → acceptForm m s ≡ read f → acceptForm m t ≡ refused bad → r ≡ Refused (onSide Right bad) → PairRead m s t r l
   forms : (x : Measures) (n : ℕ) (y : Measures) (k : ℕ) → IsPair m s t x n y k l → r ≡ Forms x n y k → PairRead m s t r l

@@ -1,17 +1,31 @@
 -- The enum that a call at a point answers, for each reply, and the remainders of a point's coordinates.
 use mathlib.Core.List.{List, map}
+use mathlib.Core.Path.{_≡_, refl, sym, ap, _∙_}
 use Prim.Native.Nat.{ℕ}
 use lib.IntN.{ℤ}
-use Rattle.reply.specs.definitions.Reply.{Reply, gives, refuses}
+use Rattle.reply.specs.declared.Remaindered.{Remaindered}
+use Rattle.reply.specs.declared.Remaindered.the-variants.{Remainder, Refused}
+use Rattle.reply.specs.definitions.Reply.{Reply, gives, refuses, Work, toldRemainder, Remainders}
 use Rattle.reply.specs.definitions.Terms.{remainder}
-use Rattle.door.specs.Door.{told}
-use Rattle.door_point.specs.declared.Remaindered.{Remaindered}
-use Rattle.door_point.specs.declared.Remaindered.the-variants.{Remainder, Refused}
 
--- "Where an answer is an enum, a definition gives this paper's number and values for each case of the enum": the remainder, or number, side and place
 abbrev pub remainderedOf : Reply ℕ → Remaindered
 remainderedOf (gives n) = Remainder n
-remainderedOf (refuses e s p) = Refused e (told s) p
+remainderedOf (refuses bad) = Refused bad
+
+-- it is the one that tells the reply
+pub tells-remainder : (x : Reply ℕ) → toldRemainder (remainderedOf x) ≡ x
+tells-remainder (gives n) = refl
+tells-remainder (refuses bad) = refl
+
+enum-told : (r : Remaindered) → r ≡ remainderedOf (toldRemainder r)
+enum-told (Remainder n) = refl
+enum-told (Refused bad) = refl
+
+one-remainder : {r : Remaindered} {x : Reply ℕ} → toldRemainder r ≡ x → r ≡ remainderedOf x
+one-remainder {r} e = enum-told r ∙ ap remainderedOf e
+
+pub is-remainder : {x : Reply ℕ} {r : Remaindered} {w w′ : Work} → Remainders x r w w′ → r ≡ remainderedOf x
+is-remainder h = one-remainder (h .answer)
 
 -- the remainders of the coordinates
 unfoldable pub residuesOf : List ℤ → List ℕ

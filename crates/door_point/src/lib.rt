@@ -1,16 +1,10 @@
-// The point of a call: the remainders of its coordinates, and what a call at a point answers.
-use door::Side;
+// The point of a call: the remainders of its coordinates.
 ghost use mathlib.Core.List.{_++_};
 ghost use mathlib.Core.Path.{_≡_};
 ghost use Prim.Native.Nat.{_≤_};
 ghost use lib.ListN.{length, drop};
 ghost use Rattle.door_point.specs.Point.{residuesOf};
-
-// The remainder, or the refusal's number, side and place.
-pub enum Remaindered {
-    Remainder(u32),
-    Refused(u32, Side, usize),
-}
+ghost use Rattle.reply.specs.definitions.Terms.{remainder};
 
 // Writes the remainders of the coordinates to the front of out. What lies after them stays.
 pub fn put_point(point: &[i32], out: &mut [u32])
@@ -19,7 +13,15 @@ pub fn put_point(point: &[i32], out: &mut [u32])
 {
     let mut i = 0;
     while i < point.len() {
-        out[i] = residue::of_coordinate(point[i]);
+        out[i] = of_coordinate(point[i]);
         i += 1;
     }
+}
+
+// The remainder of a signed coordinate: twice P is added first, so that nothing is negative.
+fn of_coordinate(x: i32) -> u32
+    ensures { λ r. ⌜ r ≡ remainder x ⌝ }
+{
+    let up = (x as i64) + 4294967294;
+    ((up as u64) % 2147483647) as u32
 }

@@ -1,30 +1,12 @@
 // What a call with a result text answers: the text of a coded form in the lent buffer, or a refusal.
-use door::Read;
-use door::Side;
+use reply::Written;
 ghost use mathlib.Core.Path.{_≡_};
 ghost use Prim.Native.Nat.{_≤_};
 ghost use lib.ListN.{length};
 ghost use Rattle.code.specs.Coding.{Coded, dec};
 ghost use Rattle.form_write.specs.Write.{textOf};
-ghost use Rattle.reply.specs.definitions.Reply.{fitted};
-ghost use Rattle.reply.specs.definitions.Buffers.{resultAfter};
-ghost use Rattle.door_result.specs.Result.{writtenOf, refusedOf};
-
-// How many bytes of text were written, or the refusal's number, side and place.
-pub enum Written {
-    Text(usize),
-    Refused(u32, Side, usize),
-}
-
-// The refusal of a text that was read.
-pub fn refused(reading: Read, side: Side) -> Written
-    ensures { λ r. ⌜ r ≡ refusedOf reading side ⌝ }
-{
-    match reading {
-        Read::Refused(e, p) => Written::Refused(e, side, p),
-        Read::Form(n) => Written::Text(n),
-    }
-}
+ghost use Rattle.reply.specs.definitions.Reply.{fitted, resultAfter};
+ghost use Rattle.door_result.specs.Result.{writtenOf};
 
 // Writes the text of the form x into the result buffer if it has room.
 pub fn write_result(x: &[u32], result: &mut [u8]) -> Written
@@ -35,7 +17,7 @@ pub fn write_result(x: &[u32], result: &mut [u8]) -> Written
 {
     let n = form_write::text_length(x);
     if result.len() < n {
-        return Written::Refused(11, Side::Neither, 0);
+        return Written::Refused(refusal::of_neither(11));
     }
     let k = form_write::write_text(x, result);
     Written::Text(k)

@@ -1,28 +1,39 @@
 // Two terms read one after the other: their coded forms stand side by side in the last table.
-use door::Read;
-use door::Side;
+use refusal::Refusal;
+use refusal::Side;
+use term_read::TermReading;
 ghost use mathlib.Core.Bool.{true};
 ghost use mathlib.Core.Path.{_≡_};
 ghost use Prim.Native.Nat.{_≤_};
 ghost use lib.ListN.{length};
 ghost use Rattle.text.specs.definitions.Bytes.{isRow};
-ghost use Rattle.door.specs.Door.{Long};
+ghost use Rattle.code.specs.Lengths.{Long};
 ghost use Rattle.term_read.specs.Read.{TermRead};
-ghost use Rattle.door_terms.specs.Terms.{PairRead, pairRefused};
+ghost use Rattle.door_terms.specs.Terms.{PairRead, begun, ended};
 
-// How many words the left form and the right form take, or the refusal's number, side and place.
-pub enum Pair {
+// How many words the left form and the right form take, or the refusal.
+pub enum TermPair {
     Forms(usize, usize),
-    Refused(u32, Side, usize),
+    Refused(Refusal),
 }
 
-// The refusal of one text.
-fn refused(reading: Read, side: Side) -> Pair
-    ensures { λ r. ⌜ r ≡ pairRefused reading side ⌝ }
+// The pair when its left text has been read, and nothing stands behind it yet.
+fn begun(left: TermReading) -> TermPair
+    ensures { λ r. ⌜ r ≡ begun left ⌝ }
 {
-    match reading {
-        Read::Refused(e, p) => Pair::Refused(e, side, p),
-        Read::Form(n) => Pair::Forms(n, 0),
+    match left {
+        TermReading::Refused(fault) => TermPair::Refused(refusal::on_side(Side::Left, fault)),
+        TermReading::Form(k) => TermPair::Forms(k, 0),
+    }
+}
+
+// The pair when its right text has been read behind a left form of k words.
+fn ended(k: usize, right: TermReading) -> TermPair
+    ensures { λ r. ⌜ r ≡ ended k right ⌝ }
+{
+    match right {
+        TermReading::Refused(fault) => TermPair::Refused(refusal::on_side(Side::Right, fault)),
+        TermReading::Form(m) => TermPair::Forms(k, m),
     }
 }
 
@@ -34,13 +45,13 @@ fn read_into(
     b: &mut [u32],
     c: &mut [u32],
     d: &mut [u32],
-) -> Read
+) -> TermReading
     requires { ⌜ isRow (now row) ≡ true ⌝ }
     requires { ⌜ Long (length (now a)) (length (now b)) (length (now c)) (length (now d)) ⌝ }
     ensures { λ r. ⌜ TermRead (now (row .entry)) (now (s .entry)) r (now (d .exit)) ⌝ }
 {
     let reading = term_read::read_term(row, s, a, b, c, d);
-    let Read::Form(n) = reading else {
+    let TermReading::Form(n) = reading else {
         return reading;
     };
     code::copy(&a[..n], d);
@@ -56,18 +67,15 @@ pub fn read_pair(
     b: &mut [u32],
     c: &mut [u32],
     d: &mut [u32],
-) -> Pair
+) -> TermPair
     requires { ⌜ isRow (now row) ≡ true ⌝ }
     requires { ⌜ Long (length (now a)) (length (now b)) (length (now c)) (length (now d)) × (16384 ≤ length (now d)) ⌝ }
     ensures { λ r. ⌜ PairRead (now (row .entry)) (now (s .entry)) (now (t .entry)) r (now (d .exit)) ⌝ }
 {
-    let first = read_into(row, s, a, b, c, d);
-    let Read::Form(k) = first else {
-        return refused(first, Side::Left);
+    let left = begun(read_into(row, s, a, b, c, d));
+    let TermPair::Forms(k, _) = left else {
+        return left;
     };
-    let second = read_into(row, t, a, b, c, &mut d[k..]);
-    let Read::Form(m) = second else {
-        return refused(second, Side::Right);
-    };
-    Pair::Forms(k, m)
+    let right = read_into(row, t, a, b, c, &mut d[k..]);
+    ended(k, right)
 }

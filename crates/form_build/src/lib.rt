@@ -2,6 +2,7 @@
 use code::NODE;
 use form_normal::Seen;
 use measure::Measures;
+use refusal::Fault;
 ghost use mathlib.Core.Path.{_≡_};
 ghost use Prim.Native.Nat.{_+_, _≤_, min, max};
 ghost use lib.IntN.{ℤ};
@@ -119,10 +120,10 @@ fn measure_at(s: &[u8], at: usize) -> Measured
     }
 }
 
-// The answer on the text of a form: its measures, or the refusal's number and place.
-pub enum Judged {
+// The answer on the text of a form: its measures, or what is wrong.
+pub enum FormJudged {
     Form(Measures),
-    Refused(u32, usize),
+    Refused(Fault),
 }
 
 // The terms of the zero polynomial are 1.
@@ -140,25 +141,31 @@ fn at_least_one(a: Measures) -> Measures
 }
 
 // A normal form by its measures: refusals 8, 9, 10.
-fn limited(a: Measures) -> Judged
+fn limited(a: Measures) -> FormJudged
     ensures { λ r. ⌜ r ≡ limitedM a ⌝ }
 {
     let e = measure::limit_of(a);
     if e == 0 {
-        return Judged::Form(a);
+        return FormJudged::Form(a);
     }
-    Judged::Refused(e, 0)
+    FormJudged::Refused(Fault {
+        number: e,
+        place: 0,
+    })
 }
 
 // Judges the text of a form over a row of m: refusal 7, then 8, 9, 10; or its measures.
-pub fn judge_text(m: usize, s: &[u8]) -> Judged
+pub fn judge_text(m: usize, s: &[u8]) -> FormJudged
     requires { ⌜ m ≤ 4 ⌝ }
     requires { ⌜ IsRead (now s) ⌝ }
     ensures { λ r. ⌜ r ≡ judgedOf m (acceptForm m (now (s .entry))) ⌝ }
 {
     let seen = form_normal::judge_at(m, s, 0);
     match seen {
-        Seen::Wrong(p) => Judged::Refused(7, p),
+        Seen::Wrong(p) => FormJudged::Refused(Fault {
+            number: 7,
+            place: p,
+        }),
         Seen::Fine(_, _) => {
             let measured = measure_at(s, 0);
             let a = measured.found;

@@ -34,7 +34,7 @@ powSeen left i p q at next =
 -- the place of the node that is refused, or the shape and the place behind
 abbrev pub seen : Reading (Form ℤ) → ℕ → ℕ → Seen
 seen (read f) shape next = Fine shape next
-seen (refused e p) shape next = Wrong p
+seen (refused bad) shape next = Wrong (bad .place)
 
 -- of whatever form stands at the place, at a level of a row of which `left` variables are left
 abbrev pub SeenAt : (left : ℕ) (s : List ℕ) (at : ℕ) → Seen → Type 0

@@ -2,9 +2,9 @@
 use lib.IntN.{ℤ}
 use Rattle.horner.specs.definitions.Form.{Form as HForm}
 use Rattle.text.specs.definitions.Answer.{Reading, read, refused}
-use Rattle.form_syntax.specs.declared.Syntax.{Syntax}
-use Rattle.form_syntax.specs.declared.Syntax.the-variants.{Form, Refused}
+use Rattle.form_syntax.specs.declared.FormSyntax.{FormSyntax}
+use Rattle.form_syntax.specs.declared.FormSyntax.the-variants.{Form, Refused}
 
-abbrev pub formSyntaxOf : Reading (HForm ℤ) → Syntax
+abbrev pub formSyntaxOf : Reading (HForm ℤ) → FormSyntax
 formSyntaxOf (read f) = Form
-formSyntaxOf (refused e p) = Refused e p
+formSyntaxOf (refused bad) = Refused bad

@@ -26,11 +26,11 @@ isAt s p b = ltb p (length s) && eqb (getD s p 0) b
 -- a part lies within the text and is not empty
 abbrev pub Within : List ℕ → ℕ → Part → Type 0
 Within s at (On e) = (at < e) × (e ≤ length s)
-Within s at (Off n q) = Unit {0}
+Within s at (Off bad) = Unit {0}
 
 abbrev pub after : Part → (ℕ → Reading (Unit {0})) → Reading (Unit {0})
 after (On e) f = f e
-after (Off n q) f = refused n q
+after (Off bad) f = refused bad
 
 -- the part leads the walk from the stand a to the stand b, or ends it; us and vs are what the open parentheses wait for
 pub record Takes (s : List ℕ) (at : ℕ) (r : Part) (a : Stand) (us : List Wait) (b : Stand) (vs : List Wait) : Type 0 where

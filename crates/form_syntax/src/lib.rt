@@ -1,4 +1,5 @@
 // Whether a text is a form's text: one function for each part of a form, which answers the place behind the part, or the refusal. Nothing is built.
+use refusal::Fault;
 ghost use mathlib.Core.Path.{_≡_};
 ghost use mathlib.Core.Bool.{false};
 ghost use Prim.Native.Nat.{_≤_};
@@ -7,15 +8,16 @@ ghost use Rattle.text.specs.definitions.FormReading.{readForm};
 ghost use Rattle.form_syntax.specs.Answer.{formSyntaxOf};
 ghost use Rattle.form_syntax.specs.Found.{isAt, Expects, DigitsAt, NaturalAt, IntAt, IndexAt, LettersAt, FormAt, LastAt, PopAt, PowAt};
 
-pub enum Syntax {
+// The text is a form's, or what is wrong with it.
+pub enum FormSyntax {
     Form,
-    Refused(u32, usize),
+    Refused(Fault),
 }
 
-// The place behind a part, or the refusal's number and place.
+// The place behind a part, or what is wrong.
 enum Part {
     On(usize),
-    Off(u32, usize),
+    Off(Fault),
 }
 
 // Whether the byte b stands at a place.
@@ -35,7 +37,10 @@ fn expect(s: &[u8], at: usize, b: u8) -> Part
     if is_at(s, at, b) {
         return Part::On(at + 1);
     }
-    Part::Off(4, at)
+    Part::Off(Fault {
+        number: 4,
+        place: at,
+    })
 }
 
 // The place behind the digits.
@@ -58,7 +63,10 @@ fn natural_at(s: &[u8], at: usize) -> Part
     ensures { λ r. ⌜ NaturalAt (now (s .entry)) at r ⌝ }
 {
     if s.len() <= at {
-        return Part::Off(4, at);
+        return Part::Off(Fault {
+            number: 4,
+            place: at,
+        });
     }
     let b = s[at];
     let i = at + 1;
@@ -66,7 +74,10 @@ fn natural_at(s: &[u8], at: usize) -> Part
         return Part::On(i);
     }
     if !text_word::is_digit(b) {
-        return Part::Off(4, at);
+        return Part::Off(Fault {
+            number: 4,
+            place: at,
+        });
     }
     Part::On(digits_at(s, i))
 }
@@ -81,7 +92,10 @@ fn int_at(s: &[u8], at: usize) -> Part
     }
     let i = at + 1;
     if is_at(s, i, 48) {
-        return Part::Off(4, i);
+        return Part::Off(Fault {
+            number: 4,
+            place: i,
+        });
     }
     natural_at(s, i)
 }
@@ -120,7 +134,10 @@ fn form_at(s: &[u8], at: usize, depth: usize) -> Part
         return int_at(s, at);
     }
     if 256 <= depth {
-        return Part::Off(6, at);
+        return Part::Off(Fault {
+            number: 6,
+            place: at,
+        });
     }
     let name = letters_at(s, at + 1);
     let Part::On(n) = name else {
@@ -132,7 +149,10 @@ fn form_at(s: &[u8], at: usize, depth: usize) -> Part
     if is_at(s, n, 87) {
         return pow_at(s, n + 1, depth + 1);
     }
-    Part::Off(4, n)
+    Part::Off(Fault {
+        number: 4,
+        place: n,
+    })
 }
 
 // The last form of a parenthesis, and the `)`.
@@ -177,20 +197,26 @@ fn pow_at(s: &[u8], at: usize, depth: usize) -> Part
 }
 
 // Whether s is a form's text, or the refusal 3, 4 or 6 and its place.
-pub fn judge_form(s: &[u8]) -> Syntax
+pub fn judge_form(s: &[u8]) -> FormSyntax
     ensures { λ r. ⌜ r ≡ formSyntaxOf (readForm (now (s .entry))) ⌝ }
 {
     if 65535 < s.len() {
-        return Syntax::Refused(3, 0);
+        return FormSyntax::Refused(Fault {
+            number: 3,
+            place: 0,
+        });
     }
     let part = form_at(s, 0, 0);
     match part {
-        Part::Off(n, q) => Syntax::Refused(n, q),
+        Part::Off(fault) => FormSyntax::Refused(fault),
         Part::On(e) => {
             if e == s.len() {
-                return Syntax::Form;
+                return FormSyntax::Form;
             }
-            Syntax::Refused(4, e)
+            FormSyntax::Refused(Fault {
+                number: 4,
+                place: e,
+            })
         }
     }
 }

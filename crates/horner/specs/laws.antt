@@ -1,9 +1,11 @@
 pub mod Ring
 pub mod Integers
+pub mod Modulus
 pub mod Residues
 pub mod Tests
 pub mod Compare
 pub mod Value
+pub mod Product
 pub mod Equations
 pub mod Normal
 pub mod Evalh

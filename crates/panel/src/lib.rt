@@ -1,19 +1,13 @@
 // The calls that the panel's build tool makes from C: compare, form and remainder, on numbers and slices. An enum cannot cross, so each answers a struct of
 // numbers; specs/Panel says which. include/panel.h is the same for C.
-use call_compare::Compared;
-use door::Side;
-use door_point::Remaindered;
-use door_result::Written;
-ghost use mathlib.Core.List.{[], _∷_};
+use refusal::Refusal;
+use refusal::Side;
+use reply::Compared;
+use reply::Remaindered;
+use reply::Written;
 ghost use mathlib.Core.Path.{_≡_};
-ghost use lib.ListN.{length};
-ghost use Rattle.reply.specs.definitions.Buffers.{resultAfter, Tables};
-ghost use Rattle.reply.specs.definitions.Compare.{compareReply, pointAfter};
-ghost use Rattle.reply.specs.definitions.Terms.{formReply, remainderReply};
-ghost use Rattle.door_result.specs.Result.{writtenOf};
-ghost use Rattle.call_compare.specs.Compare.{comparedOf};
-ghost use Rattle.door_point.specs.Point.{remainderedOf};
-ghost use Rattle.panel.specs.Panel.{sideNumber, refusal, ofWritten, ofCompared, ofRemaindered};
+ghost use Rattle.reply.specs.definitions.Reply.{work};
+ghost use Rattle.panel.specs.Panel.{sideNumber, refusalAnswer, PanelCompareCall, PanelFormCall, PanelRemainderCall};
 
 // kind: 0 same, written, or a remainder; 1 different; 2 refused. Then, of a refusal, its number, its side (0 neither, 1 left, 2 right) and its place; of 'different'
 // both remainders; of a text its length; of a remainder itself.
@@ -37,16 +31,17 @@ fn side_number(side: Side) -> u32
     }
 }
 
-fn refused(number: u32, side: Side, place: usize) -> PanelAnswer
-    ensures { λ r. ⌜ r ≡ refusal number side place ⌝ }
+fn refused(bad: Refusal) -> PanelAnswer
+    ensures { λ r. ⌜ r ≡ refusalAnswer bad ⌝ }
 {
+    let side = bad.side;
     PanelAnswer {
         kind: 2,
-        number,
+        number: bad.number,
         side: side_number(side),
         left: 0,
         right: 0,
-        place,
+        place: bad.place,
     }
 }
 
@@ -62,9 +57,9 @@ pub extern "C" fn panel_compare(
     c: &mut [u32],
     d: &mut [u32],
 ) -> PanelAnswer
-    ensures { λ r. ⌜ r ≡ ofCompared (comparedOf (compareReply (now (row .entry)) (length (now (a .entry)) ∷ length (now (b .entry)) ∷ length (now (c .entry)) ∷ length (now (d .entry)) ∷ []) (length (now (point .entry))) (now (s .entry)) (now (t .entry)))) ⌝ }
-    ensures { λ _. ⌜ now (point .exit) ≡ pointAfter (compareReply (now (row .entry)) (length (now (a .entry)) ∷ length (now (b .entry)) ∷ length (now (c .entry)) ∷ length (now (d .entry)) ∷ []) (length (now (point .entry))) (now (s .entry)) (now (t .entry))) (now (point .entry)) ⌝ }
-    ensures { λ _. ⌜ Tables (compareReply (now (row .entry)) (length (now (a .entry)) ∷ length (now (b .entry)) ∷ length (now (c .entry)) ∷ length (now (d .entry)) ∷ []) (length (now (point .entry))) (now (s .entry)) (now (t .entry))) (now (a .entry)) (now (b .entry)) (now (c .entry)) (now (d .entry)) (now (a .exit)) (now (b .exit)) (now (c .exit)) (now (d .exit)) ⌝ }
+    ensures { λ r. ⌜ PanelCompareCall (now (row .entry)) (now (s .entry)) (now (t .entry)) r (now (point .entry)) (now (point .exit))
+        (work (now (a .entry)) (now (b .entry)) (now (c .entry)) (now (d .entry)))
+        (work (now (a .exit)) (now (b .exit)) (now (c .exit)) (now (d .exit))) ⌝ }
 {
     let answer = call_compare::compare(row, s, t, point, a, b, c, d);
     match answer {
@@ -84,7 +79,7 @@ pub extern "C" fn panel_compare(
             right: y,
             place: 0,
         },
-        Compared::Refused(e, side, p) => refused(e, side, p),
+        Compared::Refused(bad) => refused(bad),
     }
 }
 
@@ -99,9 +94,9 @@ pub extern "C" fn panel_form(
     c: &mut [u32],
     d: &mut [u32],
 ) -> PanelAnswer
-    ensures { λ r. ⌜ r ≡ ofWritten (writtenOf (formReply (now (row .entry)) (length (now (a .entry)) ∷ length (now (b .entry)) ∷ length (now (c .entry)) ∷ length (now (d .entry)) ∷ []) (now (s .entry)) (length (now (result .entry))))) ⌝ }
-    ensures { λ _. ⌜ now (result .exit) ≡ resultAfter (formReply (now (row .entry)) (length (now (a .entry)) ∷ length (now (b .entry)) ∷ length (now (c .entry)) ∷ length (now (d .entry)) ∷ []) (now (s .entry)) (length (now (result .entry)))) (now (result .entry)) ⌝ }
-    ensures { λ _. ⌜ Tables (formReply (now (row .entry)) (length (now (a .entry)) ∷ length (now (b .entry)) ∷ length (now (c .entry)) ∷ length (now (d .entry)) ∷ []) (now (s .entry)) (length (now (result .entry)))) (now (a .entry)) (now (b .entry)) (now (c .entry)) (now (d .entry)) (now (a .exit)) (now (b .exit)) (now (c .exit)) (now (d .exit)) ⌝ }
+    ensures { λ r. ⌜ PanelFormCall (now (row .entry)) (now (s .entry)) r (now (result .entry)) (now (result .exit))
+        (work (now (a .entry)) (now (b .entry)) (now (c .entry)) (now (d .entry)))
+        (work (now (a .exit)) (now (b .exit)) (now (c .exit)) (now (d .exit))) ⌝ }
 {
     let answer = call_form::form(row, s, result, a, b, c, d);
     match answer {
@@ -113,7 +108,7 @@ pub extern "C" fn panel_form(
             right: 0,
             place: n,
         },
-        Written::Refused(e, side, p) => refused(e, side, p),
+        Written::Refused(bad) => refused(bad),
     }
 }
 
@@ -128,8 +123,9 @@ pub extern "C" fn panel_remainder(
     c: &mut [u32],
     d: &mut [u32],
 ) -> PanelAnswer
-    ensures { λ r. ⌜ r ≡ ofRemaindered (remainderedOf (remainderReply (now (row .entry)) (length (now (a .entry)) ∷ length (now (b .entry)) ∷ length (now (c .entry)) ∷ length (now (d .entry)) ∷ []) (now (s .entry)) (now (point .entry)))) ⌝ }
-    ensures { λ _. ⌜ Tables (remainderReply (now (row .entry)) (length (now (a .entry)) ∷ length (now (b .entry)) ∷ length (now (c .entry)) ∷ length (now (d .entry)) ∷ []) (now (s .entry)) (now (point .entry))) (now (a .entry)) (now (b .entry)) (now (c .entry)) (now (d .entry)) (now (a .exit)) (now (b .exit)) (now (c .exit)) (now (d .exit)) ⌝ }
+    ensures { λ r. ⌜ PanelRemainderCall (now (row .entry)) (now (s .entry)) (now (point .entry)) r
+        (work (now (a .entry)) (now (b .entry)) (now (c .entry)) (now (d .entry)))
+        (work (now (a .exit)) (now (b .exit)) (now (c .exit)) (now (d .exit))) ⌝ }
 {
     let answer = call_remainder::remainder(row, s, point, a, b, c, d);
     match answer {
@@ -141,6 +137,6 @@ pub extern "C" fn panel_remainder(
             right: 0,
             place: 0,
         },
-        Remaindered::Refused(e, side, p) => refused(e, side, p),
+        Remaindered::Refused(bad) => refused(bad),
     }
 }

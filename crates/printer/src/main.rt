@@ -1,5 +1,5 @@
 // The printer: a formula book from standard input, one line per entry on standard output.
-use door_result::Written;
+use reply::Written;
 
 // Writes the text at the front of out. With buffers of these lengths no answer is refused.
 fn write_answer(answer: Written, out: &[u8]) {
@@ -9,7 +9,7 @@ fn write_answer(answer: Written, out: &[u8]) {
                 io::write_all(1, &out[..n]);
             }
         }
-        Written::Refused(_, _, _) => {}
+        Written::Refused(_) => {}
     }
 }
 

@@ -1,2 +1,2 @@
--- The calls of the library: what each answers for every input, and what every lent buffer holds afterwards.
+-- What each call replies for every input, and its contract: the answer, and what every lent buffer then holds.
 pub mod definitions

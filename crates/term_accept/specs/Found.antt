@@ -6,6 +6,7 @@ use mathlib.Core.List.{List, [], _∷_, _++_}
 use Prim.Native.Nat.{ℕ, _+_, _≤_, _<_, min}
 use lib.Dec.{eqb}
 use lib.ListN.{length, getD}
+use Rattle.refusal.specs.Refusal.{fault}
 use Rattle.text.specs.definitions.Answer.{read, refused}
 use Rattle.text.specs.definitions.Bytes.{capital, inRow, indexIn}
 use Rattle.text.specs.definitions.Limits.{measured}
@@ -34,7 +35,7 @@ letterM i = of 1 1 (pick (eqb i 0) 1 0) (pick (eqb i 1) 1 0) (pick (eqb i 2) 1 0
 
 -- a subterm at p with these measures, which ends before nx
 abbrev pub judged : Measures → ℕ → Reader → Sub
-judged m p nx = pick (eqb (limitM m) 0) (Done m nx) (Refused (limitM m) p)
+judged m p nx = pick (eqb (limitM m) 0) (Done m nx) (Refused (fault (limitM m) p))
 
 -- a word that is an operand
 abbrev pub wordM : List ℕ → List ℕ → ℕ → Reader → Sub
@@ -43,13 +44,13 @@ wordM row w p nx =
 
 -- a subterm that is done lies within the text and the limits
 abbrev pub Safe : List ℕ → ℕ → Sub → Type 0
-Safe s at (Refused e p) = Unit {0}
+Safe s at (Refused bad) = Unit {0}
 Safe s at (Done m nx) = Small m × ((at < nx .at) × (nx .at ≤ length s))
 Safe s at Broken = Unit {0}
 
 -- judged by the measures m, at p; the tokens behind it are rest
 abbrev pub Judges : List ℕ → Measures → ℕ → List Token → Sub → Type 0
-Judges s m p rest (Refused e q) = (q ≡ p) × ((e ≡ limitM m) × (limitM m ≡ 0 → ⊥))
+Judges s m p rest (Refused bad) = (bad .place ≡ p) × ((bad .number ≡ limitM m) × (limitM m ≡ 0 → ⊥))
 Judges s m p rest (Done m′ nx) = (m′ ≡ m) × ((limitM m ≡ 0) × (from s (nx .at) ≡ rest))
 Judges s m p rest Broken = ⊥
 
@@ -60,7 +61,7 @@ pub record Closes (s : List ℕ) (at : ℕ) (m : Measures) (p : ℕ) (r : Sub) :
 
 -- a power with the exponent w, where a `)` stands behind it
 abbrev pub Raises : List ℕ → Measures → ℕ → ℕ → List Token → Sub → Type 0
-Raises s a p k rest r = ((63 < k) × (r ≡ Refused 8 p)) ⊎ ((k ≤ 63) × Judges s (powM a k) p rest r)
+Raises s a p k rest r = ((63 < k) × (r ≡ Refused (fault 8 p))) ⊎ ((k ≤ 63) × Judges s (powM a k) p rest r)
 
 pub record Powers (s w : List ℕ) (at : ℕ) (a : Measures) (p : ℕ) (r : Sub) : Type 0 where
   pub safe : Safe s at r
@@ -73,7 +74,7 @@ pub record Stands (row s : List ℕ) (at : ℕ) (x : Tree) (rest : List Token) :
 
 -- what is found of it
 abbrev pub Finds : List ℕ → List ℕ → Tree → List Token → Sub → Type 0
-Finds row s x rest (Refused e p) = measured row x ≡ refused e p
+Finds row s x rest (Refused bad) = measured row x ≡ refused bad
 Finds row s x rest (Done m nx) = (measured row x ≡ read x) × ((m ≡ measuresOf (length row) (termOf row x)) × (from s (nx .at) ≡ rest))
 Finds row s x rest Broken = ⊥
 

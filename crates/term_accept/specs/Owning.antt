@@ -7,7 +7,7 @@ use native.Mathlib.Omega.{arith}
 use lib.ListN.{length}
 use Rattle.horner.specs.definitions.Measures.{degreesOf}
 use Rattle.horner.specs.laws.Limits.{length-degreesOf}
-use Rattle.text.specs.definitions.Answer.{Reading, read, refused, fine}
+use Rattle.text.specs.definitions.Answer.{Reading, read, refused, refusedAt, fine}
 use Rattle.text.specs.definitions.Bytes.{capital, inRow}
 use Rattle.text.specs.definitions.Limits.{exponentFits, passes, measured}
 use Rattle.text.specs.definitions.Tokens.{Token}
@@ -25,7 +25,7 @@ fine-zero : {A : Type 0} (n p : ℕ) (r : Unit {0} → Reading A) → n ≡ 0 �
 fine-zero zero p r e = refl
 fine-zero (suc n) p r e = absurd (omega arith)
 
-fine-refused : {A : Type 0} (n p : ℕ) (r : Unit {0} → Reading A) → (n ≡ 0 → ⊥) → fine n p r ≡ refused n p
+fine-refused : {A : Type 0} (n p : ℕ) (r : Unit {0} → Reading A) → (n ≡ 0 → ⊥) → fine n p r ≡ refusedAt n p
 fine-refused zero p r k = absurd (k refl)
 fine-refused (suc n) p r k = refl
 
@@ -35,7 +35,7 @@ module _ (row s : List ℕ) (four : length row ≤ 4) where
 
   -- what is found of the node itself, its parts being within the limits
   abbrev pub Owns : Tree → List Token → Sub → Type 0
-  Owns t rest (Refused e q) = own t ≡ refused e q
+  Owns t rest (Refused bad) = own t ≡ refused bad
   Owns t rest (Done m nx) = (own t ≡ read t) × ((m ≡ measuresOf (length row) (termOf row t)) × (from s (nx .at) ≡ rest))
   Owns t rest Broken = ⊥
 
@@ -43,16 +43,16 @@ module _ (row s : List ℕ) (four : length row ≤ 4) where
   short t l = subst (λ n. n ≤ 4) (sym (length-degreesOf (length row) (termOf row t) (letters-over row t l))) four
 
   pub finds : (t : Tree) (rest : List Token) → measured row t ≡ own t → (r : Sub) → Owns t rest r → Finds row s t rest r
-  finds t rest f (Refused e q) o = f ∙ o
+  finds t rest f (Refused bad) o = f ∙ o
   finds t rest f (Done m nx) o = (f ∙ o .0, o .1)
   finds t rest f Broken o = absurd o
 
   module _ (t : Tree) (l : letters (λ b. capital b && inRow row b) t ≡ true) (x : exponentFits t ≡ true) (m : Measures) (M : Meets row t m) (p : ℕ) (e : p ≡ startOf t) (rest : List Token) where
     pub owns : (r : Sub) → Judges s m p rest r → Owns t rest r
-    owns (Refused n q) J =
+    owns (Refused bad) J =
         let z : passes row t ≡ limitM m = same-number row t (short t l) x m M in
-        let a : own t ≡ refused (passes row t) (startOf t) = fine-refused (passes row t) (startOf t) (λ u. read t) (λ h. J .1 .1 (sym z ∙ h)) in
-        a ∙ ap (λ k. refused k (startOf t)) (z ∙ sym (J .1 .0)) ∙ ap (refused n) (sym e ∙ sym (J .0))
+        let a : own t ≡ refusedAt (passes row t) (startOf t) = fine-refused (passes row t) (startOf t) (λ u. read t) (λ h. J .1 .1 (sym z ∙ h)) in
+        a ∙ ap (λ k. refusedAt k (startOf t)) (z ∙ sym (J .1 .0)) ∙ ap (refusedAt (bad .number)) (sym e ∙ sym (J .0))
     owns (Done m′ nx) J =
         let z : passes row t ≡ 0 = same-number row t (short t l) x m M ∙ J .1 .0 in
         (fine-zero (passes row t) (startOf t) (λ u. read t) z, (J .0 ∙ is-exact row t (short t l) x m M (J .1 .0), J .1 .1))

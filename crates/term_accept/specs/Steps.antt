@@ -86,7 +86,7 @@ module _ (s : List ℕ) (at : ℕ) (l : at ≤ length s) where
   -- ---- an exponent
   module _ (a : Measures) (p : ℕ) where
     later : (n : ℕ) → at < n → (r : Sub) → Safe s n r → Safe s at r
-    later n h (Refused e q) g = tt
+    later n h (Refused bad) g = tt
     later n h (Done m nx) g = (g .0, (omega (arith, g .1 .0), g .1 .1))
     later n h Broken g = tt
 

@@ -8,8 +8,9 @@ use native.Mathlib.Omega.{arith}
 use lib.Dec.{eqb, leb}
 use lib.ListN.{length}
 use borrow.Author.Tests.{eq-eqb, ne-eqb, eqb-false, le-leb, lt-leb}
+use Rattle.refusal.specs.declared.Fault.{Fault}
 use Rattle.horner.specs.definitions.Measures.{degreesOf}
-use Rattle.text.specs.definitions.Answer.{Reading, read, refused, fine}
+use Rattle.text.specs.definitions.Answer.{Reading, read, refused, refusedAt, fine}
 use Rattle.text.specs.definitions.Bytes.{bytes, all}
 use Rattle.text.specs.definitions.Limits.{weightFits, termsFit, passes, measured}
 use Rattle.text.specs.definitions.Numerals.{dec}
@@ -35,7 +36,7 @@ use Rattle.term_accept.specs.Owning.{own, Owns, owns, finds, short}
 use Rattle.term_accept.specs.Inside.{fit, Inside, is-neg, is-two, is-power, inside, sign-code}
 
 pub later : (s : List ℕ) (at n : ℕ) → at ≤ n → (r : Sub) → Safe s n r → Safe s at r
-later s at n h (Refused e q) g = tt
+later s at n h (Refused bad) g = tt
 later s at n h (Done m nx) g = (g .0, (omega (arith, h, g .1 .0), g .1 .1))
 later s at n h Broken g = tt
 
@@ -44,7 +45,7 @@ done-safe s at r h a nx e = subst (Safe s at) e h
 
 -- a subterm that is not done
 pub data Stops : Sub → Type 0 where
-  by-refusal : (e p : ℕ) → Stops (Refused e p)
+  by-refusal : (bad : Fault) → Stops (Refused bad)
   by-break : Stops Broken
 
 meets-self : (row : List ℕ) (x : Tree) (m : Measures) → m ≡ measuresOf (length row) (termOf row x) → Meets row x m
@@ -55,7 +56,7 @@ first-8 : (b d w k : Bool) → b ≡ false → _≡_ {A = ℕ} (elim (b && d) [ 
 first-8 false d w k e = refl
 first-8 true d w k e = absurd (true≢false e)
 
-fine-8 : {A : Type 0} (n p : ℕ) (r : Unit {0} → Reading A) → n ≡ 8 → fine n p r ≡ refused 8 p
+fine-8 : {A : Type 0} (n p : ℕ) (r : Unit {0} → Reading A) → n ≡ 8 → fine n p r ≡ refusedAt 8 p
 fine-8 n p r e = ap (λ k. fine k p r) e
 
 -- ---- up to the first part: the `(` at p, the operator
@@ -85,14 +86,14 @@ module _ (row s : List ℕ) (four : length row ≤ 4) (at p : ℕ) (n₁ : Reade
     first-stops S = record { safe = later s at (op .next .at) before r (R .safe); found = λ t rest T. by r S t rest (inside row s at p (from s (n₁ .at)) rest t opens T) refl }
       where
         by : (r′ : Sub) → Stops r′ → (t : Tree) (rest : List Token) → Inside row p (from s (n₁ .at)) rest t → r ≡ r′ → Finds row s t rest r
-        by r′ (by-refusal e q) t rest (is-neg p′ o c x h k l) f =
-            let m : measured row x ≡ refused e q = subst (Finds row s x (closing c ∷ rest)) f (first-neg o c x rest k l) in
+        by r′ (by-refusal bad) t rest (is-neg p′ o c x h k l) f =
+            let m : measured row x ≡ refused bad = subst (Finds row s x (closing c ∷ rest)) f (first-neg o c x rest k l) in
             subst (Finds row s t rest) (sym f) (measured-neg row p′ o c x ∙ ap (λ (z : Reading Tree). andThen z (own row s four (neg p′ o c x))) m)
-        by r′ (by-refusal e q) t rest (is-two p′ o c g x y h k l m′) f =
-            let m : measured row x ≡ refused e q = subst (Finds row s x (placed y ++ (closing c ∷ rest))) f (first-two o c g x y rest k l) in
+        by r′ (by-refusal bad) t rest (is-two p′ o c g x y h k l m′) f =
+            let m : measured row x ≡ refused bad = subst (Finds row s x (placed y ++ (closing c ∷ rest))) f (first-two o c g x y rest k l) in
             subst (Finds row s t rest) (sym f) (measured-two row p′ o c g x y ∙ ap (λ (z : Reading Tree). andThen z (andThen (measured row y) (own row s four (two p′ o c g x y)))) m)
-        by r′ (by-refusal e q) t rest (is-power p′ o c x q′ n h k l) f =
-            let m : measured row x ≡ refused e q = subst (Finds row s x (word q′ (dec n) ∷ closing c ∷ rest)) f (first-power o c x q′ n rest k l) in
+        by r′ (by-refusal bad) t rest (is-power p′ o c x q′ n h k l) f =
+            let m : measured row x ≡ refused bad = subst (Finds row s x (word q′ (dec n) ∷ closing c ∷ rest)) f (first-power o c x q′ n rest k l) in
             subst (Finds row s t rest) (sym f) (measured-power row p′ o c x q′ n ∙ ap (λ (z : Reading Tree). andThen z (own row s four (power p′ o c x q′ n))) m)
         by r′ by-break t rest (is-neg p′ o c x h k l) f = absurd (subst (Finds row s x (closing c ∷ rest)) f (first-neg o c x rest k l))
         by r′ by-break t rest (is-two p′ o c g x y h k l m′) f = absurd (subst (Finds row s x (placed y ++ (closing c ∷ rest))) f (first-two o c g x y rest k l))
@@ -119,7 +120,7 @@ module _ (row s : List ℕ) (four : length row ≤ 4) (at p : ℕ) (n₁ : Reade
           → Owns row s four (power p′ o c x q n) rest e
       power-owns p′ o c x q n h l f rest e (inl (g, z)) =
           let t = power p′ o c x q n in
-          subst (Owns row s four t rest) (sym z) (fine-8 (passes row t) p′ (λ u. read t) (first-8 (leb n 63) (all (λ d. leb d 63) (degreesOf (length row) (termOf row t))) (weightFits row t) (termsFit row t) (lt-leb n 63 g)) ∙ ap (refused 8) (sym h))
+          subst (Owns row s four t rest) (sym z) (fine-8 (passes row t) p′ (λ u. read t) (first-8 (leb n 63) (all (λ d. leb d 63) (degreesOf (length row) (termOf row t))) (weightFits row t) (termsFit row t) (lt-leb n 63 g)) ∙ ap (refusedAt 8) (sym h))
       power-owns p′ o c x q n h l f rest e (inr (g, J)) =
           let t = power p′ o c x q n in
           let M : Meets row t (powM a n) = subst (λ m. Meets row t (powM m n)) (sym f) (meets-power row four p′ o c x q n (short row s four t l)) in
@@ -188,8 +189,8 @@ module _ (row s : List ℕ) (four : length row ≤ 4) (at p : ℕ) (n₁ : Reade
               by r′ S′ t rest (is-neg p′ o c x h k l) f = not-neg o c x rest n k l
               by r′ S′ t rest (is-power p′ o c x q n h k l) f = not-power o c x q n rest k
               by r′ by-break t rest (is-two p′ o c g x y h k l m) f = absurd (subst (Finds row s y (closing c ∷ rest)) f (second o c g x y rest k l m))
-              by r′ (by-refusal e q) t rest (is-two p′ o c g x y h k l m) f =
-                  let u : measured row y ≡ refused e q = subst (Finds row s y (closing c ∷ rest)) f (second o c g x y rest k l m) in
+              by r′ (by-refusal bad) t rest (is-two p′ o c g x y h k l m) f =
+                  let u : measured row y ≡ refused bad = subst (Finds row s y (closing c ∷ rest)) f (second o c g x y rest k l m) in
                   let w = own row s four (two p′ o c g x y) in
                   subst (Finds row s t rest) (sym f)
                   (measured-two row p′ o c g x y ∙ ap (λ (z : Reading Tree). andThen z (andThen (measured row y) w)) (done-two o c g x y rest k l .0) ∙ ap (λ (z : Reading Tree). andThen z w) u)

@@ -1,6 +1,7 @@
 // The measures of every subterm of a term's text, in order of finishing, and the first that passes a limit.
 use measure::Measures;
-use term_syntax::Syntax;
+use refusal::Fault;
+use term_syntax::TermSyntax;
 use term_token::Reader;
 use term_token::Step;
 ghost use mathlib.Core.Path.{_≡_};
@@ -15,9 +16,9 @@ ghost use Rattle.term_syntax.specs.Answer.{syntaxOf};
 ghost use Rattle.measure.specs.Measure.{addM, mulM, Small};
 ghost use Rattle.term_accept.specs.Found.{judged, magnitudeOf, wordM, Closes, Powers, OperatorAt, ClosingAt, ExponentAt, MeasuredAt};
 
-// What is found of a subterm: the refusal's number and place; its measures, with the reader past it; or that none stands there.
+// What is found of a subterm: what is wrong; its measures, with the reader past it; or that none stands there.
 pub enum Sub {
-    Refused(u32, usize),
+    Refused(Fault),
     Done(Measures, Reader),
     Broken,
 }
@@ -30,7 +31,10 @@ fn judge(m: Measures, p: usize, reader: Reader) -> Sub
     if e == 0 {
         return Sub::Done(m, reader);
     }
-    Sub::Refused(e, p)
+    Sub::Refused(Fault {
+        number: e,
+        place: p,
+    })
 }
 
 // The magnitude of an integer's text, cut down above the limit of weights.
@@ -107,7 +111,10 @@ fn powered(s: &[u8], w: &[u8], a: Measures, p: usize, reader: Reader) -> Sub
     }
     let k = text_word::cut_value(w, 64);
     if 63 < k {
-        return Sub::Refused(8, p);
+        return Sub::Refused(Fault {
+            number: 8,
+            place: p,
+        });
     }
     closed(s, measure::raise(a, k), p, reader)
 }
@@ -243,20 +250,23 @@ fn measure(row: &[u8], s: &[u8], reader: Reader) -> Sub
 }
 
 // Whether s is an accepted term over the row, or the refusal 3, 4, 5, 6, 8, 9 or 10 and its place.
-pub fn accept_term(row: &[u8], s: &[u8]) -> Syntax
+pub fn accept_term(row: &[u8], s: &[u8]) -> TermSyntax
     requires { ⌜ length (now row) ≤ 4 ⌝ }
     ensures { λ r. ⌜ r ≡ syntaxOf (acceptTerm (now (row .entry)) (now (s .entry))) ⌝ }
 {
     let first = term_syntax::judge_term(row, s);
-    let Syntax::Term = first else {
+    let TermSyntax::Term = first else {
         return first;
     };
     let reader = Reader::new();
     let found = measure(row, s, reader);
     match found {
-        Sub::Refused(e, p) => Syntax::Refused(e, p),
-        Sub::Done(_, _) => Syntax::Term,
+        Sub::Refused(fault) => TermSyntax::Refused(fault),
+        Sub::Done(_, _) => TermSyntax::Term,
         // no term is broken
-        Sub::Broken => Syntax::Refused(4, 0),
+        Sub::Broken => TermSyntax::Refused(Fault {
+            number: 4,
+            place: 0,
+        }),
     }
 }

@@ -11,10 +11,10 @@ use native.Mathlib.Numerals.{add-one}
 use lib.Dec.{ltb, leb}
 use lib.ListN.{length, take, drop}
 use borrow.Author.Tests.{ltb-true, le-leb}
-use Rattle.text.specs.definitions.Answer.{Reading, read, refused, fine}
+use Rattle.text.specs.definitions.Answer.{Reading, read, refusedAt, fine}
 use Rattle.text.specs.definitions.Bytes.{bytes, same, inRow}
 use Rattle.text.specs.definitions.Numerals.{readNat}
-use Rattle.text.specs.definitions.Tokens.{Token, opening, closing, word, placeOf, pastOf, tokens}
+use Rattle.text.specs.definitions.Tokens.{Token, opening, closing, word, placeOf, tokens}
 use Rattle.text.specs.definitions.Tree.{add, sub, mul, Tree, neg, two, power}
 use Rattle.text.specs.definitions.Reading.{Frame, first, second, base, Spot, operand, operator, exponent, ending, raised, Next, on, whole, off, deliver, deliverSome, leaf, operatorWord, raise, closeShort, letterCheck, step, caseNext, check, onlyEnd, run, readTerm}
 use Rattle.term_token.specs.declared.Reader.{Reader}
@@ -27,8 +27,8 @@ use Rattle.term_syntax.specs.declared.Moved.{Moved}
 use Rattle.term_syntax.specs.declared.Moved.the-variants.{On, Whole, Off}
 use Rattle.term_syntax.specs.declared.Turning.{Turning}
 use Rattle.term_syntax.specs.declared.Turning.the-variants as T
-use Rattle.term_syntax.specs.declared.Syntax.{Syntax}
-use Rattle.term_syntax.specs.declared.Syntax.the-variants.{Term, Refused}
+use Rattle.term_syntax.specs.declared.TermSyntax.{TermSyntax}
+use Rattle.term_syntax.specs.declared.TermSyntax.the-variants.{Term, Refused}
 use Rattle.term_syntax.specs.Answer.{syntaxOf, endOf}
 use Rattle.term_syntax.specs.Machine.{Small, Sane, openC, closeC, wordC, turnOf, turnC}
 use Rattle.term_syntax.specs.Codes.{frameCode, frame-range, stackCode, spotCode, stateOf, Turned, go, done, stop, nextA, checked, movedA, turnA, code-open, code-close}
@@ -43,12 +43,12 @@ module _ (known room : ℕ → Bool) (n : ℕ) where
   abbrev after : Token → Turned → List Token → Reading Tree
   after k (go s fs) ks = run known room n s fs ks
   after k (done t) ks = onlyEnd known room t ks
-  after k (stop e) ks = refused e (placeOf k)
+  after k (stop e) ks = refusedAt e (placeOf k)
 
   run-turn : (s : Spot) (fs : List Frame) (k : Token) (ks : List Token) → run known room n s fs (k ∷ ks) ≡ after k (turnA known room s fs k) ks
   run-turn s fs k ks = at (step s fs k) (check known room (length fs) k)
     where
-      at : (x : Next) (e : ℕ) → caseNext x (refused 4 (placeOf k)) (λ s′ fs′. fine e (placeOf k) (λ u. run known room n s′ fs′ ks)) (λ t. fine e (placeOf k) (λ u. onlyEnd known room t ks))
+      at : (x : Next) (e : ℕ) → caseNext x (refusedAt 4 (placeOf k)) (λ s′ fs′. fine e (placeOf k) (λ u. run known room n s′ fs′ ks)) (λ t. fine e (placeOf k) (λ u. onlyEnd known room t ks))
           ≡ after k (checked e (nextA x)) ks
       at (on s′ fs′) zero = refl
       at (on s′ fs′) (suc e) = refl
@@ -224,7 +224,7 @@ follows-sane row s reader state f = subst Sane (sym (f .is)) (sane (f .spot) (f 
 abbrev pub Leads : List ℕ → List ℕ → Reader → Turning → Type 0
 Leads row s reader (T.On st nx) = Follows row s nx st × (reader .at < nx .at)
 Leads row s reader (T.Whole nx) = (nx .at ≤ length s) × (endOf (from s (nx .at)) ≡ syntaxOf (readTerm row s))
-Leads row s reader (T.Refused e p) = Refused e p ≡ syntaxOf (readTerm row s)
+Leads row s reader (T.Refused bad) = Refused bad ≡ syntaxOf (readTerm row s)
 
 only-end : (known room : ℕ → Bool) (t : Tree) (ks : List Token) → endOf ks ≡ syntaxOf (onlyEnd known room t ks)
 only-end known room t [] = refl
@@ -271,7 +271,7 @@ module _ (row s : List ℕ) (reader : Reader) (state : State) (F : Follows row s
 -- ---- at the beginning
 starts-right : (row s : List ℕ) → length s ≤ 4096 → run (inRow row) sixteen (length s) operand [] (tokens 0 s) ≡ readTerm row s
 unfolding readTerm
-starts-right row s h = sym (ap (λ b. elim b [ true ↦ run (inRow row) sixteen (length s) operand [] (tokens 0 s) | false ↦ refused 3 0 ]) (le-leb (length s) 4096 h))
+starts-right row s h = sym (ap (λ b. elim b [ true ↦ run (inRow row) sixteen (length s) operand [] (tokens 0 s) | false ↦ refusedAt 3 0 ]) (le-leb (length s) 4096 h))
 
 pub follows-start : (row s : List ℕ) (reader : Reader) → reader .at ≡ 0 → length s ≤ 4096 → Follows row s reader (stateOf operand [])
 follows-start row s reader e h =

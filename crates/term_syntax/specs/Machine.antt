@@ -4,6 +4,7 @@ use mathlib.Core.List.{List, [], _∷_}
 use Prim.Native.Nat.{ℕ, _+_, _-_, _*_, _/_, _%_, _<_}
 use lib.Dec.{eqb, ltb}
 use lib.ListN.{length, getD}
+use Rattle.refusal.specs.Refusal.{fault}
 use Rattle.text.specs.definitions.Bytes.{capital, indexIn}
 use Rattle.text.specs.definitions.Numerals.{canonical}
 use Rattle.text.specs.definitions.Tokens.{Token, opening, closing, word}
@@ -61,11 +62,11 @@ openC st = pick (eqb (st .spot) 0) (pick (ltb (st .depth) 16) (goes 1 (st .stack
 abbrev pub turnOf : Moved → ℕ → Reader → Turning
 turnOf (On st) p nx = T.On st nx
 turnOf Whole p nx = T.Whole nx
-turnOf (Off e) p nx = T.Refused e p
+turnOf (Off e) p nx = T.Refused (fault e p)
 
 -- n is the text's length
 abbrev pub turnC : List ℕ → ℕ → State → List Token → Turning
-turnC row n st [] = T.Refused 4 n
+turnC row n st [] = T.Refused (fault 4 n)
 turnC row n st (opening p ∷ ks) = turnOf (openC st) p (record { at = p + 1 })
 turnC row n st (closing p ∷ ks) = turnOf (closeC st) p (record { at = p + 1 })
 turnC row n st (word p w ∷ ks) = turnOf (wordC row w st) p (record { at = p + length w })

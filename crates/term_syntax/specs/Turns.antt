@@ -5,6 +5,7 @@ use Prim.Native.Nat.{ℕ, _+_, _-_, _≤_, _<_}
 use native.Mathlib.Omega.{arith}
 use lib.ListN.{length, take, drop, length-drop}
 use lib.Seq.{length-take-le}
+use Rattle.refusal.specs.Refusal.{fault}
 use Rattle.text.specs.definitions.Tokens.{Token, opening, closing, word}
 use Rattle.term_token.specs.declared.Reader.{Reader}
 use Rattle.term_token.specs.declared.Step.{Step}
@@ -12,7 +13,7 @@ use Rattle.term_token.specs.declared.Step.the-variants.{Open, Close, Word, End}
 use Rattle.term_token.specs.Steps.{stepOf}
 use Rattle.term_token.specs.Views.{from, Says, says, Opened, Closed, Worded}
 use Rattle.term_syntax.specs.declared.State.{State}
-use Rattle.term_syntax.specs.declared.Syntax.the-variants.{Term, Refused}
+use Rattle.term_syntax.specs.declared.TermSyntax.the-variants.{Term, Refused}
 use Rattle.term_syntax.specs.declared.Turning.the-variants as T
 use Rattle.term_syntax.specs.Answer.{endOf}
 use Rattle.term_syntax.specs.Machine.{openC, closeC, wordC, turnOf, turnC}
@@ -23,7 +24,7 @@ module _ (s : List ℕ) (at : ℕ) (l : at ≤ length s) where
   told r e = subst (Says s at) e (says s at l)
 
   module _ (row : List ℕ) (n : ℕ) (st : State) where
-    pub turn-end : stepOf (from s at) ≡ End → T.Refused 4 n ≡ turnC row n st (from s at)
+    pub turn-end : stepOf (from s at) ≡ End → T.Refused (fault 4 n) ≡ turnC row n st (from s at)
     turn-end e = sym (ap (turnC row n st) (told End e))
 
     module _ (p : ℕ) (nx : Reader) where
@@ -54,11 +55,11 @@ module _ (s : List ℕ) (at : ℕ) (l : at ≤ length s) where
   end-end e = sym (ap endOf (told End e))
 
   module _ (p : ℕ) (nx : Reader) where
-    pub end-open : stepOf (from s at) ≡ Open p nx → Refused 4 p ≡ endOf (from s at)
+    pub end-open : stepOf (from s at) ≡ Open p nx → Refused (fault 4 p) ≡ endOf (from s at)
     end-open e = sym (ap endOf (told (Open p nx) e .first))
 
-    pub end-close : stepOf (from s at) ≡ Close p nx → Refused 4 p ≡ endOf (from s at)
+    pub end-close : stepOf (from s at) ≡ Close p nx → Refused (fault 4 p) ≡ endOf (from s at)
     end-close e = sym (ap endOf (told (Close p nx) e .first))
 
-    pub end-word : stepOf (from s at) ≡ Word p nx → Refused 4 p ≡ endOf (from s at)
+    pub end-word : stepOf (from s at) ≡ Word p nx → Refused (fault 4 p) ≡ endOf (from s at)
     end-word e = sym (ap endOf (told (Word p nx) e .first))

@@ -1,4 +1,5 @@
 // Whether a text is a term: token by token, with a small number for what may come and one for each open parenthesis. Nothing is built.
+use refusal::Fault;
 use term_token::Reader;
 use term_token::Step;
 ghost use mathlib.Core.Path.{_≡_};
@@ -23,16 +24,17 @@ pub enum Moved {
     Off(u32),
 }
 
-// What a token leads to: on, the whole term, or a refusal's number and place.
+// What a token leads to: on, the whole term, or what is wrong.
 pub enum Turning {
     On(State, Reader),
     Whole(Reader),
-    Refused(u32, usize),
+    Refused(Fault),
 }
 
-pub enum Syntax {
+// The text is a term, or what is wrong with it.
+pub enum TermSyntax {
     Term,
-    Refused(u32, usize),
+    Refused(Fault),
 }
 
 // A finished operand goes to the parenthesis that waits for it.
@@ -186,7 +188,7 @@ fn turn_of(m: Moved, p: usize, next: Reader) -> Turning
     match m {
         Moved::On(state) => Turning::On(state, next),
         Moved::Whole => Turning::Whole(next),
-        Moved::Off(e) => Turning::Refused(e, p),
+        Moved::Off(number) => Turning::Refused(Fault { number, place: p }),
     }
 }
 
@@ -197,7 +199,10 @@ fn turn(row: &[u8], s: &[u8], state: State, reader: Reader) -> Turning
 {
     let step = reader.next(s);
     match step {
-        Step::End => Turning::Refused(4, s.len()),
+        Step::End => Turning::Refused(Fault {
+            number: 4,
+            place: s.len(),
+        }),
         Step::Open(p, next) => turn_of(open(state), p, next),
         Step::Close(p, next) => turn_of(close(state), p, next),
         Step::Word { from, next } => {
@@ -208,25 +213,37 @@ fn turn(row: &[u8], s: &[u8], state: State, reader: Reader) -> Turning
 }
 
 // Behind the whole term nothing may stand.
-fn ending(s: &[u8], reader: Reader) -> Syntax
+fn ending(s: &[u8], reader: Reader) -> TermSyntax
     requires { ⌜ reader .at ≤ length (now s) ⌝ }
     ensures { λ r. ⌜ r ≡ endOf (tokens (reader .at) (drop (reader .at) (now (s .entry)))) ⌝ }
 {
     let step = reader.next(s);
     match step {
-        Step::End => Syntax::Term,
-        Step::Open(p, _) => Syntax::Refused(4, p),
-        Step::Close(p, _) => Syntax::Refused(4, p),
-        Step::Word { from, next: _ } => Syntax::Refused(4, from),
+        Step::End => TermSyntax::Term,
+        Step::Open(p, _) => TermSyntax::Refused(Fault {
+            number: 4,
+            place: p,
+        }),
+        Step::Close(p, _) => TermSyntax::Refused(Fault {
+            number: 4,
+            place: p,
+        }),
+        Step::Word { from, next: _ } => TermSyntax::Refused(Fault {
+            number: 4,
+            place: from,
+        }),
     }
 }
 
 // Whether s is a term over the row, or the refusal 3, 4, 5 or 6 and its place.
-pub fn judge_term(row: &[u8], s: &[u8]) -> Syntax
+pub fn judge_term(row: &[u8], s: &[u8]) -> TermSyntax
     ensures { λ r. ⌜ r ≡ syntaxOf (readTerm (now (row .entry)) (now (s .entry))) ⌝ }
 {
     if 4096 < s.len() {
-        return Syntax::Refused(3, 0);
+        return TermSyntax::Refused(Fault {
+            number: 3,
+            place: 0,
+        });
     }
     let mut reader = Reader::new();
     let mut state = State {
@@ -237,8 +254,8 @@ pub fn judge_term(row: &[u8], s: &[u8]) -> Syntax
     loop {
         let t = turn(row, s, state, reader);
         match t {
-            Turning::Refused(e, p) => {
-                return Syntax::Refused(e, p);
+            Turning::Refused(fault) => {
+                return TermSyntax::Refused(fault);
             }
             Turning::Whole(next) => {
                 return ending(s, next);

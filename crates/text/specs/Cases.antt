@@ -23,20 +23,20 @@ pub data Case : Type 0 where
 
 abbrev pub isText : List ℕ → Reading Tree → List ℕ → Bool
 isText row (read t) s = same (text (normℤ (termOf row t))) s
-isText row (refused e p) s = false
+isText row (refused bad) s = false
 
 abbrev pub isRefused : Reading Tree → ℕ → ℕ → Bool
 isRefused (read t) e p = false
-isRefused (refused e′ p′) e p = eqb e′ e && eqb p′ p
+isRefused (refused bad) e p = eqb (bad .number) e && eqb (bad .place) p
 
 abbrev pub isPoint : ℕ → Term → Term → List ℕ → ℕ → ℕ → Bool
 isPoint n f g N l r = same (firstPoint P-ring (sides n f g) (gap f g)) N && (eqb (evalP f N .0) l && eqb (evalP g N .0) r)
 
 abbrev pub areDifferent : List ℕ → Reading Tree → Reading Tree → List ℕ → ℕ → ℕ → Bool
 areDifferent row (read t) (read u) N l r = isPoint (length row) (termOf row t) (termOf row u) N l r
-areDifferent row (read t) (refused e p) N l r = false
-areDifferent row (refused e p) (read u) N l r = false
-areDifferent row (refused e p) (refused e′ p′) N l r = false
+areDifferent row (read t) (refused bad) N l r = false
+areDifferent row (refused bad) (read u) N l r = false
+areDifferent row (refused bad) (refused bad′) N l r = false
 
 abbrev pub holds : Case → Bool
 unfolding acceptTerm dec

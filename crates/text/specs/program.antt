@@ -1,4 +1,2 @@
--- What a program may keep instead: the same answers (text_laws/Kinds, FormWalk, Capped), from less.
-pub mod Kinds
+-- What a program may keep instead: the same answers (text_laws/FormWalk), from less.
 pub mod FormKinds
-pub mod Capped

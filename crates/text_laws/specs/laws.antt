@@ -1,10 +1,8 @@
--- bytes, integers, tokens
+-- bytes and integers
 pub mod Lists
 pub mod Bytes
 pub mod Numerals
 pub mod Prefixes
-pub mod Tokens
-pub mod Cut
 pub mod Words
 -- a text reads as a term exactly when its tokens are the term's (Reading); where and why it is refused (Refused)
 pub mod Sofar
@@ -14,12 +12,10 @@ pub mod Begun
 pub mod Open
 pub mod Places
 pub mod Refused
-pub mod Alike
 pub mod Exactly
--- the measures of every subterm (Measured); a text is accepted exactly when .. (Accepted); the spans of subterms (Spans)
+-- the measures of every subterm (Measured); a text is accepted exactly when .. (Accepted)
 pub mod Measured
 pub mod Accepted
-pub mod Spans
 pub mod Rows
 -- the same for form texts (FormReading, FormRefused, FormAccepted), and the places of nodes (FormNodes)
 pub mod FormSofar
@@ -38,8 +34,6 @@ pub mod Length
 pub mod Result
 -- for programs
 pub mod Picks
-pub mod Kinds
 pub mod FormKinds
 pub mod FormWalk
-pub mod Capped
 pub mod Descent

@@ -1,10 +1,11 @@
 // What came back, on standard output.
-use call_compare::Compared;
-use call_counters::Counted;
-use call_judge::Verdict;
-use door::Side;
-use door_point::Remaindered;
-use door_result::Written;
+use refusal::Refusal;
+use refusal::Side;
+use reply::Compared;
+use reply::Counted;
+use reply::Judged;
+use reply::Remaindered;
+use reply::Written;
 
 // How many words are not 0.
 pub fn dirty(t: &[u32]) -> u64 {
@@ -27,11 +28,12 @@ fn say_side(side: Side) -> bool {
     }
 }
 
-pub fn say_refused(number: u32, side: Side, place: usize) {
+pub fn say_refused(bad: Refusal) {
+    let side = bad.side;
     io::write_all(1, b"REFUSED ");
-    io::print_decimal(1, number as u64);
+    io::print_decimal(1, bad.number as u64);
     say_side(side);
-    io::print_decimal(1, place as u64);
+    io::print_decimal(1, bad.place as u64);
 }
 
 pub fn say_written(answer: Written) {
@@ -40,7 +42,7 @@ pub fn say_written(answer: Written) {
             io::write_all(1, b"TEXT ");
             io::print_decimal(1, n as u64);
         }
-        Written::Refused(e, side, p) => say_refused(e, side, p),
+        Written::Refused(bad) => say_refused(bad),
     }
 }
 
@@ -50,7 +52,7 @@ pub fn say_remainder(answer: Remaindered) {
             io::write_all(1, b"REMAINDER ");
             io::print_decimal(1, n as u64);
         }
-        Remaindered::Refused(e, side, p) => say_refused(e, side, p),
+        Remaindered::Refused(bad) => say_refused(bad),
     }
 }
 
@@ -65,7 +67,7 @@ pub fn say_compared(answer: Compared) {
             io::write_all(1, b" ");
             io::print_decimal(1, r as u64);
         }
-        Compared::Refused(e, side, p) => say_refused(e, side, p),
+        Compared::Refused(bad) => say_refused(bad),
     }
 }
 
@@ -77,16 +79,16 @@ pub fn say_counted(answer: Counted) {
         Counted::Different => {
             io::write_all(1, b"DIFF");
         }
-        Counted::Refused(e, side, p) => say_refused(e, side, p),
+        Counted::Refused(bad) => say_refused(bad),
     }
 }
 
-pub fn say_judged(answer: Verdict) {
+pub fn say_judged(answer: Judged) {
     match answer {
-        Verdict::Form => {
+        Judged::Form => {
             io::write_all(1, b"YES");
         }
-        Verdict::Refused(e, side, p) => say_refused(e, side, p),
+        Judged::Refused(bad) => say_refused(bad),
     }
 }
 

@@ -5,9 +5,9 @@ use crate::lent::width;
 use crate::saying::say_compared;
 use crate::saying::say_counted;
 use crate::saying::say_remainder;
-use call_compare::Compared;
-use call_counters::Counted;
-use door_point::Remaindered;
+use reply::Compared;
+use reply::Counted;
+use reply::Remaindered;
 
 fn try_remainder(
     k: u32,

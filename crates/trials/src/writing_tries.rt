@@ -1,7 +1,7 @@
 // Each call with a result text, on what is lent in try k.
 use crate::lent::given;
 use crate::lent::room;
-use door_result::Written;
+use reply::Written;
 
 fn try_form(
     k: u32,

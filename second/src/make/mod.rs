@@ -1,7 +1,6 @@
-//! Makers of random requests, books and coded vectors, all from a seed.
+//! Makers of random requests and books, all from a seed.
 
 pub mod books;
-pub mod coded;
 pub mod damage;
 pub mod edges;
 pub mod forms;

@@ -7,7 +7,6 @@ mod makers;
 mod places;
 mod readings;
 mod refusals;
-mod vectors;
 
 use crate::desk;
 

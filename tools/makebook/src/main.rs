@@ -59,11 +59,11 @@ fn say(text: &str) -> Result<(), String> {
 
 /// Makes the book and returns what is to be said of it.
 fn make(row: &[u8], file: &Path, out: &Path) -> Result<String, String> {
-    book_print::check_row(row)?;
+    book::check_row(row)?;
     let text = read(file).map_err(|error| format!("{}: {error}", file.display()))?;
     let target = output::target(file, out)?;
     let book = formulas::split(&text)
-        .and_then(|formulas| book_print::make(row, &formulas))
+        .and_then(|formulas| book::make(row, &formulas))
         .map_err(|fault| fault.text(file))?;
     output::put(&target, &book.bytes)
         .map_err(|error| format!("{}: not written: {error}", out.display()))?;

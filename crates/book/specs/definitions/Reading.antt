@@ -4,18 +4,18 @@ use mathlib.Core.List.{List, [], _∷_}
 use Prim.Native.Nat.{ℕ, zero, suc, _+_, _*_}
 use lib.Dec.{eqb, leb}
 use lib.ListN.{length, take, drop, getD}
-use Rattle.text.specs.definitions.Answer.{Reading, read, refused}
+use Rattle.text.specs.definitions.Answer.{Reading, read, refused, refusedAt}
 use Rattle.text.specs.definitions.Bytes.{isRow}
 
 -- what was read is handed on; the first refusal stays
 abbrev pub onward : {A B : Type 0} → Reading A → (A → Reading B) → Reading B
 onward (read a) r = r a
-onward (refused e p) r = refused e p
+onward (refused bad) r = refused bad
 
 -- "13 names the start of the first wrong field": p, unless the test holds
 abbrev pub right : {A : Type 0} → Bool → ℕ → (Unit {0} → Reading A) → Reading A
 right true p r = r tt
-right false p r = refused 13 p
+right false p r = refusedAt 13 p
 
 -- "the book's length if a field is cut": k bytes at the place p
 abbrev pub whole : {A : Type 0} → (book : List ℕ) (p k : ℕ) → (Unit {0} → Reading A) → Reading A
@@ -77,4 +77,4 @@ headed book =
 
 -- "3: .. book over 65,535", place 0
 unfoldable pub readBook : List ℕ → Reading Book
-readBook book = elim (leb (length book) 65535) [ true ↦ headed book | false ↦ refused 3 0 ]
+readBook book = elim (leb (length book) 65535) [ true ↦ headed book | false ↦ refusedAt 3 0 ]

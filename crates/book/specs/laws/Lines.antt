@@ -4,31 +4,34 @@ use mathlib.Core.Path.{_≡_, sym, ap, _∙_}
 use Prim.Native.Nat.{ℕ, suc, _+_}
 use lib.ListN.{length}
 use native.Mathlib.Omega.{arith}
+use Rattle.refusal.specs.declared.Side.the-variants.{Left, Right}
+use Rattle.refusal.specs.Refusal.{onSide}
+use Rattle.refusal.specs.declared.Fault.{Fault}
 use Rattle.text.specs.definitions.Answer.{Reading, read, refused}
 use Rattle.text.specs.definitions.Limits.{acceptTerm}
 use Rattle.text.specs.definitions.Tree.{termOf}
 use Rattle.reply.specs.definitions.Compare.{Verdict, compareOf, verdictOf}
-use Rattle.reply.specs.definitions.Reply.{Reply, Side, gives, refuses, left, right, neither, readAs}
+use Rattle.reply.specs.definitions.Reply.{Reply, gives, refuses, readAs}
 use Rattle.book.specs.definitions.Reading.{Entry}
 use Rattle.book.specs.definitions.Answer.{entryLine, entryLines}
 
 -- a reply with a value, or a refusal of the left or the right text
 pub data Sided {A : Type 0} : Reply A → Type 0 where
   given : {a : A} → Sided (gives a)
-  on-left : {e p : ℕ} → Sided (refuses e left p)
-  on-right : {e p : ℕ} → Sided (refuses e right p)
+  on-left : {bad : Fault} → Sided (refuses (onSide Left bad))
+  on-right : {bad : Fault} → Sided (refuses (onSide Right bad))
 
 -- no comparison of two bodies is refused on neither side
 pub sided : (row s t : List ℕ) → Sided (compareOf row s t)
 sided row s t = first (acceptTerm row s)
   where
-    second : (x : Reading _) (n : ℕ) (f : _) → Sided (readAs right x (λ g. gives (verdictOf n f (termOf row g))))
+    second : (x : Reading _) (n : ℕ) (f : _) → Sided (readAs Right x (λ g. gives (verdictOf n f (termOf row g))))
     second (read g) n f = given
-    second (refused e p) n f = on-right
+    second (refused bad) n f = on-right
 
-    first : (x : Reading _) → Sided (readAs left x (λ f. readAs right (acceptTerm row t) (λ g. gives (verdictOf (length row) (termOf row f) (termOf row g)))))
+    first : (x : Reading _) → Sided (readAs Left x (λ f. readAs Right (acceptTerm row t) (λ g. gives (verdictOf (length row) (termOf row f) (termOf row g)))))
     first (read f) = second (acceptTerm row t) (length row) (termOf row f)
-    first (refused e p) = on-left
+    first (refused bad) = on-left
 
 -- the lines of the entries before another and of those behind it are the same, whatever its bodies are
 pub lines-apart :

@@ -5,8 +5,8 @@ use native.Mathlib.Omega.{arith}
 use lib.ListN.{length}
 use Rattle.text_laws.specs.laws.Length.{dec-length}
 use Rattle.form_write.specs.Write.{numeral}
-use Rattle.door.specs.declared.Side.{Side}
-use Rattle.door.specs.declared.Side.the-variants.{Left, Right, Neither}
+use Rattle.refusal.specs.declared.Side.{Side}
+use Rattle.refusal.specs.declared.Side.the-variants.{Left, Right, Neither}
 use Rattle.book_line.specs.Lines.{refusedStart}
 
 -- of a number of 64 bits

@@ -4,10 +4,14 @@ use mathlib.Core.Path.{_≡_, refl, sym, ap, _∙_}
 use Prim.Native.Nat.{ℕ}
 use lib.ListN.{length, take, drop}
 use lib.Seq.{take-at}
+use Rattle.refusal.specs.Refusal.{fault, onSide}
+use Rattle.refusal.specs.declared.Fault.{Fault}
+use Rattle.refusal.specs.declared.Side.{Side}
+use Rattle.refusal.specs.declared.Side.the-variants.{Left, Right, Neither}
 use Rattle.text.specs.definitions.Bytes.{bytes}
 use Rattle.text.specs.definitions.Numerals.{dec}
 use Rattle.reply.specs.definitions.Compare.{Verdict, different, compareOf, pointAfter}
-use Rattle.reply.specs.definitions.Reply.{Reply, Side, gives, refuses, left, right, neither}
+use Rattle.reply.specs.definitions.Reply.{Reply, gives, refuses}
 use Rattle.book.specs.definitions.Answer.{line, numbers, verdict, entryLine, bookLines}
 use Rattle.call_compare.specs.Compare.{comparedOf}
 use Rattle.call_compare.specs.laws.Sized.{Sized, alike, apart, refusal, compare-sized}
@@ -19,11 +23,11 @@ line-numbers f [] l r = ap (λ w. f ++ (32 ∷ w)) (sym (append-assoc (dec l) (3
 line-numbers f (x ∷ N) l r =
     ap (λ w. f ++ (32 ∷ w)) (line-numbers (dec x) N l r ∙ sym (append-assoc (dec x) (32 ∷ []) (parted N ++ (spaced l ++ ended r))) ∙ sym (append-assoc (spaced x) (parted N) (spaced l ++ ended r)))
 
-refused-line : (i e p : ℕ) (s : Side) (N : List ℕ) → entryText i (comparedOf (refuses e s p)) N ≡ line (dec i ∷ verdict (refuses e s p))
+refused-line : (i : ℕ) (s : Side) (e p : ℕ) (N : List ℕ) → let bad = onSide s (fault e p) in entryText i (comparedOf (refuses bad)) N ≡ line (dec i ∷ verdict (refuses bad))
 unfolding entryText
-refused-line i e p left N = simp append-assoc
-refused-line i e p right N = simp append-assoc
-refused-line i e p neither N = simp append-assoc
+refused-line i Left e p N = simp append-assoc
+refused-line i Right e p N = simp append-assoc
+refused-line i Neither e p N = simp append-assoc
 
 entry-sized : {n : ℕ} {x : Reply Verdict} (i : ℕ) (p : List ℕ) → Sized n x → entryText i (comparedOf x) (take n (pointAfter x p)) ≡ line (dec i ∷ verdict x)
 unfolding entryText
@@ -32,7 +36,7 @@ entry-sized {n} i p (apart {N} {l} {r} h) =
     ap (λ z. entryText i (comparedOf (gives (different N l r))) z) (take-at N (drop (length N) p) n h)
     ∙ append-assoc (dec i) (32 ∷ []) _
     ∙ ap (λ w. dec i ++ (32 ∷ w)) (append-assoc (bytes "DIFF " ++ parted N) (spaced l) (ended r) ∙ append-assoc (bytes "DIFF ") (parted N) (spaced l ++ ended r) ∙ sym (line-numbers (bytes "DIFF") N l r))
-entry-sized {n} i b (refusal {e} {p} {s}) = refused-line i e p s (take n b)
+entry-sized {n} i b (refusal {bad}) = refused-line i (bad .side) (bad .number) (bad .place) (take n b)
 
 pub entry-is : (row s t : List ℕ) (i : ℕ) (p : List ℕ) →
     entryText i (comparedOf (compareOf row s t)) (take (length row) (pointAfter (compareOf row s t) p)) ≡ entryLine row i s t
@@ -44,6 +48,6 @@ pub head-is : (n m : ℕ) → headText n m ≡ line (bytes "BOOK" ∷ dec n ∷ 
 unfolding headText
 head-is n m = simp append-assoc
 
-pub refusal-is : (e p : ℕ) → refusalText e p ≡ line (bytes "BOOK" ∷ bytes "REFUSED" ∷ dec e ∷ dec p ∷ [])
+pub refusal-is : (bad : Fault) → refusalText bad ≡ line (bytes "BOOK" ∷ bytes "REFUSED" ∷ dec (bad .number) ∷ dec (bad .place) ∷ [])
 unfolding refusalText
-refusal-is e p = simp append-assoc
+refusal-is bad = simp append-assoc

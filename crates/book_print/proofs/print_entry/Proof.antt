@@ -2,6 +2,7 @@
 use mathlib.Core.Path.{sym}
 use native.Mathlib.Omega.{arith}
 use lib.ListN.{length}
+use Rattle.call_compare.specs.Compare.{is-compared}
 use lib.Seq.{length-take-le}
 use Rattle.form_write.specs.laws.Wrote.{wrote-as}
 use Rattle.book_print.specs.laws.Entry.{entry-line}
@@ -134,7 +135,7 @@ returns c =
     let s = start .args in (
       wrote-as (c .before .before .put-entry .ensures .0)
           (entry-line (s .book .now) (s .n) (s .p) (s .at) (start .pre .0 .0) (length (s .a .now)) (length (s .b .now)) (length (s .c .now)) (length (s .d .now)) 4
-          (number-at .result) (number-at2 .result) (s .i) _ (start .pre .1 .0) (omega arith) (number-at .ensures .0) (number-at2 .ensures .0) (compare .ensures .0) (compare .ensures .1 .0)),
+          (number-at .result) (number-at2 .result) (s .i) _ (start .pre .1 .0) (omega arith) (number-at .ensures .0) (number-at2 .ensures .0) (is-compared (compare .ensures)) (compare .ensures .point)),
       c .before .before .put-entry .ensures .1,
     )
 

@@ -9,7 +9,7 @@ use Rattle.reply.specs.definitions.Compare.{compareOf, compareReply, pointAfter
 use Rattle.book.specs.definitions.Reading.{number16, part}
 use Rattle.door.specs.laws.Door.{Open, enough-four}
 use Rattle.call_compare.specs.Compare.{comparedOf}
-use Rattle.call_compare.specs.declared.Compared.{Compared}
+use Rattle.reply.specs.declared.Compared.{Compared}
 use Rattle.call_compare.specs.laws.Whole.{compare-open}
 use Rattle.book_line.specs.Lines.{entryText}
 use Rattle.book_line.specs.laws.Texts.{entry-is}

@@ -8,7 +8,7 @@ use borrow.Author.Tests.{leb-true, leb-false, le-leb}
 use lib.Dec.{leb}
 use lib.ListN.{length, take, drop, getD, length-drop}
 use lib.Seq.{length-take-le}
-use Rattle.text.specs.definitions.Answer.{Reading, read, refused}
+use Rattle.text.specs.definitions.Answer.{Reading, read}
 use Rattle.text.specs.definitions.Bytes.{bytes, isRow}
 use Rattle.text.specs.definitions.Numerals.{dec}
 use Rattle.text_laws.specs.laws.Bytes.{and-l, and-r}

@@ -22,10 +22,6 @@ pub record WasRead {A : Type 0} (x : Reading A) : Type 0 where
   pub value : A
   pub is : x ≡ read value
 
-pub fine-read : {A : Type 0} (x : Reading A) → headOf x ≡ Fine → WasRead x
-fine-read (read a) h = record { value = a; is = refl }
-fine-read (refused e p) h = let z : _≡_ {A = ℕ} 0 1 = cc in absurd (omega arith)
-
 pub fine-right : {A : Type 0} (b : Bool) (p : ℕ) (r : Unit {0} → Reading A) → headOf (right b p r) ≡ Fine → (b ≡ true) × (headOf (r tt) ≡ Fine)
 fine-right true p r h = (refl, h)
 fine-right false p r h = let z : _≡_ {A = ℕ} 0 1 = cc in absurd (omega arith)
@@ -37,7 +33,7 @@ pub record Onward {A B : Type 0} (x : Reading A) (r : A → Reading B) : Type 0 
 
 pub fine-onward : {A B : Type 0} (x : Reading A) (r : A → Reading B) → headOf (onward x r) ≡ Fine → Onward x r
 fine-onward (read a) r h = record { value = a; is = refl; then = h }
-fine-onward (refused e p) r h = let z : _≡_ {A = ℕ} 0 1 = cc in absurd (omega arith)
+fine-onward (refused bad) r h = let z : _≡_ {A = ℕ} 0 1 = cc in absurd (omega arith)
 
 -- ---- the first of k entries
 module _ (book : List ℕ) (p at : ℕ) where

@@ -8,18 +8,17 @@ use borrow.Author.Tests.{le-leb, lt-leb, leb-true}
 use lib.Dec.{leb}
 use lib.ListN.{length, take, drop}
 use lib.Seq.{take-at}
+use Rattle.refusal.specs.Refusal.{ofNeither}
+use Rattle.refusal.specs.declared.Fault.{Fault}
 use Rattle.text.specs.definitions.Answer.{Reading, read, refused}
 use Rattle.text_laws.specs.laws.Bytes.{and-l, and-r}
-use Rattle.reply.specs.definitions.Buffers.{Tables, untouched, resultAfter}
-use Rattle.reply.specs.definitions.Reply.{Reply, gives, refuses, neither, asked, enough, fitted}
+use Rattle.reply.specs.definitions.Reply.{Reply, gives, refuses, asked, enough, fitted, work, Writes}
 use Rattle.book.specs.definitions.Reading.{Book, readBook}
 use Rattle.book.specs.definitions.Answer.{answer, printed, printReply}
 use Rattle.form_write.specs.Write.{Wrote}
-use Rattle.door.specs.laws.Ending.{Zeros, tables-kept, tables-cleared}
-use Rattle.door.specs.declared.Side.the-variants.{Neither}
-use Rattle.door_result.specs.Result.{writtenOf}
-use Rattle.door_result.specs.declared.Written.{Written}
-use Rattle.door_result.specs.declared.Written.the-variants as W
+use Rattle.door.specs.laws.Ending.{Zeros}
+use Rattle.door_result.specs.laws.Whole.{refused-whole, answered-whole}
+use Rattle.reply.specs.declared.Written.the-variants as W
 use Rattle.book_read.specs.Heads.{headOf}
 use Rattle.book_read.specs.declared.Head.{Head}
 use Rattle.book_read.specs.declared.Head.the-variants.{Refused}
@@ -27,13 +26,13 @@ use Rattle.book_line.specs.Lines.{refusalText}
 use Rattle.book_line.specs.laws.Texts.{refusal-is}
 use Rattle.book_print.specs.Print.{Lent}
 
-pub refused-text : (book : List ℕ) {h : Head} {e p : ℕ} → h ≡ headOf (readBook book) → h ≡ Refused e p → refusalText e p ≡ printed book
+pub refused-text : (book : List ℕ) {h : Head} {bad : Fault} → h ≡ headOf (readBook book) → h ≡ Refused bad → refusalText bad ≡ printed book
 unfolding printed
-refused-text book {h} {e} {p} a b = refusal-is e p ∙ ap answer (sym (go (readBook book) (sym a ∙ b)))
+refused-text book {h} {bad} a b = refusal-is bad ∙ ap answer (sym (go (readBook book) (sym a ∙ b)))
   where
-    go : (x : Reading Book) → headOf x ≡ Refused e p → x ≡ refused e p
+    go : (x : Reading Book) → headOf x ≡ Refused bad → x ≡ refused bad
     go (read k) c = let z : _≡_ {A = ℕ} 0 1 = cc in absurd (omega arith)
-    go (refused f q) c = cc
+    go (refused worse) c = cc
 
 pub lent-four : (a b c d : ℕ) → enough (a ∷ b ∷ c ∷ d ∷ []) ≡ true → Lent a b c d
 lent-four a b c d h =
@@ -49,7 +48,7 @@ lent-four a b c d h =
 
 -- ---- the reply
 module _ (ts book : List ℕ) (n : ℕ) where
-  pub reply-2 : enough ts ≡ false → printReply ts book n ≡ refuses 2 neither 0
+  pub reply-2 : enough ts ≡ false → printReply ts book n ≡ refuses (ofNeither 2)
   unfolding printReply
   reply-2 h = ap (λ b. asked b 2 (λ u. fitted n (printed book))) h
 
@@ -57,28 +56,23 @@ module _ (ts book : List ℕ) (n : ℕ) where
   unfolding printReply
   reply-fitted h = ap (λ b. asked b 2 (λ u. fitted n (printed book))) h
 
-  pub reply-11 : enough ts ≡ true → n < length (printed book) → printReply ts book n ≡ refuses 11 neither 0
+  pub reply-11 : enough ts ≡ true → n < length (printed book) → printReply ts book n ≡ refuses (ofNeither 11)
   reply-11 h l = reply-fitted h ∙ ap (λ b. asked b 11 (λ u. gives (printed book))) (lt-leb (length (printed book)) n l)
 
   pub reply-text : enough ts ≡ true → length (printed book) ≤ n → printReply ts book n ≡ gives (printed book)
   reply-text h l = reply-fitted h ∙ ap (λ b. asked b 11 (λ u. gives (printed book))) (le-leb (length (printed book)) n l)
 
 -- ---- the answer, the result buffer and the tables
-abbrev pub Whole : Reply (List ℕ) → Written → (o o′ a b c d a′ b′ c′ d′ : List ℕ) → Type 0
-Whole x r o o′ a b c d a′ b′ c′ d′ = (r ≡ writtenOf x) × ((o′ ≡ resultAfter x o) × Tables x a b c d a′ b′ c′ d′)
-
 module _ (x : Reply (List ℕ)) (o a b c d : List ℕ) where
-  pub whole-2 : x ≡ refuses 2 neither 0 → Whole x (W.Refused 2 Neither 0) o o a b c d a b c d
-  whole-2 k = (ap writtenOf (sym k), (ap (λ z. resultAfter z o) (sym k), tables-kept x a b c d k (omega arith)))
+  pub whole-2 : x ≡ refuses (ofNeither 2) → Writes x (W.Refused (ofNeither 2)) o o (work a b c d) (work a b c d)
+  whole-2 k = refused-whole x o a b c d (omega arith) k
 
-  pub whole-11 : {a′ b′ c′ d′ : List ℕ} → x ≡ refuses 11 neither 0 → Zeros a b c d a′ b′ c′ d′ → Whole x (W.Refused 11 Neither 0) o o a b c d a′ b′ c′ d′
-  whole-11 k z = (ap writtenOf (sym k), (ap (λ y. resultAfter y o) (sym k), tables-cleared x a b c d (ap untouched k) z))
+  module _ {a′ b′ c′ d′ : List ℕ} (z : Zeros a b c d a′ b′ c′ d′) where
+    pub whole-11 : x ≡ refuses (ofNeither 11) → Writes x (W.Refused (ofNeither 11)) o o (work a b c d) (work a′ b′ c′ d′)
+    whole-11 k = answered-whole x (refuses (ofNeither 11)) o a b c d k refl refl refl z
 
-  pub whole-text : {n r : ℕ} {w v o′ a′ b′ c′ d′ : List ℕ} → x ≡ gives w → n ≡ length w → v ≡ w → Wrote r v o o′ → Zeros a b c d a′ b′ c′ d′ → Whole x (W.Text n) o o′ a b c d a′ b′ c′ d′
-  whole-text {n} {r} {w} {v} k e f g z = (
-    ap W.Text e ∙ ap writtenOf (sym k),
-    (g .is ∙ ap₂ (λ u m. u ++ drop m o) f (g .size ∙ ap length f) ∙ ap (λ y. resultAfter y o) (sym k), tables-cleared x a b c d (ap untouched k) z),
-  )
+    pub whole-text : {n r : ℕ} {w v o′ : List ℕ} → x ≡ gives w → n ≡ length w → v ≡ w → Wrote r v o o′ → Writes x (W.Text n) o o′ (work a b c d) (work a′ b′ c′ d′)
+    whole-text {w = w} k e f g = answered-whole x (gives w) o a b c d k refl (ap W.Text e) (g .is ∙ ap₂ (λ u m. u ++ drop m o) f (g .size ∙ ap length f)) z
 
 -- the text that was written in front
 pub front : {n : ℕ} {w old new : List ℕ} → Wrote n w old new → take n new ≡ w

@@ -7,7 +7,8 @@ use native.Mathlib.Omega.{arith}
 use borrow.Author.Tests.{le-leb, lt-leb, leb-true, eq-eqb, ne-eqb}
 use lib.Dec.{leb, eqb}
 use lib.ListN.{length}
-use Rattle.text.specs.definitions.Answer.{Reading, read, refused}
+use Rattle.refusal.specs.declared.Fault.{Fault}
+use Rattle.text.specs.definitions.Answer.{Reading, read, refused, refusedAt}
 use Rattle.book.specs.definitions.Reading.{right, whole, onward, number16, body}
 use Rattle.book_read.specs.Heads.{bodyOf, bothOf}
 use Rattle.book_read.specs.declared.Body.{Body}
@@ -27,28 +28,28 @@ module _ (book : List ℕ) (p at : ℕ) where
   abbrev offset-field : Unit {0} → Reading ℕ
   offset-field u = right (eqb (number16 book p) at) p offset-right
 
-  pub offset-cut : length book < p + 2 → body book p at ≡ refused 13 (length book)
+  pub offset-cut : length book < p + 2 → body book p at ≡ refusedAt 13 (length book)
   offset-cut h = is-cut offset-field book p 2 h
 
   module _ (whole-offset : p + 2 ≤ length book) where
     offset-there : body book p at ≡ offset-field tt
     offset-there = is-whole offset-field book p 2 whole-offset
 
-    pub offset-wrong : (number16 book p ≡ at → ⊥) → body book p at ≡ refused 13 p
+    pub offset-wrong : (number16 book p ≡ at → ⊥) → body book p at ≡ refusedAt 13 p
     offset-wrong h = offset-there ∙ is-wrong offset-right p (ne-eqb (number16 book p) at h)
 
     module _ (is-offset : number16 book p ≡ at) where
       offset-fine : body book p at ≡ offset-right tt
       offset-fine = offset-there ∙ is-right offset-right p (eq-eqb (number16 book p) at is-offset)
 
-      pub length-cut : length book < p + 2 + 2 → body book p at ≡ refused 13 (length book)
+      pub length-cut : length book < p + 2 + 2 → body book p at ≡ refusedAt 13 (length book)
       length-cut h = offset-fine ∙ is-cut length-field book (p + 2) 2 h
 
       module _ (whole-length : p + 2 + 2 ≤ length book) where
         length-there : body book p at ≡ length-field tt
         length-there = offset-fine ∙ is-whole length-field book (p + 2) 2 whole-length
 
-        pub length-wrong : length book < at + number16 book (p + 2) → body book p at ≡ refused 13 (p + 2)
+        pub length-wrong : length book < at + number16 book (p + 2) → body book p at ≡ refusedAt 13 (p + 2)
         length-wrong h = length-there ∙ is-wrong length-right (p + 2) (lt-leb (at + number16 book (p + 2)) (length book) h)
 
         pub length-fine : at + number16 book (p + 2) ≤ length book → body book p at ≡ read (number16 book (p + 2))
@@ -57,11 +58,11 @@ module _ (book : List ℕ) (p at : ℕ) where
 -- what was answered of a reading
 pub was-read : (x : Reading ℕ) {r : Body} {n : ℕ} → r ≡ bodyOf x → r ≡ B.Length n → x ≡ read n
 was-read (read m) {r} {n} e f = let h : B.Length m ≡ B.Length n = sym e ∙ f in cc
-was-read (refused k p) e f = let z : _≡_ {A = ℕ} 0 1 = cc in absurd (omega arith)
+was-read (refused bad) e f = let z : _≡_ {A = ℕ} 0 1 = cc in absurd (omega arith)
 
-pub was-refused : (x : Reading ℕ) {r : Body} {k p : ℕ} → r ≡ bodyOf x → r ≡ B.Refused k p → x ≡ refused k p
+pub was-refused : (x : Reading ℕ) {r : Body} {bad : Fault} → r ≡ bodyOf x → r ≡ B.Refused bad → x ≡ refused bad
 was-refused (read m) e f = let z : _≡_ {A = ℕ} 0 1 = cc in absurd (omega arith)
-was-refused (refused a b) {r} {k} {p} e f = let h : B.Refused a b ≡ B.Refused k p = sym e ∙ f in cc
+was-refused (refused worse) {r} {bad} e f = let h : B.Refused worse ≡ B.Refused bad = sym e ∙ f in cc
 
 -- ---- a body that was read
 pub record IsBody (book : List ℕ) (p at n : ℕ) : Type 0 where

@@ -6,23 +6,24 @@ use Prim.Native.Nat.{ℕ, _+_, _<_, _≤_}
 use native.Mathlib.Omega.{arith}
 use borrow.Author.Tests.{le-leb, lt-leb}
 use lib.ListN.{length}
-use Rattle.text.specs.definitions.Answer.{Reading, read, refused}
+use Rattle.refusal.specs.declared.Fault.{Fault}
+use Rattle.text.specs.definitions.Answer.{Reading, read, refused, refusedAt}
 use Rattle.book.specs.definitions.Reading.{right, whole}
 
-pub no-read : {A : Type 0} {P : Type 0} {e p : ℕ} {x : A} → _≡_ {A = Reading A} (refused e p) (read x) → P
+pub no-read : {A : Type 0} {P : Type 0} {bad : Fault} {x : A} → _≡_ {A = Reading A} (refused bad) (read x) → P
 no-read h = let z : _≡_ {A = ℕ} 0 1 = cc in absurd (omega arith)
 
 module _ {A : Type 0} (r : Unit {0} → Reading A) where
   pub is-right : {b : Bool} (p : ℕ) → b ≡ true → right b p r ≡ r tt
   is-right p e = ap (λ b. right b p r) e
 
-  pub is-wrong : {b : Bool} (p : ℕ) → b ≡ false → right b p r ≡ refused 13 p
+  pub is-wrong : {b : Bool} (p : ℕ) → b ≡ false → right b p r ≡ refusedAt 13 p
   is-wrong p e = ap (λ b. right b p r) e
 
   pub is-whole : (book : List ℕ) (p k : ℕ) → p + k ≤ length book → whole book p k r ≡ r tt
   is-whole book p k h = is-right (length book) (le-leb (p + k) (length book) h)
 
-  pub is-cut : (book : List ℕ) (p k : ℕ) → length book < p + k → whole book p k r ≡ refused 13 (length book)
+  pub is-cut : (book : List ℕ) (p k : ℕ) → length book < p + k → whole book p k r ≡ refusedAt 13 (length book)
   is-cut book p k h = is-wrong (length book) (lt-leb (p + k) (length book) h)
 
   -- where something was read behind a field, the field is right

@@ -7,7 +7,9 @@ use native.Mathlib.Omega.{arith}
 use borrow.Author.Tests.{le-leb, lt-leb}
 use lib.Dec.{leb}
 use lib.ListN.{length, take, drop, getD}
-use Rattle.text.specs.definitions.Answer.{Reading, read, refused}
+use Rattle.refusal.specs.Refusal.{fault}
+use Rattle.refusal.specs.declared.Fault.{Fault}
+use Rattle.text.specs.definitions.Answer.{Reading, read, refused, refusedAt}
 use Rattle.text.specs.definitions.Bytes.{isRow}
 use Rattle.book.specs.definitions.Reading.{Book, Entry, right, whole, onward, letters, entries, part, contents, headed, readBook}
 use Rattle.book_read.specs.Heads.{headOf}
@@ -40,11 +42,11 @@ module _ (book : List ℕ) (i : ℕ) where
   pub letters-none : {k : ℕ} → k ≡ 0 → headOf (letters book i k) ≡ H.Fine
   letters-none e = ap (λ n. headOf (letters book i n)) e
 
-  pub letters-cut : (k : ℕ) → (k ≡ 0 → ⊥) → length book < 1 + i + 1 → headOf (letters book i k) ≡ H.Refused 13 (length book)
+  pub letters-cut : (k : ℕ) → (k ≡ 0 → ⊥) → length book < 1 + i + 1 → headOf (letters book i k) ≡ H.Refused (fault 13 (length book))
   letters-cut zero h l = absurd (h refl)
   letters-cut (suc k) h l = ap headOf (is-cut (letter k) book (1 + i) 1 l)
 
-  pub letters-wrong : (k : ℕ) → (k ≡ 0 → ⊥) → 1 + i + 1 ≤ length book → isRow (take (1 + i) (drop 1 book)) ≡ false → headOf (letters book i k) ≡ H.Refused 13 (1 + i)
+  pub letters-wrong : (k : ℕ) → (k ≡ 0 → ⊥) → 1 + i + 1 ≤ length book → isRow (take (1 + i) (drop 1 book)) ≡ false → headOf (letters book i k) ≡ H.Refused (fault 13 (1 + i))
   letters-wrong zero h l e = absurd (h refl)
   letters-wrong (suc k) h l e = ap headOf (is-whole (letter k) book (1 + i) 1 l ∙ is-wrong (others k) (1 + i) e)
 
@@ -57,7 +59,7 @@ module _ (book : List ℕ) (i : ℕ) where
 -- ---- contents
 head-onward : {A B : Type 0} (x : Reading A) (f : A → B) → headOf (onward x (λ a. read (f a))) ≡ headOf x
 head-onward (read a) f = refl
-head-onward (refused e p) f = refl
+head-onward (refused bad) f = refl
 
 module _ (book : List ℕ) (n : ℕ) where
   abbrev pub count : ℕ
@@ -69,14 +71,14 @@ module _ (book : List ℕ) (n : ℕ) where
   abbrev pub counted : Unit {0} → Reading Book
   counted u = right (leb 1 count && leb count 64) (1 + n) listed
 
-  pub contents-cut : length book < 1 + n + 1 → headOf (contents book n) ≡ H.Refused 13 (length book)
+  pub contents-cut : length book < 1 + n + 1 → headOf (contents book n) ≡ H.Refused (fault 13 (length book))
   contents-cut h = ap headOf (is-cut counted book (1 + n) 1 h)
 
   module _ (there : 1 + n + 1 ≤ length book) where
-    pub contents-few : count < 1 → headOf (contents book n) ≡ H.Refused 13 (1 + n)
+    pub contents-few : count < 1 → headOf (contents book n) ≡ H.Refused (fault 13 (1 + n))
     contents-few h = ap headOf (is-whole counted book (1 + n) 1 there ∙ is-wrong listed (1 + n) (under 64 count h))
 
-    pub contents-many : 1 ≤ count → 64 < count → headOf (contents book n) ≡ H.Refused 13 (1 + n)
+    pub contents-many : 1 ≤ count → 64 < count → headOf (contents book n) ≡ H.Refused (fault 13 (1 + n))
     contents-many i h = ap headOf (is-whole counted book (1 + n) 1 there ∙ is-wrong listed (1 + n) (above 64 count i h))
 
     pub contents-on : 1 ≤ count → count ≤ 64 → headOf (entries book (1 + n + 1) (1 + n + 1 + 8 * count) count) ≡ headOf (contents book n)
@@ -87,9 +89,9 @@ module _ (book : List ℕ) (n : ℕ) where
 
 -- ---- the whole book
 module _ (book : List ℕ) where
-  pub book-long : 65535 < length book → headOf (readBook book) ≡ H.Refused 3 0
+  pub book-long : 65535 < length book → headOf (readBook book) ≡ H.Refused (fault 3 0)
   unfolding readBook
-  book-long h = ap headOf (let e : readBook book ≡ refused 3 0 = rw (lt-leb (length book) 65535 h, readBook) in e)
+  book-long h = ap headOf (let e : readBook book ≡ refusedAt 3 0 = rw (lt-leb (length book) 65535 h, readBook) in e)
 
   module _ (short : length book ≤ 65535) where
     pub book-headed : readBook book ≡ headed book
@@ -105,30 +107,30 @@ module _ (book : List ℕ) where
     abbrev pub numbered : Unit {0} → Reading Book
     numbered u = right (leb 1 variables && leb variables 4) 0 lettered
 
-    pub book-cut : length book < 1 → headOf (readBook book) ≡ H.Refused 13 (length book)
+    pub book-cut : length book < 1 → headOf (readBook book) ≡ H.Refused (fault 13 (length book))
     book-cut h = ap headOf (book-headed ∙ is-cut numbered book 0 1 h)
 
     module _ (there : 1 ≤ length book) where
-      pub book-few : variables < 1 → headOf (readBook book) ≡ H.Refused 13 0
+      pub book-few : variables < 1 → headOf (readBook book) ≡ H.Refused (fault 13 0)
       book-few h = ap headOf (book-headed ∙ is-whole numbered book 0 1 there ∙ is-wrong lettered 0 (under 4 variables h))
 
-      pub book-many : 1 ≤ variables → 4 < variables → headOf (readBook book) ≡ H.Refused 13 0
+      pub book-many : 1 ≤ variables → 4 < variables → headOf (readBook book) ≡ H.Refused (fault 13 0)
       book-many i h = ap headOf (book-headed ∙ is-whole numbered book 0 1 there ∙ is-wrong lettered 0 (above 4 variables i h))
 
       module _ (some : 1 ≤ variables) (most : variables ≤ 4) where
         pub book-lettered : readBook book ≡ onward (letters book 0 variables) (λ w. contents book variables)
         book-lettered = book-headed ∙ is-whole numbered book 0 1 there ∙ is-right lettered 0 (within 4 variables some most)
 
-        pub book-letters : {h : Head} {e p : ℕ} → h ≡ headOf (letters book 0 variables) → h ≡ H.Refused e p → headOf (readBook book) ≡ H.Refused e p
-        book-letters {h} {e} {p} a b = ap headOf book-lettered ∙ go (letters book 0 variables) (sym a ∙ b)
+        pub book-letters : {h : Head} {bad : Fault} → h ≡ headOf (letters book 0 variables) → h ≡ H.Refused bad → headOf (readBook book) ≡ H.Refused bad
+        book-letters {h} {bad} a b = ap headOf book-lettered ∙ go (letters book 0 variables) (sym a ∙ b)
           where
-            go : (x : Reading (Unit {0})) → headOf x ≡ H.Refused e p → headOf (onward x (λ w. contents book variables)) ≡ H.Refused e p
+            go : (x : Reading (Unit {0})) → headOf x ≡ H.Refused bad → headOf (onward x (λ w. contents book variables)) ≡ H.Refused bad
             go (read a) c = let z : _≡_ {A = ℕ} 0 1 = cc in absurd (omega arith)
-            go (refused f q) c = c
+            go (refused worse) c = c
 
         pub book-contents : {h : Head} → h ≡ headOf (letters book 0 variables) → h ≡ H.Fine → readBook book ≡ contents book variables
         book-contents a b = book-lettered ∙ go (letters book 0 variables) (sym a ∙ b)
           where
             go : (x : Reading (Unit {0})) → headOf x ≡ H.Fine → onward x (λ w. contents book variables) ≡ contents book variables
             go (read a) c = refl
-            go (refused f q) c = let z : _≡_ {A = ℕ} 0 1 = cc in absurd (omega arith)
+            go (refused bad) c = let z : _≡_ {A = ℕ} 0 1 = cc in absurd (omega arith)

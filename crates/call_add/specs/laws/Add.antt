@@ -4,6 +4,8 @@ use mathlib.Core.Path.{_≡_, sym, ap₂, _∙_}
 use Prim.Native.Nat.{ℕ, _≤_}
 use native.Mathlib.Omega.{arith}
 use lib.ListN.{length, take}
+use Rattle.door.specs.declared.Entry.the-variants as Closed
+use Rattle.refusal.specs.declared.Refusal.{Refusal}
 use Rattle.horner.specs.definitions.Form.{sum}
 use Rattle.horner.specs.definitions.Integers.{ℤ-ring}
 use Rattle.horner.specs.definitions.Measures.{degrees, maxs}
@@ -16,7 +18,7 @@ use Rattle.code.specs.Operations.{sumOf}
 use Rattle.text.specs.definitions.FormText.{text}
 use Rattle.form_write.specs.Write.{textOf}
 use Rattle.reply.specs.definitions.Forms.{ofSum, twoOf, addReply}
-use Rattle.reply.specs.definitions.Reply.{neither, refuses}
+use Rattle.reply.specs.definitions.Reply.{refuses}
 use Rattle.measure.specs.declared.Measures.{Measures}
 use Rattle.measure.specs.Measure.{addM, limitM}
 use Rattle.code_pair.specs.Pair.{left, right}
@@ -73,6 +75,6 @@ module _ (row ts s t : List ℕ) (n : ℕ) where
   unfolding addReply
   add-open o = open-goes row ts (λ u. twoOf (ofSum (length row)) (sum ℤ-ring) row s t n) o
 
-  pub add-not-open : (readyOf row ts ≡ 0 → ⊥) → addReply row ts s t n ≡ refuses (readyOf row ts) neither 0
+  pub add-not-open : {bad : Refusal} → readyOf row ts ≡ Closed.Refused bad → addReply row ts s t n ≡ refuses bad
   unfolding addReply
   add-not-open h = not-open row ts (λ u. twoOf (ofSum (length row)) (sum ℤ-ring) row s t n) h

@@ -13,132 +13,84 @@ use Rattle.call_compare.proofs.compare_of.Statement.{statement}
 use Rattle.call_compare.proofs.compare_of.Tie as tie
 use Rattle.call_compare.proofs.compare_of.Reads as reads
 use Rattle.call_compare.proofs.compare_of.Lts as lts
-use Rattle.call_compare.proofs.refused.Reads as refused-reads
 use Rattle.call_compare.proofs.verdict.Reads as verdict-reads
 use Rattle.door_terms.proofs.read_pair.Reads as read-pair-reads
 
--- src/lib.rt:114:9
 read-pair-requires : tie.Need-read-pair-requires
 read-pair-requires c κs = search needs
 
--- src/lib.rt:115:21
 enum-known-pair : tie.Need-enum-known-pair
 enum-known-pair c = search needs
 
--- src/lib.rt:116:9
-enum-told : tie.Need-enum-told
-enum-told c = search needs
+enum-known-pair-2 : tie.Need-enum-known-pair-2
+enum-known-pair-2 c = search needs
 
--- src/lib.rt:116:9
-refused-requires : tie.Need-refused-requires
-refused-requires c κs = search needs
-
--- src/lib.rt:116:9
-same-length : tie.Need-same-length
-same-length c = search needs
-
--- src/lib.rt:116:9
-same-length-2 : tie.Need-same-length-2
-same-length-2 c = search needs
-
--- src/lib.rt:116:9
-same-length-3 : tie.Need-same-length-3
-same-length-3 c = search needs
-
--- src/lib.rt:116:9
-same-length-4 : tie.Need-same-length-4
-same-length-4 c = search needs
-
--- src/lib.rt:116:9
-returns : tie.Need-returns
-returns c =
-    let read-pair = c .before .before .before .before .before .before .before .before .before .before .before .read-pair in
-    let start = c .before .before .before .before .before .before .before .before .before .before .before .before .before .before .before .before .before .before .before .before .before .before .before .before in
-    let A = text-refused (start .args .point .now) (c .before .enum-told .given .1) (read-pair .ensures) in
-    (c .refused .ensures ∙ A .0, A .1)
-
--- src/lib.rt:118:13
 add-e : tie.Need-add-e
 add-e c =
-    let read-pair = c .before .before .before .before .before .before .before .before .before .before .before .read-pair in
-    let start = c .before .before .before .before .before .before .before .before .before .before .before .before .before .before .before .before .before .before .before .before .before .before .before .before in
-    omega (arith, pair-words (start .pre .0) (pair-forms (c .before .pair .given .1) (read-pair .ensures)))
+    let read-pair = (c .before .before .before .before .before .before .before .before .before .before .before .read-pair) in
+    let start = (c .before .before .before .before .before .before .before .before .before .before .before .before .before .before .before .before .before .before .before .before .before .before .before .before) in
+    omega (arith, pair-words (start .pre .0) (pair-forms ((c .before .pair2) .given .1) (read-pair .ensures)))
 
--- src/lib.rt:119:24
 slice-reshare-prefix-verdict : tie.Need-slice-reshare-prefix-verdict
 slice-reshare-prefix-verdict c =
-    let read-pair = c .before .before .before .before .before .before .before .before .before .before .before .read-pair in
-    let start = c .before .before .before .before .before .before .before .before .before .before .before .before .before .before .before .before .before .before .before .before .before .before .before .before in
-    pair-inside (start .pre .0) (pair-forms (c .before .pair .given .1) (read-pair .ensures))
+    let read-pair = (c .before .before .before .before .before .before .before .before .before .before .before .read-pair) in
+    let start = (c .before .before .before .before .before .before .before .before .before .before .before .before .before .before .before .before .before .before .before .before .before .before .before .before) in
+    pair-inside (start .pre .0) (pair-forms ((c .before .pair2) .given .1) (read-pair .ensures))
 
--- src/lib.rt:119:24
 slice-aggregate-verdict : tie.Need-slice-aggregate-verdict
 slice-aggregate-verdict c =
-    let read-pair = c .before .before .before .before .before .before .before .before .before .before .before .before .read-pair in
-    let start = c .before .before .before .before .before .before .before .before .before .before .before .before .before .before .before .before .before .before .before .before .before .before .before .before .before in
-    sym (length-take-le (c .before .before .pair .given .0 .0 + c .before .before .pair .given .0 .1 .0) (read-pair .last .1 .1 .1 .1 .1 .1 .0) (pair-inside (start .pre .0) (pair-forms (c .before .before .pair .given .1) (read-pair .ensures))))
+    let read-pair = (c .before .before .before .before .before .before .before .before .before .before .before .before .read-pair) in
+    let start = (c .before .before .before .before .before .before .before .before .before .before .before .before .before .before .before .before .before .before .before .before .before .before .before .before .before) in
+    sym (length-take-le ((c .before .before .pair2) .given .0 .0 + (c .before .before .pair2) .given .0 .1 .0) (read-pair .last .1 .1 .1 .1 .1 .1 .0) (pair-inside (start .pre .0) (pair-forms ((c .before .before .pair2) .given .1) (read-pair .ensures))))
 
--- src/lib.rt:119:5
 verdict-requires : tie.Need-verdict-requires
 verdict-requires c κs =
-    let pair = c .before .before .before .before .before .before .pair in
-    let read-pair = c .before .before .before .before .before .before .before .before .before .before .before .before .before .before .before .before .read-pair in
-    let start = c .before .before .before .before .before .before .before .before .before .before .before .before .before .before .before .before .before .before .before .before .before .before .before .before .before .before .before .before .before in
+    let pair = (c .before .before .before .before .before .before .pair2) in
+    let read-pair = (c .before .before .before .before .before .before .before .before .before .before .before .before .before .before .before .before .read-pair) in
+    let start = (c .before .before .before .before .before .before .before .before .before .before .before .before .before .before .before .before .before .before .before .before .before .before .before .before .before .before .before .before .before) in
     let Q = pair-forms (pair .given .1) (read-pair .ensures) in
     let r = start .pre .0 in
     let z = length-take-le (pair .given .0 .0 + pair .given .0 .1 .0) (read-pair .last .1 .1 .1 .1 .1 .1 .0) (pair-inside r Q) in
     let f = read-pair .kept in
     ((pair-sides r Q, pair-apart r Q), (omega (arith, z, pair-words r Q, start .pre .1 .0 .0, f .1 .1 .1 .0, f .1 .1 .1 .1 .0, f .1 .1 .1 .1 .1 .0), start .pre .1 .1))
 
--- src/lib.rt:98:1
+same-length : tie.Need-same-length
+same-length c = search needs
+
+same-length-2 : tie.Need-same-length-2
+same-length-2 c = search needs
+
+same-length-3 : tie.Need-same-length-3
+same-length-3 c = search needs
+
+same-length-4 : tie.Need-same-length-4
+same-length-4 c = search needs
+
+returns : tie.Need-returns
+returns c = text-refused ((c .before .before .before .before .before .before .before .before .before .before .before .before .before .before .before .before .before .before .before .before .before .before .before .before) .args .point .now) ((c .before .pair) .given .1) ((c .before .before .before .before .before .before .before .before .before .before .before .read-pair) .ensures)
+
 same-length-5 : tie.Need-same-length-5
 same-length-5 c = search needs
 
--- src/lib.rt:98:1
 same-length-6 : tie.Need-same-length-6
 same-length-6 c = search needs
 
--- src/lib.rt:98:1
 same-length-7 : tie.Need-same-length-7
 same-length-7 c = search needs
 
--- src/lib.rt:98:1
 same-length-8 : tie.Need-same-length-8
 same-length-8 c = search needs
 
--- src/lib.rt:98:1
 same-length-9 : tie.Need-same-length-9
 same-length-9 c = search needs
 
--- src/lib.rt:98:1
 returns-2 : tie.Need-returns-2
 returns-2 c =
-    let verdict = c .before .before .before .before .before .before .before .before .verdict in
-    let pair = c .before .before .before .before .before .before .before .before .before .before .before .before .before .before .before .pair in
-    let read-pair = c .before .before .before .before .before .before .before .before .before .before .before .before .before .before .before .before .before .before .before .before .before .before .before .before .before .read-pair in
-    let start = c .before .before .before .before .before .before .before .before .before .before .before .before .before .before .before .before .before .before .before .before .before .before .before .before .before .before .before .before .before .before .before .before .before .before .before .before .before .before in
+    let verdict = (c .before .before .before .before .before .before .before .before .verdict) in
+    let pair = (c .before .before .before .before .before .before .before .before .before .before .before .before .before .before .before .pair2) in
+    let read-pair = (c .before .before .before .before .before .before .before .before .before .before .before .before .before .before .before .before .before .before .before .before .before .before .before .before .before .read-pair) in
+    let start = (c .before .before .before .before .before .before .before .before .before .before .before .before .before .before .before .before .before .before .before .before .before .before .before .before .before .before .before .before .before .before .before .before .before .before .before .before .before .before) in
     pair-told (start .pre .0) (pair-forms (pair .given .1) (read-pair .ensures)) (start .args .point .now) (verdict .ensures)
 
 pub compare-of-spec : {M : Type 1} → statement M
-compare-of-spec =
-    tie.close
-    (tie.spec
-    read-pair-requires
-    enum-known-pair
-    enum-told
-    refused-requires
-    same-length
-    same-length-2
-    same-length-3
-    same-length-4
-    returns
-    add-e
-    slice-reshare-prefix-verdict
-    slice-aggregate-verdict
-    verdict-requires
-    same-length-5
-    same-length-6
-    same-length-7
-    same-length-8
-    same-length-9
-    returns-2)
+compare-of-spec = tie.close (tie.spec read-pair-requires enum-known-pair enum-known-pair-2 add-e slice-reshare-prefix-verdict slice-aggregate-verdict verdict-requires same-length same-length-2 same-length-3 same-length-4 returns same-length-5 same-length-6 same-length-7 same-length-8 same-length-9 returns-2)

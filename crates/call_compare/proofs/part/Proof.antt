@@ -2,7 +2,7 @@ use Rattle.call_compare.specs.Compare.{gapOf}
 use Rattle.code.specs.laws.Codes.{tail-part}
 use Rattle.code.specs.Coding.{dec}
 use Rattle.code.specs.Operations.{valueOf}
-use Rattle.call_compare.specs.declared.Compared.the-variants.{Different}
+use Rattle.reply.specs.declared.Compared.the-variants.{Different}
 use Rattle.call_compare.specs.laws.Points.{length-point}
 -- `call_compare::part` meets its contract: the difference, its first point, and both values there.
 use mathlib.Core.Path.{_≡_, sym, ap, ap₂, _∙_}

@@ -7,6 +7,7 @@ use Prim.Native.Nat.{ℕ, _+_, _-_, _≤_}
 use native.Mathlib.Omega.{arith}
 use lib.ListN.{length, take, drop, length-drop}
 use lib.Seq.{length-take-le}
+use Rattle.refusal.specs.declared.Side.the-variants.{Left, Right}
 use Rattle.horner.specs.definitions.Measures.{Within}
 use Rattle.horner.specs.definitions.Term.{Term, normP}
 use Rattle.code.proofs.Lists.{begins-le}
@@ -16,19 +17,19 @@ use Rattle.code.specs.Operations.{sumOf, negateOf, valueOf}
 use Rattle.code.specs.laws.Codes.{coded, dec-enc, tail-part}
 use Rattle.code.specs.laws.Good.{sum-good, negate-good}
 use Rattle.code_point.specs.Points.{pointOf, Ready}
-use Rattle.text.specs.definitions.Answer.{Reading, read, refused}
+use Rattle.text.specs.definitions.Answer.{Reading, read}
 use Rattle.text.specs.definitions.Bytes.{isRow}
 use Rattle.text.specs.definitions.Limits.{acceptTerm}
 use Rattle.text.specs.definitions.Tree.{Tree, termOf}
 use Rattle.text_laws.specs.laws.Rows.{row-length, accepted-within}
-use Rattle.reply.specs.definitions.Buffers.{over}
+use Rattle.reply.specs.definitions.Reply.{over}
 use Rattle.reply.specs.definitions.Compare.{Verdict, equal, different, verdictOf, compareOf, pointAfter}
-use Rattle.reply.specs.definitions.Reply.{Reply, gives, left, right, readAs}
+use Rattle.reply.specs.definitions.Reply.{Reply, gives, readAs}
 use Rattle.term_read.specs.Read.{IsTerm}
 use Rattle.term_read.specs.laws.Terms.{term-codes, term-words}
 use Rattle.door_terms.specs.Terms.{IsPair}
 use Rattle.call_compare.specs.Compare.{comparedOf, Sides, gapOf, Apart, Told}
-use Rattle.call_compare.specs.declared.Compared.{Compared}
+use Rattle.reply.specs.declared.Compared.{Compared}
 use Rattle.call_compare.specs.laws.Points.{length-point}
 use Rattle.call_compare.specs.laws.Verdict.{forms-or, verdict-same, parted-ready, verdict-parted}
 
@@ -90,8 +91,8 @@ module _ {row s t d : List ℕ} {k m : ℕ} (r : isRow row ≡ true) (Q : IsPair
 
   reply : compareOf row s t ≡ gives (verdictOf (length row) f g)
   reply =
-      ap (λ (x : Reading Tree). readAs left x (λ u. readAs right (acceptTerm row t) (λ v. gives (verdictOf (length row) (termOf row u) (termOf row v))))) (Q .left-accepted)
-      ∙ ap (λ (x : Reading Tree). readAs right x (λ v. gives (verdictOf (length row) f (termOf row v)))) (Q .right-accepted)
+      ap (λ (x : Reading Tree). readAs Left x (λ u. readAs Right (acceptTerm row t) (λ v. gives (verdictOf (length row) (termOf row u) (termOf row v))))) (Q .left-accepted)
+      ∙ ap (λ (x : Reading Tree). readAs Right x (λ v. gives (verdictOf (length row) f (termOf row v)))) (Q .right-accepted)
 
   by-verdict : {x : Compared} {p′ : List ℕ} (p : List ℕ) (v : Verdict) → verdictOf (length row) f g ≡ v → x ≡ comparedOf (gives v) → p′ ≡ pointAfter (gives v) p
       → (x ≡ comparedOf (compareOf row s t)) × (p′ ≡ pointAfter (compareOf row s t) p)

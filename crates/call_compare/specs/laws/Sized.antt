@@ -4,6 +4,8 @@ use mathlib.Core.List.{List, [], _∷_}
 use mathlib.Core.Path.{_≡_, refl, ap, _∙_}
 use Prim.Native.Nat.{ℕ, suc}
 use lib.ListN.{length}
+use Rattle.refusal.specs.declared.Side.the-variants.{Left, Right}
+use Rattle.refusal.specs.declared.Refusal.{Refusal}
 use Rattle.horner.specs.definitions.Form.{Form}
 use Rattle.horner.specs.definitions.Measures.{Within}
 use Rattle.horner.specs.definitions.Points.{firstPoint, gap, sides}
@@ -17,12 +19,12 @@ use Rattle.text.specs.definitions.Limits.{acceptTerm}
 use Rattle.text.specs.definitions.Tree.{Tree, termOf}
 use Rattle.text_laws.specs.laws.Rows.{accepted-within}
 use Rattle.reply.specs.definitions.Compare.{Verdict, equal, different, verdictOf, compareOf}
-use Rattle.reply.specs.definitions.Reply.{Reply, Side, gives, refuses, left, right, readAs}
+use Rattle.reply.specs.definitions.Reply.{Reply, gives, refuses, readAs}
 
 pub data Sized (n : ℕ) : Reply Verdict → Type 0 where
   alike : Sized n (gives equal)
   apart : {N : List ℕ} {l r : ℕ} → length N ≡ n → Sized n (gives (different N l r))
-  refusal : {e p : ℕ} {s : Side} → Sized n (refuses e s p)
+  refusal : {bad : Refusal} → Sized n (refuses bad)
 
 length-first : (ds : List ℕ) (h : Form (Res prime)) → length (firstPoint P-ring ds h) ≡ length ds
 length-first [] h = refl
@@ -39,11 +41,11 @@ pub compare-sized : (row s t : List ℕ) → Sized (length row) (compareOf row s
 compare-sized row s t = first (acceptTerm row s) refl
   where
     second : (f : Tree) → Within (length row) (termOf row f) → (x : Reading Tree) → acceptTerm row t ≡ x →
-        Sized (length row) (readAs right x (λ g. gives (verdictOf (length row) (termOf row f) (termOf row g))))
+        Sized (length row) (readAs Right x (λ g. gives (verdictOf (length row) (termOf row f) (termOf row g))))
     second f F (read g) e = verdict-sized (length row) (termOf row f) (termOf row g) F (accepted-within row t g e)
-    second f F (refused e p) h = refusal
+    second f F (refused bad) h = refusal
 
     first : (x : Reading Tree) → acceptTerm row s ≡ x →
-        Sized (length row) (readAs left x (λ f. readAs right (acceptTerm row t) (λ g. gives (verdictOf (length row) (termOf row f) (termOf row g)))))
+        Sized (length row) (readAs Left x (λ f. readAs Right (acceptTerm row t) (λ g. gives (verdictOf (length row) (termOf row f) (termOf row g)))))
     first (read f) e = second f (accepted-within row s f e) (acceptTerm row t) refl
-    first (refused e p) h = refusal
+    first (refused bad) h = refusal

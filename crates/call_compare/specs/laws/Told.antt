@@ -12,8 +12,8 @@ use Rattle.code.specs.laws.Codes.{tail-part}
 use Rattle.code_point.specs.Points.{pointOf}
 use Rattle.code_walk.specs.Shapes.{Decides}
 use Rattle.call_compare.specs.Compare.{Sides, gapOf, Told, Rooms, Wide}
-use Rattle.call_compare.specs.declared.Compared.{Compared}
-use Rattle.call_compare.specs.declared.Compared.the-variants.{Same, Different}
+use Rattle.reply.specs.declared.Compared.{Compared}
+use Rattle.reply.specs.declared.Compared.the-variants.{Same, Different}
 use Rattle.call_compare.specs.laws.Points.{right-part}
 
 module _ (n k : ℕ) (l : List ℕ) where

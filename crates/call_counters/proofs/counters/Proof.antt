@@ -1,5 +1,6 @@
 -- `call_counters::counters` meets its contract: the row, the tables and the width are looked at, the inner call answers, the tables are cleared.
-use mathlib.Core.Path.{_≡_, refl, sym, ap, _∙_}
+use mathlib.Core.Path.{ap, _≡_, refl, sym, _∙_}
+use Rattle.reply.specs.definitions.Reply.{refuses}
 use mathlib.Core.List.{[], _∷_}
 use native.Mathlib.Omega.{arith}
 use denote.Ref.{now}
@@ -17,122 +18,96 @@ use Rattle.call_counters.proofs.counters_of.Reads as counters-of-reads
 use Rattle.call_counters.proofs.is_width.Reads as is-width-reads
 use Rattle.door.proofs.clear_tables.Reads as clear-tables-reads
 use Rattle.door.proofs.ready.Reads as ready-reads
+use Rattle.refusal.proofs.of_neither.Reads as of-neither-reads
 
--- src/lib.rt:122:9
 ready-requires : tie.Need-ready-requires
 ready-requires c κs = search needs
 
--- src/lib.rt:124:9
+enum-known-entry : tie.Need-enum-known-entry
+enum-known-entry c = search needs
+
 returns : tie.Need-returns
 returns c =
-    let start = c .before .before .before .before .before .before .before .before .before in
-    let s = start .args in
+    let s = (c .before .before .before .before .before .before .before .before .before .before .before) .args in
     let ts = length (s .a .now) ∷ length (s .b .now) ∷ length (s .c .now) ∷ length (s .d .now) ∷ [] in
-    refused-whole _ (s .a .now) (s .b .now) (s .c .now) (s .d .now) (c .before .ready .ensures) (ready-small (s .row .now) ts) (counters-not-open (s .row .now) ts (s .width) (s .s .now) (s .t .now) (λ z. c .if1 .taken (c .before .ready .ensures ∙ z)))
+    let closed = sym ((c .before .before .before .ready) .ensures) ∙ (c .before .entry) .given .1 in
+    refused-whole _ (s .a .now) (s .b .now) (s .c .now) (s .d .now) (ready-small (s .row .now) ts closed) (counters-not-open (s .row .now) ts (s .width) (s .s .now) (s .t .now) closed)
 
--- src/lib.rt:126:9
+enum-told : tie.Need-enum-told
+enum-told c = search needs
+
 is-width-requires : tie.Need-is-width-requires
 is-width-requires c κs = search needs
 
--- src/lib.rt:127:9
 clear-tables-requires : tie.Need-clear-tables-requires
 clear-tables-requires c κs = search needs
 
--- src/lib.rt:128:9
+of-neither-requires : tie.Need-of-neither-requires
+of-neither-requires c κs = search needs
+
 same-length : tie.Need-same-length
 same-length c = search needs
 
--- src/lib.rt:128:9
 same-length-2 : tie.Need-same-length-2
 same-length-2 c = search needs
 
--- src/lib.rt:128:9
 same-length-3 : tie.Need-same-length-3
 same-length-3 c = search needs
 
--- src/lib.rt:128:9
 same-length-4 : tie.Need-same-length-4
 same-length-4 c = search needs
 
--- src/lib.rt:128:9
 returns-2 : tie.Need-returns-2
 returns-2 c =
-    let clear-tables = c .before .before .before .before .before .before .before .before .clear-tables in
-    let if2 = c .before .before .before .before .before .before .before .before .before .before .before .before .before .if2 in
-    let is-width = c .before .before .before .before .before .before .before .before .before .before .before .before .before .before .is-width in
-    let if1 = c .before .before .before .before .before .before .before .before .before .before .before .before .before .before .before .if1 in
-    let ready = c .before .before .before .before .before .before .before .before .before .before .before .before .before .before .before .before .ready in
-    let start = c .before .before .before .before .before .before .before .before .before .before .before .before .before .before .before .before .before .before .before .before .before .before .before .before in
+    let clear-tables = (c .before .before .before .before .before .before .before .before .before .clear-tables) in
+    let if1 = (c .before .before .before .before .before .before .before .before .before .before .before .before .before .before .if1) in
+    let is-width = (c .before .before .before .before .before .before .before .before .before .before .before .before .before .before .before .is-width) in
+    let ready = (c .before .before .before .before .before .before .before .before .before .before .before .before .before .before .before .before .before .before .ready) in
+    let start = (c .before .before .before .before .before .before .before .before .before .before .before .before .before .before .before .before .before .before .before .before .before .before .before .before .before .before) in
     let s = start .args in
     let ts = length (s .a .now) ∷ length (s .b .now) ∷ length (s .c .now) ∷ length (s .d .now) ∷ [] in
-    let o = ready-open (s .row .now) ts (sym (ready .ensures) ∙ if1 .left) in
+    let o = ready-open (s .row .now) ts (sym (ready .ensures) ∙ (c .before .before .before .before .before .before .before .before .before .before .before .before .before .before .before .before .enum-told) .given .1) in
     let z = clear-tables .ensures in
-    width-whole _ (s .a .now) (s .b .now) (s .c .now) (s .d .now) (counters-width (s .row .now) ts (s .width) (s .s .now) (s .t .now) o (sym (is-width .ensures) ∙ not-true _ (if2 .taken))) (zeros-of refl refl refl refl z)
+    let e = width-whole _ (s .a .now) (s .b .now) (s .c .now) (s .d .now) (counters-width (s .row .now) ts (s .width) (s .s .now) (s .t .now) o (sym (is-width .ensures) ∙ not-true _ (if1 .taken))) (zeros-of refl refl refl refl z) in
+    record { answer = ap refuses ((c .of-neither) .ensures) ∙ e .answer; tables = e .tables }
 
--- src/lib.rt:130:9
 counters-of-requires : tie.Need-counters-of-requires
 counters-of-requires c κs =
-    let if1 = c .before .before .before .before .before .before .if1 in
-    let ready = c .before .before .before .before .before .before .before .ready in
-    let start = c .before .before .before .before .before .before .before .before .before .before .before .before .before .before .before in
+    let ready = (c .before .before .before .before .before .before .before .before .ready) in
+    let start = (c .before .before .before .before .before .before .before .before .before .before .before .before .before .before .before .before) in
     let s = start .args in
-    let o = ready-open (s .row .now) (length (s .a .now) ∷ length (s .b .now) ∷ length (s .c .now) ∷ length (s .d .now) ∷ []) (sym (ready .ensures) ∙ if1 .left) in
+    let o = ready-open (s .row .now) (length (s .a .now) ∷ length (s .b .now) ∷ length (s .c .now) ∷ length (s .d .now) ∷ []) (sym (ready .ensures) ∙ (c .before .before .before .before .before .before .enum-told) .given .1) in
     (o .proper, (open-long (length (s .a .now)) (length (s .b .now)) (length (s .c .now)) (length (s .d .now)) o, open-fourth (length (s .a .now)) (length (s .b .now)) (length (s .c .now)) (length (s .d .now)) o))
 
--- src/lib.rt:131:5
 clear-tables-requires-2 : tie.Need-clear-tables-requires-2
 clear-tables-requires-2 c κs = search needs
 
--- src/lib.rt:109:1
 same-length-5 : tie.Need-same-length-5
 same-length-5 c = search needs
 
--- src/lib.rt:109:1
 same-length-6 : tie.Need-same-length-6
 same-length-6 c = search needs
 
--- src/lib.rt:109:1
 same-length-7 : tie.Need-same-length-7
 same-length-7 c = search needs
 
--- src/lib.rt:109:1
 same-length-8 : tie.Need-same-length-8
 same-length-8 c = search needs
 
--- src/lib.rt:109:1
 returns-3 : tie.Need-returns-3
 returns-3 c =
-    let clear-tables2 = c .before .before .before .before .before .before .before .before .clear-tables2 in
-    let counters-of = c .before .before .before .before .before .before .before .before .before .before .before .before .before .before .before .before .before .before .before .before .before .counters-of in
-    let if2 = c .before .before .before .before .before .before .before .before .before .before .before .before .before .before .before .before .before .before .before .before .before .before .before .before .before .before .if2 in
-    let is-width = c .before .before .before .before .before .before .before .before .before .before .before .before .before .before .before .before .before .before .before .before .before .before .before .before .before .before .before .is-width in
-    let if1 = c .before .before .before .before .before .before .before .before .before .before .before .before .before .before .before .before .before .before .before .before .before .before .before .before .before .before .before .before .if1 in
-    let ready = c .before .before .before .before .before .before .before .before .before .before .before .before .before .before .before .before .before .before .before .before .before .before .before .before .before .before .before .before .before .ready in
-    let start = c .before .before .before .before .before .before .before .before .before .before .before .before .before .before .before .before .before .before .before .before .before .before .before .before .before .before .before .before .before .before .before .before .before .before .before .before .before in
+    let clear-tables2 = (c .before .before .before .before .before .before .before .before .clear-tables2) in
+    let counters-of = (c .before .before .before .before .before .before .before .before .before .before .before .before .before .before .before .before .before .before .before .before .before .counters-of) in
+    let if1 = (c .before .before .before .before .before .before .before .before .before .before .before .before .before .before .before .before .before .before .before .before .before .before .before .before .before .before .if1) in
+    let is-width = (c .before .before .before .before .before .before .before .before .before .before .before .before .before .before .before .before .before .before .before .before .before .before .before .before .before .before .before .is-width) in
+    let ready = (c .before .before .before .before .before .before .before .before .before .before .before .before .before .before .before .before .before .before .before .before .before .before .before .before .before .before .before .before .before .before .ready) in
+    let start = (c .before .before .before .before .before .before .before .before .before .before .before .before .before .before .before .before .before .before .before .before .before .before .before .before .before .before .before .before .before .before .before .before .before .before .before .before .before .before) in
     let s = start .args in
     let f = counters-of in
     let ts = length (s .a .now) ∷ length (s .b .now) ∷ length (s .c .now) ∷ length (s .d .now) ∷ [] in
-    let o = ready-open (s .row .now) ts (sym (ready .ensures) ∙ if1 .left) in
-    answered-whole _ _ (s .a .now) (s .b .now) (s .c .now) (s .d .now) (counters-open (s .row .now) ts (s .width) (s .s .now) (s .t .now) o (sym (is-width .ensures) ∙ not-false _ (if2 .left))) (counters-clears (s .row .now) ts (s .width) (s .s .now) (s .t .now)) (f .ensures)
+    let o = ready-open (s .row .now) ts (sym (ready .ensures) ∙ (c .before .before .before .before .before .before .before .before .before .before .before .before .before .before .before .before .before .before .before .before .before .before .before .before .before .before .before .before .enum-told) .given .1) in
+    answered-whole _ _ (s .a .now) (s .b .now) (s .c .now) (s .d .now) (counters-open (s .row .now) ts (s .width) (s .s .now) (s .t .now) o (sym (is-width .ensures) ∙ not-false _ (if1 .left))) (counters-clears (s .row .now) ts (s .width) (s .s .now) (s .t .now)) (f .ensures)
     (zeros-of (f .kept .1 .1 .1 .1 .0) (f .kept .1 .1 .1 .1 .1 .0) (f .kept .1 .1 .1 .1 .1 .1 .0) (f .kept .1 .1 .1 .1 .1 .1 .1 .0) (clear-tables2 .ensures))
 
 pub counters-spec : {M : Type 1} → statement M
-counters-spec =
-    tie.close
-    (tie.spec
-    ready-requires
-    returns
-    is-width-requires
-    clear-tables-requires
-    same-length
-    same-length-2
-    same-length-3
-    same-length-4
-    returns-2
-    counters-of-requires
-    clear-tables-requires-2
-    same-length-5
-    same-length-6
-    same-length-7
-    same-length-8
-    returns-3)
+counters-spec = tie.close (tie.spec ready-requires enum-known-entry returns enum-told is-width-requires clear-tables-requires of-neither-requires same-length same-length-2 same-length-3 same-length-4 returns-2 counters-of-requires clear-tables-requires-2 same-length-5 same-length-6 same-length-7 same-length-8 returns-3)

@@ -1,8 +1,8 @@
+-- `call_counters::counters_of` meets its contract: a text is refused, or the two forms are compared.
 use Rattle.code.specs.Coding.{dec}
 use lib.ListN.{take, drop}
 use Rattle.code_counters.specs.Same.{sameOf}
 use Rattle.call_counters.specs.Counters.{answerOf}
--- `call_counters::counters_of` meets its contract: a text is refused, or the two forms are compared.
 use mathlib.Core.Path.{_≡_, sym, ap, _∙_}
 use Prim.Native.Nat.{_+_}
 use native.Mathlib.Omega.{arith}
@@ -17,134 +17,87 @@ use Rattle.call_counters.proofs.counters_of.Tie as tie
 use Rattle.call_counters.proofs.counters_of.Reads as reads
 use Rattle.call_counters.proofs.counters_of.Lts as lts
 use Rattle.call_counters.proofs.bits_of.Reads as bits-of-reads
-use Rattle.call_counters.proofs.refused.Reads as refused-reads
 use Rattle.call_counters.proofs.verdict.Reads as verdict-reads
 use Rattle.door_terms.proofs.read_pair.Reads as read-pair-reads
 
--- src/lib.rt:100:9
 read-pair-requires : tie.Need-read-pair-requires
 read-pair-requires c κs = search needs
 
--- src/lib.rt:101:21
 enum-known-pair : tie.Need-enum-known-pair
 enum-known-pair c = search needs
 
--- src/lib.rt:102:9
-enum-told : tie.Need-enum-told
-enum-told c = search needs
+enum-known-pair-2 : tie.Need-enum-known-pair-2
+enum-known-pair-2 c = search needs
 
--- src/lib.rt:102:9
-refused-requires : tie.Need-refused-requires
-refused-requires c κs = search needs
-
--- src/lib.rt:102:9
-same-length : tie.Need-same-length
-same-length c = search needs
-
--- src/lib.rt:102:9
-same-length-2 : tie.Need-same-length-2
-same-length-2 c = search needs
-
--- src/lib.rt:102:9
-same-length-3 : tie.Need-same-length-3
-same-length-3 c = search needs
-
--- src/lib.rt:102:9
-same-length-4 : tie.Need-same-length-4
-same-length-4 c = search needs
-
--- src/lib.rt:102:9
-returns : tie.Need-returns
-returns c =
-    let read-pair = c .before .before .before .before .before .before .before .before .before .before .before .read-pair in
-    let start = c .before .before .before .before .before .before .before .before .before .before .before .before .before .before .before .before .before .before .before .before .before .before .before in
-    c .refused .ensures ∙ text-refused (start .args .width) (c .before .enum-told .given .1) (read-pair .ensures)
-
--- src/lib.rt:104:13
 add-e : tie.Need-add-e
 add-e c =
-    let read-pair = c .before .before .before .before .before .before .before .before .before .before .before .read-pair in
-    let start = c .before .before .before .before .before .before .before .before .before .before .before .before .before .before .before .before .before .before .before .before .before .before .before in
-    omega (arith, pair-words (start .pre .0) (pair-forms (c .before .pair .given .1) (read-pair .ensures)))
+    let read-pair = (c .before .before .before .before .before .before .before .before .before .before .before .read-pair) in
+    let start = (c .before .before .before .before .before .before .before .before .before .before .before .before .before .before .before .before .before .before .before .before .before .before .before) in
+    omega (arith, pair-words (start .pre .0) (pair-forms ((c .before .pair2) .given .1) (read-pair .ensures)))
 
--- src/lib.rt:105:13
 bits-of-requires : tie.Need-bits-of-requires
 bits-of-requires c κs = search needs
 
--- src/lib.rt:105:29
 slice-reshare-prefix-verdict : tie.Need-slice-reshare-prefix-verdict
 slice-reshare-prefix-verdict c =
-    let read-pair = c .before .before .before .before .before .before .before .before .before .before .before .before .read-pair in
-    let start = c .before .before .before .before .before .before .before .before .before .before .before .before .before .before .before .before .before .before .before .before .before .before .before .before in
-    pair-inside (start .pre .0) (pair-forms (c .before .before .pair .given .1) (read-pair .ensures))
+    let read-pair = (c .before .before .before .before .before .before .before .before .before .before .before .before .read-pair) in
+    let start = (c .before .before .before .before .before .before .before .before .before .before .before .before .before .before .before .before .before .before .before .before .before .before .before .before) in
+    pair-inside (start .pre .0) (pair-forms ((c .before .before .pair2) .given .1) (read-pair .ensures))
 
--- src/lib.rt:105:29
 slice-aggregate-verdict : tie.Need-slice-aggregate-verdict
 slice-aggregate-verdict c =
-    let read-pair = c .before .before .before .before .before .before .before .before .before .before .before .before .before .read-pair in
-    let start = c .before .before .before .before .before .before .before .before .before .before .before .before .before .before .before .before .before .before .before .before .before .before .before .before .before in
-    sym (length-take-le (c .before .before .before .pair .given .0 .0 + c .before .before .before .pair .given .0 .1 .0) (read-pair .last .1 .1 .1 .1 .1 .1 .0) (pair-inside (start .pre .0) (pair-forms (c .before .before .before .pair .given .1) (read-pair .ensures))))
+    let read-pair = (c .before .before .before .before .before .before .before .before .before .before .before .before .before .read-pair) in
+    let start = (c .before .before .before .before .before .before .before .before .before .before .before .before .before .before .before .before .before .before .before .before .before .before .before .before .before) in
+    sym (length-take-le ((c .before .before .before .pair2) .given .0 .0 + (c .before .before .before .pair2) .given .0 .1 .0) (read-pair .last .1 .1 .1 .1 .1 .1 .0) (pair-inside (start .pre .0) (pair-forms ((c .before .before .before .pair2) .given .1) (read-pair .ensures))))
 
--- src/lib.rt:105:5
 verdict-requires : tie.Need-verdict-requires
 verdict-requires c κs =
-    let pair = c .before .before .before .before .before .before .pair in
-    let read-pair = c .before .before .before .before .before .before .before .before .before .before .before .before .before .before .before .before .read-pair in
-    let start = c .before .before .before .before .before .before .before .before .before .before .before .before .before .before .before .before .before .before .before .before .before .before .before .before .before .before .before .before in
+    let pair = (c .before .before .before .before .before .before .pair2) in
+    let read-pair = (c .before .before .before .before .before .before .before .before .before .before .before .before .before .before .before .before .read-pair) in
+    let start = (c .before .before .before .before .before .before .before .before .before .before .before .before .before .before .before .before .before .before .before .before .before .before .before .before .before .before .before .before) in
     let Q = pair-forms (pair .given .1) (read-pair .ensures) in
     let r = start .pre .0 in
     let z = length-take-le (pair .given .0 .0 + pair .given .0 .1 .0) (read-pair .last .1 .1 .1 .1 .1 .1 .0) (pair-inside r Q) in
     let f = read-pair .kept in
     (pair-sides r Q, omega (arith, z, pair-words r Q, start .pre .1 .0, f .1 .1 .1 .0, f .1 .1 .1 .1 .0, f .1 .1 .1 .1 .1 .0))
 
--- src/lib.rt:86:1
+same-length : tie.Need-same-length
+same-length c = search needs
+
+same-length-2 : tie.Need-same-length-2
+same-length-2 c = search needs
+
+same-length-3 : tie.Need-same-length-3
+same-length-3 c = search needs
+
+same-length-4 : tie.Need-same-length-4
+same-length-4 c = search needs
+
+returns : tie.Need-returns
+returns c = text-refused ((c .before .before .before .before .before .before .before .before .before .before .before .before .before .before .before .before .before .before .before .before .before .before .before) .args .width) ((c .before .pair) .given .1) ((c .before .before .before .before .before .before .before .before .before .before .before .read-pair) .ensures)
+
 same-length-5 : tie.Need-same-length-5
 same-length-5 c = search needs
 
--- src/lib.rt:86:1
 same-length-6 : tie.Need-same-length-6
 same-length-6 c = search needs
 
--- src/lib.rt:86:1
 same-length-7 : tie.Need-same-length-7
 same-length-7 c = search needs
 
--- src/lib.rt:86:1
 same-length-8 : tie.Need-same-length-8
 same-length-8 c = search needs
 
--- src/lib.rt:86:1
 returns-2 : tie.Need-returns-2
 returns-2 c =
-    let verdict = c .before .before .before .before .before .before .verdict in
-    let bits-of = c .before .before .before .before .before .before .before .before .before .before .before .bits-of in
-    let pair = c .before .before .before .before .before .before .before .before .before .before .before .before .before .pair in
-    let read-pair = c .before .before .before .before .before .before .before .before .before .before .before .before .before .before .before .before .before .before .before .before .before .before .before .read-pair in
-    let start = c .before .before .before .before .before .before .before .before .before .before .before .before .before .before .before .before .before .before .before .before .before .before .before .before .before .before .before .before .before .before .before .before .before .before .before in
+    let verdict = (c .before .before .before .before .before .before .verdict) in
+    let bits-of = (c .before .before .before .before .before .before .before .before .before .before .before .bits-of) in
+    let pair = (c .before .before .before .before .before .before .before .before .before .before .before .before .before .pair2) in
+    let read-pair = (c .before .before .before .before .before .before .before .before .before .before .before .before .before .before .before .before .before .before .before .before .before .before .before .read-pair) in
+    let start = (c .before .before .before .before .before .before .before .before .before .before .before .before .before .before .before .before .before .before .before .before .before .before .before .before .before .before .before .before .before .before .before .before .before .before .before) in
     let l = take (pair .given .0 .0 + pair .given .0 .1 .0) (read-pair .last .1 .1 .1 .1 .1 .1 .0) in
     verdict .ensures ∙ ap (λ w. answerOf (sameOf w (dec 0 (take (pair .given .0 .0) l)) (dec 0 (drop (pair .given .0 .0) l)))) (bits-of .ensures)
     ∙ pair-counted (start .args .width) (start .pre .0) (pair-forms (pair .given .1) (read-pair .ensures))
 
 pub counters-of-spec : {M : Type 1} → statement M
-counters-of-spec =
-    tie.close
-    (tie.spec
-    read-pair-requires
-    enum-known-pair
-    enum-told
-    refused-requires
-    same-length
-    same-length-2
-    same-length-3
-    same-length-4
-    returns
-    add-e
-    bits-of-requires
-    slice-reshare-prefix-verdict
-    slice-aggregate-verdict
-    verdict-requires
-    same-length-5
-    same-length-6
-    same-length-7
-    same-length-8
-    returns-2)
+counters-of-spec = tie.close (tie.spec read-pair-requires enum-known-pair enum-known-pair-2 add-e bits-of-requires slice-reshare-prefix-verdict slice-aggregate-verdict verdict-requires same-length same-length-2 same-length-3 same-length-4 returns same-length-5 same-length-6 same-length-7 same-length-8 returns-2)

@@ -5,6 +5,9 @@ use mathlib.Core.Path.{_≡_, refl, sym, ap, _∙_}
 use Prim.Native.Nat.{ℕ, _≤_}
 use lib.IntN.{ℤ}
 use lib.ListN.{length, take}
+use Rattle.refusal.specs.Refusal.{onSide}
+use Rattle.refusal.specs.declared.Fault.{Fault}
+use Rattle.refusal.specs.declared.Side.the-variants.{Left}
 use Rattle.horner.specs.definitions.Form.{Form}
 use Rattle.horner.specs.definitions.Integers.{ℤ-ring}
 use Rattle.horner.specs.definitions.Value.{evalh}
@@ -15,30 +18,29 @@ use Rattle.code.specs.laws.Codes.{dec-enc}
 use Rattle.text.specs.definitions.Answer.{Reading}
 use Rattle.text.specs.definitions.FormJudging.{acceptForm}
 use Rattle.measure.specs.declared.Measures.{Measures}
-use Rattle.reply.specs.definitions.Buffers.{untouched}
+use Rattle.reply.specs.definitions.Reply.{untouched}
 use Rattle.reply.specs.definitions.Forms.{formRemainderOf, formRemainderReply}
-use Rattle.reply.specs.definitions.Reply.{Reply, gives, left, readAs}
+use Rattle.reply.specs.definitions.Reply.{Reply, gives, readAs}
 use Rattle.reply.specs.definitions.Terms.{remainder}
 use Rattle.form_build.specs.laws.Accepted.{accepted-good}
 use Rattle.form_read.specs.Read.{IsForm, FormRead}
-use Rattle.form_read.specs.declared.Read.{Read}
-use Rattle.form_read.specs.declared.Read.the-variants.{Refused}
+use Rattle.form_read.specs.declared.FormReading.{FormReading}
+use Rattle.form_read.specs.declared.FormReading.the-variants.{Refused}
 use Rattle.form_read.specs.laws.Read.{read-refusal}
 use Rattle.door.specs.laws.Ending.{read-clears}
 use Rattle.door.specs.laws.Numbers.{form-number}
 use Rattle.door_point.specs.Point.{remainderedOf, residuesOf}
-use Rattle.door_point.specs.declared.Remaindered.the-variants as A
+use Rattle.reply.specs.declared.Remaindered.the-variants as A
 use Rattle.door_point.specs.laws.Residues.{residues-front}
 use Rattle.door_point.specs.laws.Values.{value-form}
 use Rattle.door_point.specs.laws.Whole.{pointed}
-use Rattle.call_form_remainder.specs.Refusing.{refusedOf}
 
 abbrev answer : List ℤ → Reading (Form ℤ) → Reply ℕ
-answer N x = readAs left x (λ f. gives (remainder (evalh ℤ-ring f N)))
+answer N x = readAs Left x (λ f. gives (remainder (evalh ℤ-ring f N)))
 
 module _ (row : List ℕ) {s l : List ℕ} (N : List ℤ) where
-  pub remainder-refused : {e p : ℕ} {r : Read} → r ≡ Refused e p → FormRead (length row) s r l → refusedOf r ≡ remainderedOf (formRemainderOf row s N)
-  remainder-refused h t = ap refusedOf h ∙ ap (λ x. remainderedOf (answer N x)) (sym (read-refusal h t))
+  pub remainder-refused : {bad : Fault} {r : FormReading} → r ≡ Refused bad → FormRead (length row) s r l → A.Refused (onSide Left bad) ≡ remainderedOf (formRemainderOf row s N)
+  remainder-refused h t = ap (λ x. remainderedOf (answer N x)) (sym (read-refusal h t))
 
   pub remainder-is : {a : Measures} {k v : ℕ} (m : ℕ) (d : List ℕ) {b : List ℕ} → length row ≤ 4 → IsForm (length row) s a k l → m ≡ length N → b ≡ residuesOf N ++ d
       → v ≡ valueOf 0 (dec 0 (take k l)) (take m b) → A.Remainder v ≡ remainderedOf (formRemainderOf row s N)
@@ -54,4 +56,4 @@ module _ (row ts s : List ℕ) (N : List ℤ) where
   remainder-pointed = refl
 
   pub remainder-clears : untouched (formRemainderOf row s N) ≡ false
-  remainder-clears = read-clears left (acceptForm (length row) s) (λ f. gives (remainder (evalh ℤ-ring f N))) (form-number (length row) s) (λ t. refl)
+  remainder-clears = read-clears Left (acceptForm (length row) s) (λ f. gives (remainder (evalh ℤ-ring f N))) (form-number (length row) s) (λ t. refl)

@@ -4,6 +4,8 @@ use mathlib.Core.Path.{_≡_, sym, ap, ap₂, subst, _∙_}
 use Prim.Native.Nat.{ℕ, _≤_}
 use native.Mathlib.Omega.{arith}
 use lib.ListN.{length, take}
+use Rattle.door.specs.declared.Entry.the-variants as Closed
+use Rattle.refusal.specs.declared.Refusal.{Refusal}
 use Rattle.horner.specs.definitions.Form.{Form as HForm, prod}
 use Rattle.horner.specs.definitions.Integers.{ℤ-ring}
 use Rattle.horner.specs.definitions.Measures.{degrees, sums, terms}
@@ -20,7 +22,7 @@ use Rattle.code_room.specs.laws.Tables.{tables-for}
 use Rattle.text.specs.definitions.FormText.{text}
 use Rattle.form_write.specs.Write.{textOf}
 use Rattle.reply.specs.definitions.Forms.{ofProduct, twoOf, multiplyReply}
-use Rattle.reply.specs.definitions.Reply.{neither, refuses}
+use Rattle.reply.specs.definitions.Reply.{refuses}
 use Rattle.measure.specs.declared.Measures.{Measures}
 use Rattle.measure.specs.Measure.{mulM, limitM}
 use Rattle.code_pair.specs.Pair.{left, right}
@@ -111,6 +113,6 @@ module _ (row ts s t : List ℕ) (n : ℕ) where
   unfolding multiplyReply
   multiply-open o = open-goes row ts (λ u. twoOf (ofProduct (length row)) (prod ℤ-ring) row s t n) o
 
-  pub multiply-not-open : (readyOf row ts ≡ 0 → ⊥) → multiplyReply row ts s t n ≡ refuses (readyOf row ts) neither 0
+  pub multiply-not-open : {bad : Refusal} → readyOf row ts ≡ Closed.Refused bad → multiplyReply row ts s t n ≡ refuses bad
   unfolding multiplyReply
   multiply-not-open h = not-open row ts (λ u. twoOf (ofProduct (length row)) (prod ℤ-ring) row s t n) h

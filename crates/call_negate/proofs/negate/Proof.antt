@@ -1,9 +1,9 @@
 -- `call_negate::negate` meets its contract: the row and the tables are looked at, the inner call answers, the tables are cleared.
+use Rattle.door.specs.laws.Door.{ready-small, ready-open, open-long}
 use mathlib.Core.Path.{refl, sym, _∙_}
 use mathlib.Core.List.{[], _∷_}
 use lib.ListN.{length}
 use Rattle.door_result.specs.laws.Whole.{refused-whole, answered-whole}
-use Rattle.door.specs.laws.Door.{ready-open, open-long}
 use Rattle.door.specs.laws.Ending.{zeros-of}
 use Rattle.call_negate.specs.laws.Negate.{negate-open, negate-not-open, negate-clears}
 use borrow.Author.Needs.{needs}
@@ -15,78 +15,61 @@ use Rattle.call_negate.proofs.negate_of.Reads as negate-of-reads
 use Rattle.door.proofs.clear_tables.Reads as clear-tables-reads
 use Rattle.door.proofs.ready.Reads as ready-reads
 
--- src/lib.rt:46:9
 ready-requires : tie.Need-ready-requires
 ready-requires c κs = search needs
 
--- src/lib.rt:48:9
+enum-known-entry : tie.Need-enum-known-entry
+enum-known-entry c = search needs
+
 returns : tie.Need-returns
 returns c =
-    let start = c .before .before .before .before .before .before .before .before .before in
-    let s = start .args in
+    let s = (c .before .before .before .before .before .before .before .before .before .before .before) .args in
     let ts = length (s .a .now) ∷ length (s .b .now) ∷ length (s .c .now) ∷ length (s .d .now) ∷ [] in
-    refused-whole (s .row .now) ts _ (s .result .now) (s .a .now) (s .b .now) (s .c .now) (s .d .now) (c .before .ready .ensures) (negate-not-open (s .row .now) ts (s .s .now) (length (s .result .now)) (λ z. c .if1 .taken (c .before .ready .ensures ∙ z)))
+    let closed = sym ((c .before .before .before .ready) .ensures) ∙ (c .before .entry) .given .1 in
+    refused-whole _ (s .result .now) (s .a .now) (s .b .now) (s .c .now) (s .d .now) (ready-small (s .row .now) ts closed) (negate-not-open (s .row .now) ts (s .s .now) (length (s .result .now)) closed)
 
--- src/lib.rt:50:9
+enum-told : tie.Need-enum-told
+enum-told c = search needs
+
 negate-of-requires : tie.Need-negate-of-requires
 negate-of-requires c κs =
-    let ready = c .before .before .before .before .ready in
-    let start = c .before .before .before .before .before .before .before .before .before .before .before .before in
+    let ready = (c .before .before .before .before .before .ready) in
+    let start = (c .before .before .before .before .before .before .before .before .before .before .before .before .before) in
     let s = start .args in
-    let o = ready-open (s .row .now) (length (s .a .now) ∷ length (s .b .now) ∷ length (s .c .now) ∷ length (s .d .now) ∷ []) (sym (ready .ensures) ∙ c .before .before .before .if1 .left) in
+    let o = ready-open (s .row .now) (length (s .a .now) ∷ length (s .b .now) ∷ length (s .c .now) ∷ length (s .d .now) ∷ []) (sym (ready .ensures) ∙ (c .before .before .before .enum-told) .given .1) in
     let l = open-long (length (s .a .now)) (length (s .b .now)) (length (s .c .now)) (length (s .d .now)) o in
     (o .proper, (l .first, l .second))
 
--- src/lib.rt:51:5
 clear-tables-requires : tie.Need-clear-tables-requires
 clear-tables-requires c κs = search needs
 
--- src/lib.rt:33:1
 same-length : tie.Need-same-length
 same-length c = search needs
 
--- src/lib.rt:33:1
 same-length-2 : tie.Need-same-length-2
 same-length-2 c = search needs
 
--- src/lib.rt:33:1
 same-length-3 : tie.Need-same-length-3
 same-length-3 c = search needs
 
--- src/lib.rt:33:1
 same-length-4 : tie.Need-same-length-4
 same-length-4 c = search needs
 
--- src/lib.rt:33:1
 same-length-5 : tie.Need-same-length-5
 same-length-5 c = search needs
 
--- src/lib.rt:33:1
 returns-2 : tie.Need-returns-2
 returns-2 c =
-    let clear-tables = c .before .before .before .before .before .before .before .before .clear-tables in
-    let negate-of = c .before .before .before .before .before .before .before .before .before .before .before .before .before .before .before .before .before .before .before .negate-of in
-    let if1 = c .before .before .before .before .before .before .before .before .before .before .before .before .before .before .before .before .before .before .before .before .before .before .before .if1 in
-    let ready = c .before .before .before .before .before .before .before .before .before .before .before .before .before .before .before .before .before .before .before .before .before .before .before .before .ready in
-    let start = c .before .before .before .before .before .before .before .before .before .before .before .before .before .before .before .before .before .before .before .before .before .before .before .before .before .before .before .before .before .before .before .before in
+    let clear-tables = (c .before .before .before .before .before .before .before .before .clear-tables) in
+    let negate-of = (c .before .before .before .before .before .before .before .before .before .before .before .before .before .before .before .before .before .before .before .negate-of) in
+    let ready = (c .before .before .before .before .before .before .before .before .before .before .before .before .before .before .before .before .before .before .before .before .before .before .before .before .before .ready) in
+    let start = (c .before .before .before .before .before .before .before .before .before .before .before .before .before .before .before .before .before .before .before .before .before .before .before .before .before .before .before .before .before .before .before .before .before) in
     let s = start .args in
     let f = negate-of in
     let ts = length (s .a .now) ∷ length (s .b .now) ∷ length (s .c .now) ∷ length (s .d .now) ∷ [] in
-    let o = ready-open (s .row .now) ts (sym (ready .ensures) ∙ if1 .left) in
+    let o = ready-open (s .row .now) ts (sym (ready .ensures) ∙ (c .before .before .before .before .before .before .before .before .before .before .before .before .before .before .before .before .before .before .before .before .before .before .before .enum-told) .given .1) in
     answered-whole _ _ (s .result .now) (s .a .now) (s .b .now) (s .c .now) (s .d .now) (negate-open (s .row .now) ts (s .s .now) (length (s .result .now)) o) (negate-clears (s .row .now) ts (s .s .now) (length (s .result .now))) (f .ensures .0) (f .ensures .1)
     (zeros-of (f .kept .1 .1 .1 .0) (f .kept .1 .1 .1 .1 .0) refl refl (clear-tables .ensures))
 
 pub negate-spec : {M : Type 1} → statement M
-negate-spec =
-    tie.close
-    (tie.spec
-    ready-requires
-    returns
-    negate-of-requires
-    clear-tables-requires
-    same-length
-    same-length-2
-    same-length-3
-    same-length-4
-    same-length-5
-    returns-2)
+negate-spec = tie.close (tie.spec ready-requires enum-known-entry returns enum-told negate-of-requires clear-tables-requires same-length same-length-2 same-length-3 same-length-4 same-length-5 returns-2)

@@ -6,6 +6,10 @@ use Prim.Native.Nat.{ℕ, _≤_}
 use native.Mathlib.Omega.{arith}
 use lib.IntN.{ℤ}
 use lib.ListN.{length, take}
+use Rattle.door.specs.declared.Entry.the-variants as Closed
+use Rattle.refusal.specs.Refusal.{onSide}
+use Rattle.refusal.specs.declared.Fault.{Fault}
+use Rattle.refusal.specs.declared.Refusal.{Refusal}
 use Rattle.horner.specs.definitions.Form.{Form as HForm, negate}
 use Rattle.horner.specs.definitions.Integers.{ℤ-ring}
 use Rattle.horner.specs.definitions.Measures.{degrees}
@@ -14,33 +18,33 @@ use Rattle.horner.specs.laws.Normal.{normal-negate}
 use Rattle.horner.specs.laws.Table.{negate-fits}
 use Rattle.code.specs.Coding.{Codes, Made, dec}
 use Rattle.code.specs.Operations as C
-use Rattle.text.specs.definitions.Answer.{Reading, read, refused}
+use Rattle.text.specs.definitions.Answer.{Reading, read}
 use Rattle.text.specs.definitions.FormJudging.{acceptForm}
 use Rattle.text.specs.definitions.FormText.{text}
 use Rattle.form_write.specs.Write.{textOf}
-use Rattle.reply.specs.definitions.Buffers.{resultAfter, untouched}
+use Rattle.reply.specs.definitions.Reply.{resultAfter, untouched}
 use Rattle.reply.specs.definitions.Forms.{negateOf, negateReply}
-use Rattle.reply.specs.definitions.Reply.{left, neither, refuses, readAs, fitted}
+use Rattle.reply.specs.definitions.Reply.{refuses, readAs, fitted}
 use Rattle.measure.specs.declared.Measures.{Measures}
 use Rattle.door.specs.Door.{readyOf}
-use Rattle.door.specs.declared.Side.the-variants.{Left}
+use Rattle.refusal.specs.declared.Side.the-variants.{Left}
 use Rattle.door.specs.laws.Door.{Open, open-goes, not-open}
 use Rattle.door.specs.laws.Ending.{read-clears, fitted-clears}
 use Rattle.door.specs.laws.Numbers.{form-number}
 use Rattle.door_result.specs.Result.{writtenOf}
-use Rattle.door_result.specs.declared.Written.the-variants.{Refused}
+use Rattle.reply.specs.declared.Written.the-variants.{Refused}
 use Rattle.form_build.specs.Build.{overP}
 use Rattle.form_read.specs.Read.{IsForm, FormRead}
-use Rattle.form_read.specs.declared.Read.{Read}
-use Rattle.form_read.specs.declared.Read.the-variants as R
+use Rattle.form_read.specs.declared.FormReading.{FormReading}
+use Rattle.form_read.specs.declared.FormReading.the-variants as R
 use Rattle.form_read.specs.laws.Read.{read-refusal}
 use Rattle.door_forms.specs.laws.Results.{Within, operand, result, decoded, codes, words, result-text}
 
 -- ---- the text is refused
-pub negate-refused : (row : List ℕ) {s l : List ℕ} {e p : ℕ} {r : Read} (n : ℕ) (b : List ℕ) → r ≡ R.Refused e p → FormRead (length row) s r l
-    → (Refused e Left p ≡ writtenOf (negateOf row s n)) × (b ≡ resultAfter (negateOf row s n) b)
+pub negate-refused : (row : List ℕ) {s l : List ℕ} {bad : Fault} {r : FormReading} (n : ℕ) (b : List ℕ) → r ≡ R.Refused bad → FormRead (length row) s r l
+    → (Refused (onSide Left bad) ≡ writtenOf (negateOf row s n)) × (b ≡ resultAfter (negateOf row s n) b)
 negate-refused row n b h t =
-    let k = ap (λ (x : Reading (HForm ℤ)). readAs left x (λ x. fitted n (text (negate ℤ-ring x)))) (read-refusal h t) in
+    let k = ap (λ (x : Reading (HForm ℤ)). readAs Left x (λ x. fitted n (text (negate ℤ-ring x)))) (read-refusal h t) in
     (ap writtenOf (sym k), ap (λ x. resultAfter x b) (sym k))
 
 -- ---- the negative is written
@@ -67,7 +71,7 @@ module _ {m : ℕ} {s l : List ℕ} {a : Measures} {n : ℕ} (few : m ≤ 4) (F 
 pub negate-is : (row : List ℕ) {s l : List ℕ} {a : Measures} {n : ℕ} (few : length row ≤ 4) (F : IsForm (length row) s a n l) {k : ℕ} {d : List ℕ} (room : ℕ)
     → Made 0 (C.negateOf 0 (dec 0 (take n l))) k d → fitted room (textOf (dec 0 (take k d))) ≡ negateOf row s room
 negate-is row few F room M =
-    ap (fitted room) (negative-text few F M) ∙ ap (λ (x : Reading (HForm ℤ)). readAs left x (λ x. fitted room (text (negate ℤ-ring x)))) (sym (F .accepted))
+    ap (fitted room) (negative-text few F M) ∙ ap (λ (x : Reading (HForm ℤ)). readAs Left x (λ x. fitted room (text (negate ℤ-ring x)))) (sym (F .accepted))
 
 -- ---- the whole call
 module _ (row ts s : List ℕ) (n : ℕ) where
@@ -75,10 +79,10 @@ module _ (row ts s : List ℕ) (n : ℕ) where
   unfolding negateReply
   negate-open o = open-goes row ts (λ u. negateOf row s n) o
 
-  pub negate-not-open : (readyOf row ts ≡ 0 → ⊥) → negateReply row ts s n ≡ refuses (readyOf row ts) neither 0
+  pub negate-not-open : {bad : Refusal} → readyOf row ts ≡ Closed.Refused bad → negateReply row ts s n ≡ refuses bad
   unfolding negateReply
   negate-not-open h = not-open row ts (λ u. negateOf row s n) h
 
   pub negate-clears : untouched (negateOf row s n) ≡ false
   negate-clears =
-      read-clears left (acceptForm (length row) s) (λ x. fitted n (text (negate ℤ-ring x))) (form-number (length row) s) (λ x. fitted-clears n (text (negate ℤ-ring x)))
+      read-clears Left (acceptForm (length row) s) (λ x. fitted n (text (negate ℤ-ring x))) (form-number (length row) s) (λ x. fitted-clears n (text (negate ℤ-ring x)))

@@ -8,6 +8,10 @@ use borrow.Author.Tests.{le-leb, lt-leb}
 use lib.Dec.{leb}
 use lib.IntN.{ℤ}
 use lib.ListN.{length, take, length-map}
+use Rattle.door.specs.declared.Entry.the-variants as Closed
+use Rattle.refusal.specs.declared.Fault.{Fault}
+use Rattle.refusal.specs.declared.Refusal.{Refusal}
+use Rattle.refusal.specs.Refusal.{onSide, ofNeither}
 use Rattle.horner.specs.definitions.Form.{Form as HForm, raise}
 use Rattle.horner.specs.definitions.Integers.{ℤ-ring}
 use Rattle.horner.specs.definitions.Measures.{degrees, multiples, one-if, terms}
@@ -30,21 +34,21 @@ use Rattle.text.specs.definitions.Answer.{Reading, read}
 use Rattle.text.specs.definitions.FormJudging.{acceptForm}
 use Rattle.text.specs.definitions.FormText.{text}
 use Rattle.form_write.specs.Write.{textOf}
-use Rattle.reply.specs.definitions.Buffers.{untouched}
+use Rattle.reply.specs.definitions.Reply.{untouched}
 use Rattle.reply.specs.definitions.Forms.{ofPower, limited, raiseOf, raiseReply}
-use Rattle.reply.specs.definitions.Reply.{left, neither, refuses, readAs, asked, fitted}
+use Rattle.reply.specs.definitions.Reply.{refuses, readAs, asked, fitted}
 use Rattle.measure.specs.declared.Measures.{Measures}
 use Rattle.measure.specs.Measure.{powM, limitM}
 use Rattle.door.specs.Door.{readyOf}
-use Rattle.door.specs.declared.Side.the-variants.{Left, Neither}
+use Rattle.refusal.specs.declared.Side.the-variants.{Left, Neither}
 use Rattle.door.specs.laws.Door.{Open, open-goes, not-open}
 use Rattle.door.specs.laws.Ending.{read-clears, asked-clears, fitted-clears}
 use Rattle.door.specs.laws.Numbers.{form-number}
-use Rattle.door_result.specs.declared.Written.the-variants.{Refused}
+use Rattle.reply.specs.declared.Written.the-variants.{Refused}
 use Rattle.form_build.specs.Build.{overP}
 use Rattle.form_read.specs.Read.{IsForm, FormRead}
-use Rattle.form_read.specs.declared.Read.{Read}
-use Rattle.form_read.specs.declared.Read.the-variants as R
+use Rattle.form_read.specs.declared.FormReading.{FormReading}
+use Rattle.form_read.specs.declared.FormReading.the-variants as R
 use Rattle.form_read.specs.laws.Read.{read-refusal, form-words}
 use Rattle.door_forms.specs.laws.Limits.{Meets, power-meets, inside, passed, stopped}
 use Rattle.door_forms.specs.laws.Results.{Within, operand, result, over-remainders, decoded, few-words, codes, words, result-text}
@@ -52,18 +56,18 @@ use Rattle.door_forms.specs.laws.Two.{Answers, answers, limited-clears}
 
 -- ---- the reply, by what is read
 module _ (row s : List ℕ) (k n : ℕ) where
-  pub raise-refused : {l : List ℕ} {e p : ℕ} {r : Read} (b : List ℕ) → r ≡ R.Refused e p → FormRead (length row) s r l → Answers (raiseOf row s k n) (Refused e Left p) b b
+  pub raise-refused : {l : List ℕ} {bad : Fault} {r : FormReading} (b : List ℕ) → r ≡ R.Refused bad → FormRead (length row) s r l → Answers (raiseOf row s k n) (Refused (onSide Left bad)) b b
   raise-refused b h t =
       answers b
-      (ap (λ (z : Reading (HForm ℤ)). readAs left z (λ x. asked (leb k 63) 8 (λ v. limited (ofPower (length row) x k) (λ w. fitted n (text (raise ℤ-ring x k)))))) (read-refusal h t))
+      (ap (λ (z : Reading (HForm ℤ)). readAs Left z (λ x. asked (leb k 63) 8 (λ v. limited (ofPower (length row) x k) (λ w. fitted n (text (raise ℤ-ring x k)))))) (read-refusal h t))
 
   accepted : {f : HForm ℤ} → acceptForm (length row) s ≡ read f
       → raiseOf row s k n ≡ asked (leb k 63) 8 (λ v. limited (ofPower (length row) f k) (λ w. fitted n (text (raise ℤ-ring f k))))
   accepted e =
-      ap (λ (z : Reading (HForm ℤ)). readAs left z (λ x. asked (leb k 63) 8 (λ v. limited (ofPower (length row) x k) (λ w. fitted n (text (raise ℤ-ring x k)))))) e
+      ap (λ (z : Reading (HForm ℤ)). readAs Left z (λ x. asked (leb k 63) 8 (λ v. limited (ofPower (length row) x k) (λ w. fitted n (text (raise ℤ-ring x k)))))) e
 
   -- the exponent passes its limit
-  pub raise-high : {f : HForm ℤ} (b : List ℕ) → acceptForm (length row) s ≡ read f → 63 < k → Answers (raiseOf row s k n) (Refused 8 Neither 0) b b
+  pub raise-high : {f : HForm ℤ} (b : List ℕ) → acceptForm (length row) s ≡ read f → 63 < k → Answers (raiseOf row s k n) (Refused (ofNeither 8)) b b
   raise-high {f} b e h =
       answers b
       (accepted e ∙ ap (λ t. asked t 8 (λ v. limited (ofPower (length row) f k) (λ w. fitted n (text (raise ℤ-ring f k))))) (lt-leb k 63 h))
@@ -73,7 +77,7 @@ module _ (row s : List ℕ) (k n : ℕ) where
 
   pub raise-clears : untouched (raiseOf row s k n) ≡ false
   raise-clears =
-      read-clears left (acceptForm (length row) s) (λ x. asked (leb k 63) 8 (λ v. limited (ofPower (length row) x k) (λ w. fitted n (text (raise ℤ-ring x k))))) (form-number (length row) s)
+      read-clears Left (acceptForm (length row) s) (λ x. asked (leb k 63) 8 (λ v. limited (ofPower (length row) x k) (λ w. fitted n (text (raise ℤ-ring x k))))) (form-number (length row) s)
       (λ x. asked-clears (leb k 63) 8 (λ v. limited (ofPower (length row) x k) (λ w. fitted n (text (raise ℤ-ring x k)))) (omega arith)
       (limited-clears (ofPower (length row) x k) (λ w. fitted n (text (raise ℤ-ring x k))) (fitted-clears n (text (raise ℤ-ring x k)))))
 
@@ -162,10 +166,10 @@ module _ {m : ℕ} {s l : List ℕ} {a : Measures} {n : ℕ} (few : m ≤ 4) (F 
 
 -- ---- the call, where the exponent is within its limit
 module _ (row : List ℕ) {s l : List ℕ} {a : Measures} {w : ℕ} (few : length row ≤ 4) (F : IsForm (length row) s a w l) (k n : ℕ) (h : k ≤ 63) where
-  pub raise-stopped : {e : ℕ} (b : List ℕ) → e ≡ limitM (powM a k) → (e ≡ 0 → ⊥) → Answers (raiseOf row s k n) (Refused e Neither 0) b b
+  pub raise-stopped : {e : ℕ} (b : List ℕ) → e ≡ limitM (powM a k) → (e ≡ 0 → ⊥) → Answers (raiseOf row s k n) (Refused (ofNeither e)) b b
   raise-stopped b i z =
       let q = low row s k n (F .accepted) h ∙ stopped (meets few F k) (λ v. fitted n (text (raise ℤ-ring (F .f) k))) (λ y. z (i ∙ y)) in
-      (ap (λ e. Refused e Neither 0) i ∙ answers b q .0, answers b q .1)
+      (ap (λ e. Refused (ofNeither e)) i ∙ answers b q .0, answers b q .1)
 
   pub raise-is : limitM (powM a k) ≡ 0 → {r : ℕ} {d : List ℕ} → Made 0 (P.raiseOf 0 (dec 0 (take w l)) k) r d → fitted n (textOf (dec 0 (take r d))) ≡ raiseOf row s k n
   raise-is z M =
@@ -177,6 +181,6 @@ module _ (row ts s : List ℕ) (k n : ℕ) where
   unfolding raiseReply
   raise-open o = open-goes row ts (λ u. raiseOf row s k n) o
 
-  pub raise-not-open : (readyOf row ts ≡ 0 → ⊥) → raiseReply row ts s k n ≡ refuses (readyOf row ts) neither 0
+  pub raise-not-open : {bad : Refusal} → readyOf row ts ≡ Closed.Refused bad → raiseReply row ts s k n ≡ refuses bad
   unfolding raiseReply
   raise-not-open h = not-open row ts (λ u. raiseOf row s k n) h

@@ -5,6 +5,9 @@ use mathlib.Core.Path.{_≡_, refl, sym, ap, _∙_}
 use Prim.Native.Nat.{ℕ}
 use lib.IntN.{ℤ}
 use lib.ListN.{length, take}
+use Rattle.refusal.specs.Refusal.{onSide}
+use Rattle.refusal.specs.declared.Fault.{Fault}
+use Rattle.refusal.specs.declared.Side.the-variants.{Left}
 use Rattle.horner.specs.definitions.Term.{evalℤ}
 use Rattle.code.specs.Coding.{dec}
 use Rattle.code.specs.Operations.{valueOf}
@@ -14,30 +17,29 @@ use Rattle.text.specs.definitions.Bytes.{isRow}
 use Rattle.text.specs.definitions.Limits.{acceptTerm}
 use Rattle.text.specs.definitions.Tree.{Tree, termOf}
 use Rattle.text_laws.specs.laws.Rows.{accepted-within}
-use Rattle.reply.specs.definitions.Buffers.{untouched}
-use Rattle.reply.specs.definitions.Reply.{Reply, gives, left, readAs}
+use Rattle.reply.specs.definitions.Reply.{untouched}
+use Rattle.reply.specs.definitions.Reply.{Reply, gives, readAs}
 use Rattle.reply.specs.definitions.Terms.{remainder, remainderOf, remainderReply}
 use Rattle.term_read.specs.Read.{IsTerm, TermRead}
-use Rattle.door.specs.declared.Read.{Read}
-use Rattle.door.specs.declared.Read.the-variants.{Refused}
+use Rattle.term_read.specs.declared.TermReading.{TermReading}
+use Rattle.term_read.specs.declared.TermReading.the-variants.{Refused}
 use Rattle.term_read.specs.laws.Reading.{read-refusal}
 use Rattle.door.specs.laws.Ending.{read-clears}
 use Rattle.door.specs.laws.Numbers.{term-number}
 use Rattle.term_read.specs.laws.Terms.{term-codes}
 use Rattle.door_point.specs.Point.{remainderedOf, residuesOf}
-use Rattle.call_remainder.specs.Remainder.{refusedOf}
-use Rattle.door_point.specs.declared.Remaindered.the-variants as A
+use Rattle.reply.specs.declared.Remaindered.the-variants as A
 use Rattle.door_point.specs.laws.Residues.{residues-front}
 use Rattle.door_point.specs.laws.Values.{value-term}
 use Rattle.door_point.specs.laws.Whole.{pointed}
 
 abbrev answer : List ℕ → List ℤ → Reading Tree → Reply ℕ
-answer row N x = readAs left x (λ t. gives (remainder (evalℤ (termOf row t) N)))
+answer row N x = readAs Left x (λ t. gives (remainder (evalℤ (termOf row t) N)))
 
 module _ {row s l : List ℕ} (N : List ℤ) where
   -- the text is refused
-  pub remainder-refused : {e p : ℕ} {r : Read} → r ≡ Refused e p → TermRead row s r l → refusedOf r ≡ remainderedOf (remainderOf row s N)
-  remainder-refused h t = ap refusedOf h ∙ ap (λ x. remainderedOf (answer row N x)) (sym (read-refusal h t))
+  pub remainder-refused : {bad : Fault} {r : TermReading} → r ≡ Refused bad → TermRead row s r l → A.Refused (onSide Left bad) ≡ remainderedOf (remainderOf row s N)
+  remainder-refused h t = ap (λ x. remainderedOf (answer row N x)) (sym (read-refusal h t))
 
   -- the value is worked out, at the remainders in front of a table
   pub remainder-is : {k v : ℕ} (m : ℕ) (d : List ℕ) {b : List ℕ} → isRow row ≡ true → IsTerm row s k l → length N ≡ length row → m ≡ length N → b ≡ residuesOf N ++ d
@@ -55,4 +57,4 @@ module _ (row ts s : List ℕ) (N : List ℤ) where
   remainder-pointed = refl
 
   pub remainder-clears : untouched (remainderOf row s N) ≡ false
-  remainder-clears = read-clears left (acceptTerm row s) (λ t. gives (remainder (evalℤ (termOf row t) N))) (term-number row s) (λ t. refl)
+  remainder-clears = read-clears Left (acceptTerm row s) (λ t. gives (remainder (evalℤ (termOf row t) N))) (term-number row s) (λ t. refl)

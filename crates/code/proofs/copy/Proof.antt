@@ -30,12 +30,13 @@ copy-spec =
     (λ c. search needs)
     (λ c. search needs)
     (λ c.
-    let at-loop = c .before .before in (
+    let at-loop = c .before .before in
+    let s = at-loop .before in (
       search needs,
       (
         simp length-set (omega arith),
         rw (at-loop .loop .inv .1 .1)
-            (copy-more (at-loop .before .args .x .now) (at-loop .before .args .out .now) (at-loop .loop .k) (omega arith) (omega arith)),
+            (copy-more (s .args .x .now) (s .args .out .now) (at-loop .loop .k) (omega arith) (omega arith)),
       ),
     ))
     (λ c. search needs)

@@ -22,8 +22,10 @@ join-spec =
     (λ c. search needs)
     -- returns
     (λ c.
-    let s = c .before .before .before .before .before .before .before .before .before in
-    let b = c .before .before .before .before .before .before in
-    let d = c .before .before in
-    joined (s .args .out .now) (b .shift .last .0) (d .shift2 .last .0) (s .args .s) (s .args .b) (s .pre) (b .shift .ensures) (b .shift .kept .0)
-    (d .shift2 .ensures) (c .before .before .before .before .before .out .given .1)))
+    let shift2 = c .before .before .shift2 in
+    let at-out : tie.After-out = c .before .before .before .before .before in
+    let at-shift = at-out .before in
+    let s : tie.Start = at-shift .before .before .before in
+    joined (s .args .out .now) (at-shift .shift .last .0) (shift2 .last .0) (s .args .s) (s .args .b) (s .pre)
+    (at-shift .shift .ensures) (at-shift .shift .kept .0)
+    (shift2 .ensures) (at-out .out .given .1)))

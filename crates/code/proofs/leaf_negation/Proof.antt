@@ -28,13 +28,14 @@ leaf-negation-spec =
     (λ c. search needs)
     -- returns-2
     (λ c.
-    let s = c .before .before .before .before in
-    let b = c .before .before in
-    let l : (s .args .a) < 256 = omega (arith, modulus-8 (s .args .width) (b .if2 .taken)) in
-    rest-at (λ m. m - (s .args .a)) (s .args .width) 256 _ (modulus-8 (s .args .width) (b .if2 .taken))
+    let if2 = c .before .before .if2 in
+    let s : tie.Start = c .before .before .before .before in
+    let l : (s .args .a) < 256 = omega (arith, modulus-8 (s .args .width) (if2 .taken)) in
+    rest-at (λ m. m - (s .args .a)) (s .args .width) 256 _ (modulus-8 (s .args .width) (if2 .taken))
     (c .low8 .ensures ∙ low-negative 8 8 (c .before .wrapping-sub-u162 .result) (s .args .a) (c .before .wrapping-sub-u162 .ensures) l))
     (λ c. omega (arith, modulus-prime (c .before .before .args .width) (c .before .if1 .left) (c .if2 .left)))
     -- returns-3
     (λ c.
     let s = c .before .before in
-    rest-at (λ m. m - (s .args .a)) (s .args .width) 2147483647 _ (modulus-prime (s .args .width) (c .before .if1 .left) (c .if2 .left)) (search needs)))
+    rest-at (λ m. m - (s .args .a)) (s .args .width) 2147483647 _ (modulus-prime (s .args .width) (c .before .if1 .left) (c .if2 .left))
+    (search needs)))

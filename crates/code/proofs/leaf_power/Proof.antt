@@ -31,10 +31,18 @@ leaf-power-spec =
     (λ c. search needs)
     -- loop-again
     (λ c.
-    let s = c .before .before .before in
-    let b = c .before .before in
-    (omega arith, (power-next (modulus (s .args .width)) (s .args .a) (b .loop .k) (b .loop .r) _ (b .loop .inv .1 .0) (c .leaf-product .ensures .0), c .leaf-product .ensures .1)))
+    let loop = c .before .before .loop in
+    let s : tie.Start Inv-loop μ-loop = c .before .before .before in (
+      omega arith,
+      (
+        power-next (modulus (s .args .width)) (s .args .a) (loop .k) (loop .r) _ (loop .inv .1 .0) (c .leaf-product .ensures .0),
+        c .leaf-product .ensures .1,
+      ),
+    ))
     -- returns
     (λ c.
-    let s = c .before .before in
-    (c .before .loop .inv .1 .0 ∙ ap (powBy (modulus (s .args .width)) (s .args .a)) (le-antisymm (c .before .loop .inv .0) (c .loop-test .left)), c .before .loop .inv .1 .1)))
+    let s = c .before .before in (
+      c .before .loop .inv .1 .0
+          ∙ ap (powBy (modulus (s .args .width)) (s .args .a)) (le-antisymm (c .before .loop .inv .0) (c .loop-test .left)),
+      c .before .loop .inv .1 .1,
+    )))

@@ -16,7 +16,8 @@ leaf-product-spec =
     (λ c. search needs)
     -- returns
     (λ c.
-    rest-at (λ m. (c .before .args .a) * (c .before .args .b)) (c .before .args .width) 65536 _ (modulus-16 (c .before .args .width) (c .if1 .taken))
+    rest-at (λ m. (c .before .args .a) * (c .before .args .b)) (c .before .args .width) 65536 _
+    (modulus-16 (c .before .args .width) (c .if1 .taken))
     (search needs))
     (λ c. search needs)
     -- returns-2
@@ -27,5 +28,6 @@ leaf-product-spec =
     -- returns-3
     (λ c.
     let s = c .before .before in
-    rest-at (λ m. (s .args .a) * (s .args .b)) (s .args .width) 2147483647 _ (modulus-prime (s .args .width) (c .before .if1 .left) (c .if2 .left))
+    rest-at (λ m. (s .args .a) * (s .args .b)) (s .args .width) 2147483647 _
+    (modulus-prime (s .args .width) (c .before .if1 .left) (c .if2 .left))
     (search needs)))

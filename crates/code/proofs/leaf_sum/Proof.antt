@@ -20,7 +20,8 @@ leaf-sum-spec =
     -- returns
     (λ c.
     let s = c .before .before in
-    rest-at (λ m. (s .args .a) + (s .args .b)) (s .args .width) 65536 _ (modulus-16 (s .args .width) (c .before .if1 .taken)) (c .wrapping-add-u16 .ensures))
+    rest-at (λ m. (s .args .a) + (s .args .b)) (s .args .width) 65536 _ (modulus-16 (s .args .width) (c .before .if1 .taken))
+    (c .wrapping-add-u16 .ensures))
     (λ c. omega (arith, modulus-8 (c .before .before .args .width) (c .if2 .taken)))
     (λ c. omega (arith, modulus-8 (c .before .before .args .width) (c .if2 .taken)))
     (λ c κs. search needs)
@@ -28,12 +29,13 @@ leaf-sum-spec =
     (λ c. search needs)
     -- returns-2
     (λ c.
-    let s = c .before .before .before .before in
+    let s : tie.Start = c .before .before .before .before in
     rest-at (λ m. (s .args .a) + (s .args .b)) (s .args .width) 256 _ (modulus-8 (s .args .width) (c .before .before .if2 .taken))
     (c .low8 .ensures ∙ ap (λ n. n % 256) (c .before .wrapping-add-u162 .ensures) ∙ low-bits 8 8 ((s .args .a) + (s .args .b))))
     (λ c. omega (arith, modulus-prime (c .before .before .args .width) (c .before .if1 .left) (c .if2 .left)))
     -- returns-3
     (λ c.
     let s = c .before .before in
-    rest-at (λ m. (s .args .a) + (s .args .b)) (s .args .width) 2147483647 _ (modulus-prime (s .args .width) (c .before .if1 .left) (c .if2 .left))
+    rest-at (λ m. (s .args .a) + (s .args .b)) (s .args .width) 2147483647 _
+    (modulus-prime (s .args .width) (c .before .if1 .left) (c .if2 .left))
     (search needs)))

@@ -24,13 +24,13 @@ put-pow-spec =
     (λ c. search needs)
     -- copy-requires
     (λ c κs.
-    let s = c .before .before .before in
+    let s : tie.Start = c .before .before .before in
     omega (arith, s .pre .1, length-after-set (s .args .out .now) (2147483648 + 64 * length (s .args .p .now) + s .args .i)))
     (λ c. search needs)
     (λ c. c .before .out .given .1 ∙ simp length-set)
     -- returns
     (λ c.
-    let s = c .before .before .before .before .before .before in
-    let b = c .before .before in
+    let copy = c .before .before .copy in
+    let s : tie.Start = c .before .before .before .before .before .before in
     begins-tail (begins-set (s .args .out .now) (2147483648 + 64 * length (s .args .p .now) + s .args .i) (omega (arith, s .pre .1)))
-    (begins-copy (s .args .p .now) _ (b .copy .last .1 .0) (b .copy .ensures))))
+    (begins-copy (s .args .p .now) _ (copy .last .1 .0) (copy .ensures))))

@@ -30,15 +30,17 @@ shift-spec =
     (λ c. search needs)
     (λ c. search needs)
     (λ c.
-    let at-loop = c .before .before in (
+    let at-loop = c .before .before in
+    let s = at-loop .before in (
       search needs,
       (
         simp length-set (omega arith),
-        shift-more (at-loop .before .args .s .now) (at-loop .loop .s) (at-loop .before .args .gap) (at-loop .loop .k) (omega arith) (at-loop .loop .inv .1 .1),
+        shift-more (s .args .s .now) (at-loop .loop .s) (s .args .gap) (at-loop .loop .k) (omega arith) (at-loop .loop .inv .1 .1),
       ),
     ))
     (λ c. search needs)
     (λ c.
     let s = c .before .before in
     c .before .loop .inv .1 .1
-    ∙ ap (λ m. take m (drop (s .args .gap) (s .args .s .now)) ++ drop m (s .args .s .now)) (le-antisymm (c .before .loop .inv .0) (c .loop-test .left))))
+    ∙ ap (λ m. take m (drop (s .args .gap) (s .args .s .now)) ++ drop m (s .args .s .now))
+    (le-antisymm (c .before .loop .inv .0) (c .loop-test .left))))

@@ -9,7 +9,7 @@ use Rattle.horner.specs.laws.Compare.{cmp-cases}
 use Rattle.horner.specs.laws.Tests.{cond-cases}
 use Rattle.horner.specs.laws.Value.{size-pos, lower-fits}
 use Rattle.code.specs.Coding.{enc}
-use Rattle.code.specs.Operations.{popOf, powOf, sumOf, negateOf, scaleOf}
+use Rattle.code.specs.Operations.{sumOf, negateOf, scaleOf}
 use Rattle.code.specs.Widths.{Leaf, ringOf, leaf}
 
 module _ {A : Type 0} (R : Ring A) where
@@ -85,14 +85,6 @@ module _ (w : ℕ) where
 
   pub enc-pos : (h : Form (Leaf w)) → 0 < length (enc w h)
   enc-pos h = omega (arith, size-enc h, size-pos h)
-
-  pub pop-length : (i : ℕ) (p : Form (Leaf w)) → length (enc w (popOf w i p)) ≤ 1 + length (enc w p)
-  unfolding popOf
-  pop-length i p = omega (arith, size-enc (mkpop i p), size-enc p, size-mkpop (ringOf w) i p)
-
-  pub pow-length : (i : ℕ) (p q : Form (Leaf w)) → length (enc w (powOf w i p q)) ≤ 1 + length (enc w p) + length (enc w q)
-  unfolding powOf
-  pow-length i p q = omega (arith, size-enc (mkpow (ringOf w) i p q), size-enc p, size-enc q, size-mkpow (ringOf w) i p q)
 
   pub sum-length : (x y : Form (Leaf w)) → length (enc w (sumOf w x y)) + 1 ≤ length (enc w x) + length (enc w y)
   unfolding sumOf

@@ -1,12 +1,12 @@
 -- What the widths share: laws of the moduli, proved once over the width.
 use mathlib.Core.Bool.{Bool, true, false}
 use mathlib.Core.Path.{_≡_, refl, ap}
-use Prim.Native.Nat.{ℕ, zero, suc, _-_, _<_, _≤_}
+use Prim.Native.Nat.{ℕ, zero, suc, _<_, _≤_}
 use native.Mathlib.Nat as NatL
 use native.Mathlib.Omega.{arith}
 use lib.Dec.{eqb}
 use borrow.Author.Tests.{eq-eqb, ne-eqb}
-use Rattle.horner.specs.definitions.Residues.{P-ring, powBy, mulBy, below}
+use Rattle.horner.specs.definitions.Residues.{powBy, mulBy, below}
 use Rattle.horner.specs.definitions.Ring.{power}
 use Rattle.horner.specs.laws.Residues.{red-of}
 use Rattle.code.specs.Widths.{modulusBy, modulus, modulus-pos, Leaf, ringOf, leaf}
@@ -30,10 +30,6 @@ modulus-16 w e = rw (ne-eqb w 8 (omega arith), eq-eqb w 16 e)
 
 pub modulus-prime : (w : ℕ) → (w ≡ 16 → ⊥) → (w ≡ 8 → ⊥) → modulus w ≡ 2147483647
 modulus-prime w n m = rw (ne-eqb w 8 m, ne-eqb w 16 n)
-
--- the remainders by P
-pub ring-prime : ringOf 0 ≡ P-ring
-ring-prime = refl
 
 -- a number below the modulus is its own remainder
 pub leaf-number : (w x : ℕ) → x < modulus w → leaf w x .0 ≡ x

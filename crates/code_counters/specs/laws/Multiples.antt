@@ -9,7 +9,7 @@ use native.Mathlib.Omega.{arith}
 use lib.Dec.{eqb, eqb→eq, eqb·suc-zero}
 use lib.IntN.{ℤ, pos, negsuc, natAbs}
 use lib.ListN.{length}
-use Rattle.horner.specs.definitions.Coefficients.{coefAt}
+use Rattle.horner.specs.definitions.Coefficients.{coefAt, multiplesOf}
 use Rattle.horner.specs.definitions.Form.{Form, int, pop, pow, mkpop, isZero, mkpow, sum, negate}
 use Rattle.horner.specs.definitions.Integers.{ℤ-ring}
 use Rattle.horner.specs.definitions.Normal.{Normal}
@@ -18,7 +18,6 @@ use Rattle.horner.specs.definitions.Ring.{Ring}
 use Rattle.horner.specs.laws.Lifting.{red-hom}
 use Rattle.horner.specs.laws.Normal.{normal-sum, normal-negate}
 use Rattle.horner.specs.laws.Tests.{cond-cases, true-is}
-use Rattle.reply.specs.definitions.Compare.{multiplesOf}
 use Rattle.code_walk.specs.Carrying.{mapNormal}
 use Rattle.code_walk.specs.Shapes.{Decides}
 use Rattle.code_walk.specs.laws.Carrying.{normal-mapNormal}
@@ -94,9 +93,9 @@ module _ (m : ℕ) (m-pos : 0 < m) where
       → coef S (sum S (mapNormal S ρ x) (negate S (mapNormal S ρ y))) ks ≡ coef S (mapNormal S ρ (sum ℤ-ring x (negate ℤ-ring y))) ks
   coef-difference x y ks =
       coef-sum S (mapNormal S ρ x) (negate S (mapNormal S ρ y)) ks
-      ∙ ap₂ (S .add) (coef-reduced x ks) (coef-negate S (mapNormal S ρ y) ks ∙ ap (S .neg) (coef-reduced y ks) ∙ sym (red-hom m m-pos .keeps-neg (coef ℤ-ring y ks)))
+      ∙ ap₂ (S ._⊞_) (coef-reduced x ks) (coef-negate S (mapNormal S ρ y) ks ∙ ap (S .neg) (coef-reduced y ks) ∙ sym (red-hom m m-pos .keeps-neg (coef ℤ-ring y ks)))
       ∙ sym (red-hom m m-pos .keeps-add (coef ℤ-ring x ks) (ℤ-ring .neg (coef ℤ-ring y ks)))
-      ∙ ap ρ (sym (coef-sum ℤ-ring x (negate ℤ-ring y) ks ∙ ap (ℤ-ring .add (coef ℤ-ring x ks)) (coef-negate ℤ-ring y ks)))
+      ∙ ap ρ (sym (coef-sum ℤ-ring x (negate ℤ-ring y) ks ∙ ap (ℤ-ring ._⊞_ (coef ℤ-ring x ks)) (coef-negate ℤ-ring y ks)))
       ∙ sym (coef-reduced (sum ℤ-ring x (negate ℤ-ring y)) ks)
 
   -- the difference of the reduced forms is 0 where each number of the difference over the integers is a multiple of m

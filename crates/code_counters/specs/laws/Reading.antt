@@ -6,18 +6,19 @@ use native.Mathlib.Omega.{arith}
 use lib.ListN.{length, getD}
 use Rattle.horner.specs.definitions.Coefficients.{shift, coefs, coefOf, coefAt}
 use Rattle.horner.specs.definitions.Form.{Form, int, pop, pow, isZero, zeroForm, sum, negate}
-use Rattle.horner.specs.definitions.Normal.{Zero, Normal}
+use Rattle.horner.specs.definitions.Normal.{Normal}
 use Rattle.horner.specs.definitions.Ring.{Ring}
 use Rattle.horner.specs.laws.Cancel.{zero-is}
 use Rattle.horner.specs.laws.Coefficients.{coefAt-zero, normal-coefOf, constant-is}
 use Rattle.horner.specs.laws.Grid.{All, zero-coefs}
 use Rattle.horner.specs.laws.Hom.{mapForm}
 use Rattle.horner.specs.laws.Ring.{nil-add, neg-nil, neg-of-add}
+use Rattle.horner.specs.laws.Value.{Zero}
 use Rattle.code_walk.specs.Carrying.{mapNormal}
 use Rattle.code_counters.specs.laws.Spread.{Spread, ups, downs, read, read-lower, read-sum, read-mapNormal}
 
 module _ {A : Type 0} (R : Ring A) where
-  open Ring R using (add, neg, nil, isNil, add-assoc, add-comm, add-nil, isNil-nil)
+  open Ring R using (_⊞_ as add, neg, nil, isNil, add-assoc, add-comm, add-nil, isNil-nil)
 
   -- ---- polynomials by their coefficients; an exponent that is not given is 0
   abbrev pub Poly : Type 0
@@ -132,7 +133,7 @@ module _ {A : Type 0} (R : Ring A) where
   vanished ks x z = ap (coefAt R ks) (zero-is R x z) ∙ coefAt-zero R ks
 
 -- ---- coefficients changed by a map that keeps sums and 0
-module _ {A B : Type 0} (R : Ring A) (S : Ring B) (f : A → B) (keeps : (a b : A) → f (R .add a b) ≡ S .add (f a) (f b)) (to-nil : f (R .nil) ≡ S .nil) where
+module _ {A B : Type 0} (R : Ring A) (S : Ring B) (f : A → B) (keeps : (a b : A) → f (R ._⊞_ a b) ≡ S ._⊞_ (f a) (f b)) (to-nil : f (R .nil) ≡ S .nil) where
   up-map : (g : List ℕ → A) (ks : List ℕ) → upAt S (λ l. f (g l)) ks ≡ f (upAt R g ks)
   up-map g [] = sym to-nil
   up-map g (zero ∷ ks) = sym to-nil
@@ -160,7 +161,7 @@ module _ {A B : Type 0} (R : Ring A) (S : Ring B) (f : A → B) (keeps : (a b : 
   coef-map (int c) = fun-ext (plain-map c)
   coef-map (pop i p) = ap (downs S (spread S) i) (coef-map p) ∙ downs-map i (coef R p)
   coef-map (pow i p q) =
-      fun-ext (λ ks. ap₂ (S .add) (ap (λ g. ups S (spread S) i g ks) (coef-map p) ∙ ap (λ g. g ks) (ups-map i (coef R p)))
+      fun-ext (λ ks. ap₂ (S ._⊞_) (ap (λ g. ups S (spread S) i g ks) (coef-map p) ∙ ap (λ g. g ks) (ups-map i (coef R p)))
       (ap (λ g. downAt S g ks) (coef-map q) ∙ down-map (coef R q) ks)
       ∙ sym (keeps (ups R (spread R) i (coef R p) ks) (downAt R (coef R q) ks)))
 

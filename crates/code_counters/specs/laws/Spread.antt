@@ -26,11 +26,11 @@ pub record Spread {A : Type 0} (R : Ring A) (G : Type 0) : Type 0 where
   pub up-none : up none ≡ none
   pub down-plus : (a b : G) → down (plus a b) ≡ plus (down a) (down b)
   pub down-plain : (c : A) → down (plain c) ≡ plain c
-  pub plain-add : (a b : A) → plain (R .add a b) ≡ plus (plain a) (plain b)
+  pub plain-add : (a b : A) → plain (R ._⊞_ a b) ≡ plus (plain a) (plain b)
   pub plain-nil : plain (R .nil) ≡ none
 
 module _ {A G : Type 0} (R : Ring A) (S : Spread R G) where
-  open Ring R using (add, nil, isNil, isNil-true)
+  open Ring R using (_⊞_ as add, nil, isNil, isNil-true)
   open Spread S using (plus, none, up, down, plain, plus-assoc, plus-comm, plus-none, up-plus, up-none, down-plus, down-plain, plain-add, plain-nil)
 
   abbrev pub ups : ℕ → G → G

@@ -13,12 +13,18 @@ use borrow.Author.Needs.{needs}
 use Rattle.code_pair.proofs.add.Statement.{statement}
 use Rattle.code_pair.proofs.add.Tie as tie
 
+-- the places that are looked at, each seen from a later one
+abbrev start : tie.After-sum-parts → tie.Start
+start c = c .before .before .before .before .before
+
 made : (c : tie.After-sum-parts) →
-    let start = c .before .before .before .before .before in
-    Begins (c .sum-parts .result) (enc 0 (sumOf 0 (left (start .args .a) (start .args .stack .now)) (right (start .args .a) (start .args .b) (start .args .stack .now)))) (c .sum-parts .last .1 .1 .0)
+    let s = start c in
+    Begins (c .sum-parts .result)
+    (enc 0 (sumOf 0 (left (s .args .a) (s .args .stack .now)) (right (s .args .a) (s .args .b) (s .args .stack .now))))
+    (c .sum-parts .last .1 .1 .0)
 made c =
-    let start = c .before .before .before .before .before in
-    begins-as (c .sum-parts .ensures) (both-sum (start .args .a) (start .args .b) (start .args .stack .now))
+    let s = start c in
+    begins-as (c .sum-parts .ensures) (both-sum (s .args .a) (s .args .b) (s .args .stack .now))
 
 add-e : tie.Need-add-e
 add-e c = search needs
@@ -31,21 +37,27 @@ slice-aggregate-sum-parts c = sym (both-length (c .before .before .before .pre .
 
 sum-parts-requires : tie.Need-sum-parts-requires
 sum-parts-requires c κs =
-    let start = c .before .before .before .before in
-    (omega (arith, both-length (start .pre .0)), (both-coded (start .pre .0), omega (arith, both-length (start .pre .0), start .pre .1)))
+    let s : tie.Start = c .before .before .before .before in
+    (omega (arith, both-length (s .pre .0)), (both-coded (s .pre .0), omega (arith, both-length (s .pre .0), s .pre .1)))
 
 slice-reshare-prefix-copy : tie.Need-slice-reshare-prefix-copy
 slice-reshare-prefix-copy c = begins-le (made (c .before .before))
 
 slice-aggregate-copy : tie.Need-slice-aggregate-copy
-slice-aggregate-copy c = sym (length-take-le (c .before .before .before .sum-parts .result) (c .before .before .before .sum-parts .last .1 .1 .0) (begins-le (made (c .before .before .before))))
+slice-aggregate-copy c =
+    let at-sum-parts : tie.After-sum-parts = c .before .before .before in
+    sym (length-take-le (at-sum-parts .sum-parts .result) (at-sum-parts .sum-parts .last .1 .1 .0) (begins-le (made at-sum-parts)))
 
 copy-requires : tie.Need-copy-requires
 copy-requires c κs =
-    let sum-parts = c .before .before .before .before .sum-parts in
-    let earlier = c .before .before .before .before in
-    let start = c .before .before .before .before .before .before .before .before .before in
-    omega (arith, length-take-le (sum-parts .result) (sum-parts .last .1 .1 .0) (begins-le (made earlier)), made (earlier) .size, sum-fits (start .pre .0))
+    let at-sum-parts : tie.After-sum-parts = c .before .before .before .before in
+    let sum-parts = at-sum-parts .sum-parts in
+    omega (
+      arith,
+      length-take-le (sum-parts .result) (sum-parts .last .1 .1 .0) (begins-le (made at-sum-parts)),
+      made at-sum-parts .size,
+      sum-fits (start at-sum-parts .pre .0),
+    )
 
 same-length : tie.Need-same-length
 same-length c = search needs
@@ -55,10 +67,10 @@ same-length-2 c = search needs
 
 returns : tie.Need-returns
 returns c =
-    let sum-parts = c .before .before .before .before .before .before .before .sum-parts in
-    let earlier = c .before .before .before .before .before .before .before in
-    let start = c .before .before .before .before .before .before .before .before .before .before .before .before in
-    copied-front (drop (length (take (sum-parts .result) (sum-parts .last .1 .1 .0))) (start .args .stack .now)) (made earlier) (c .before .before .copy .ensures)
+    let at-sum-parts : tie.After-sum-parts = c .before .before .before .before .before .before .before in
+    let sum-parts = at-sum-parts .sum-parts in
+    copied-front (drop (length (take (sum-parts .result) (sum-parts .last .1 .1 .0))) (start at-sum-parts .args .stack .now))
+    (made at-sum-parts) (c .before .before .copy .ensures)
 
 pub add-spec : {M : Type 1} → statement M
 add-spec =

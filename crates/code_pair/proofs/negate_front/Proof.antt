@@ -15,25 +15,42 @@ use Rattle.code_pair.proofs.negate_front.Tie as tie
 slice-reshare-prefix-negate : tie.Need-slice-reshare-prefix-negate
 slice-reshare-prefix-negate c = search needs
 
+-- the places that are looked at, each seen from a later one
+abbrev start : tie.After-negate-arg2 → tie.Start
+start c = c .before .before .before .before
+
 slice-aggregate-negate : tie.Need-slice-aggregate-negate
-slice-aggregate-negate c = sym (length-take-le (c .before .before .before .args .n) (c .before .before .before .args .stack .now) (c .before .before .before .pre .0 .0))
+slice-aggregate-negate c =
+    let s : tie.Start = c .before .before .before in
+    sym (length-take-le (s .args .n) (s .args .stack .now) (s .pre .0 .0))
 
 negate-requires : tie.Need-negate-requires
 negate-requires c κs =
-    let start = c .before .before .before .before in
-    (start .pre .1, omega (arith, length-take-le (start .args .n) (start .args .stack .now) (start .pre .0 .0), start .pre .0 .1))
+    let s = start c in
+    (s .pre .1, omega (arith, length-take-le (s .args .n) (s .args .stack .now) (s .pre .0 .0), s .pre .0 .1))
 
 slice-reshare-prefix-copy : tie.Need-slice-reshare-prefix-copy
 slice-reshare-prefix-copy c = begins-le (c .before .before .negate .ensures)
 
 slice-aggregate-copy : tie.Need-slice-aggregate-copy
-slice-aggregate-copy c = sym (length-take-le (c .before .before .before .negate .result) (c .before .before .before .negate .last .1 .1 .0) (begins-le (c .before .before .before .negate .ensures)))
+slice-aggregate-copy c =
+    let at-negate : tie.After-negate = c .before .before .before in
+    sym (length-take-le (at-negate .negate .result) (at-negate .negate .last .1 .1 .0) (begins-le (at-negate .negate .ensures)))
 
 copy-requires : tie.Need-copy-requires
 copy-requires c κs =
-    let negate = c .before .before .before .before .negate in
-    let start = c .before .before .before .before .before .before .before .before .before in
-    omega (arith, length-take-le (negate .result) (negate .last .1 .1 .0) (begins-le (negate .ensures)), negate .ensures .size, negate-length 0 (dec 0 (take (start .args .n) (start .args .stack .now))), codes-length (start .pre .1), length-take-le (start .args .n) (start .args .stack .now) (start .pre .0 .0), start .pre .0 .0)
+    let at-negate : tie.After-negate = c .before .before .before .before in
+    let s = start (at-negate .before) in
+    let negate = at-negate .negate in
+    omega (
+      arith,
+      length-take-le (negate .result) (negate .last .1 .1 .0) (begins-le (negate .ensures)),
+      negate .ensures .size,
+      negate-length 0 (dec 0 (take (s .args .n) (s .args .stack .now))),
+      codes-length (s .pre .1),
+      length-take-le (s .args .n) (s .args .stack .now) (s .pre .0 .0),
+      s .pre .0 .0,
+    )
 
 same-length : tie.Need-same-length
 same-length c = search needs
@@ -43,9 +60,11 @@ same-length-2 c = search needs
 
 returns : tie.Need-returns
 returns c =
-    let negate = c .before .before .before .before .before .before .before .negate in
-    let start = c .before .before .before .before .before .before .before .before .before .before .before .before in
-    copied-front (drop (length (take (negate .result) (negate .last .1 .1 .0))) (start .args .stack .now)) (negate .ensures) (c .before .before .copy .ensures)
+    let at-negate : tie.After-negate = c .before .before .before .before .before .before .before in
+    let s = start (at-negate .before) in
+    let negate = at-negate .negate in
+    copied-front (drop (length (take (negate .result) (negate .last .1 .1 .0))) (s .args .stack .now)) (negate .ensures)
+    (c .before .before .copy .ensures)
 
 pub negate-front-spec : {M : Type 1} → statement M
 negate-front-spec =

@@ -23,17 +23,28 @@ part-negate-front-start c = search needs
 part-negate-front-end : tie.Need-part-negate-front-end
 part-negate-front-end c = search needs
 
+-- the places that are looked at, each seen from a later one
+abbrev start : tie.After-negate-front-arg2 → tie.Start
+start c = c .before .before .before .before
+
 negate-front-requires : tie.Need-negate-front-requires
 negate-front-requires c κs =
-    let start = c .before .before .before .before in
-    ((omega (arith, length-tail-part (start .args .a) (start .args .stack .now), start .pre .0 .fits), omega (arith, left-some (start .pre .0), start .pre .1)), subst (λ l. Coded 0 (take (start .args .b) l)) (sym (tail-part (start .args .a) (start .args .stack .now))) (start .pre .0 .coded-right))
+    let s = start c in (
+      (
+        omega (arith, length-tail-part (s .args .a) (s .args .stack .now), s .pre .0 .fits),
+        omega (arith, left-some (s .pre .0), s .pre .1),
+      ),
+      subst (λ l. Coded 0 (take (s .args .b) l)) (sym (tail-part (s .args .a) (s .args .stack .now))) (s .pre .0 .coded-right),
+    )
 
 add-requires : tie.Need-add-requires
 add-requires c κs =
-    let stack = c .before .before .before .before .before .stack in
-    let negate-front = c .before .before .before .before .before .before .negate-front in
-    let start = c .before .before .before .before .before .before .before .before .before .before .before in
-    (negated-pair (start .pre .0) (negate-front .ensures) (stack .given .1), omega (arith, negated-size (start .pre .0) (negate-front .ensures), start .pre .1))
+    let at-stack : tie.After-stack = c .before .before .before .before .before in
+    let s = start (at-stack .before .before) in
+    let negate-front = at-stack .before .negate-front in (
+      negated-pair (s .pre .0) (negate-front .ensures) (at-stack .stack .given .1),
+      omega (arith, negated-size (s .pre .0) (negate-front .ensures), s .pre .1),
+    )
 
 same-length : tie.Need-same-length
 same-length c = search needs
@@ -43,10 +54,11 @@ same-length-2 c = search needs
 
 returns : tie.Need-returns
 returns c =
-    let add = c .before .before .before .before .add in
-    let negate-front = c .before .before .before .before .before .before .before .before .before .before .before .negate-front in
-    let start = c .before .before .before .before .before .before .before .before .before .before .before .before .before .before .before .before in
-    begins-as (add .ensures) (negated-sum (start .pre .0) (negate-front .ensures))
+    let at-add : tie.After-add = c .before .before .before .before in
+    let at-stack : tie.After-stack = at-add .before .before .before .before .before .before in
+    let at-negate-front = at-stack .before in
+    let s = start (at-negate-front .before) in
+    begins-as (at-add .add .ensures) (negated-sum (s .pre .0) (at-negate-front .negate-front .ensures))
 
 pub subtract-spec : {M : Type 1} → statement M
 subtract-spec =

@@ -13,7 +13,9 @@ use Rattle.code_pair.proofs.sum_parts.Statement.{statement}
 use Rattle.code_pair.proofs.sum_parts.Tie as tie
 
 slice-aggregate-sum : tie.Need-slice-aggregate-sum
-slice-aggregate-sum c = sym (length-take-le (c .before .before .before .args .n) (c .before .before .before .args .s .now) (c .before .before .before .pre .0))
+slice-aggregate-sum c =
+    let s : tie.Start = c .before .before .before in
+    sym (length-take-le (s .args .n) (s .args .s .now) (s .pre .0))
 
 mul-sum : tie.Need-mul-sum
 mul-sum c = search needs
@@ -29,16 +31,25 @@ part-sum-end c = search needs
 
 sum-requires : tie.Need-sum-requires
 sum-requires c κs =
-    let start = c .before .before .before .before .before in
-    ((start .pre .1 .0 .0, subst (Coded 0) (sym (tail-part (start .args .n) (start .args .s .now))) (start .pre .1 .0 .1)), omega (arith, start .pre .0, length-take-le (start .args .n) (start .args .s .now) (start .pre .0), length-tail-part (start .args .n) (start .args .s .now), start .pre .1 .1))
+    let s : tie.Start = c .before .before .before .before .before in (
+      (s .pre .1 .0 .0, subst (Coded 0) (sym (tail-part (s .args .n) (s .args .s .now))) (s .pre .1 .0 .1)),
+      omega (
+        arith,
+        s .pre .0,
+        length-take-le (s .args .n) (s .args .s .now) (s .pre .0),
+        length-tail-part (s .args .n) (s .args .s .now),
+        s .pre .1 .1,
+      ),
+    )
 
 same-length : tie.Need-same-length
 same-length c = search needs
 
 returns : tie.Need-returns
 returns c =
-    let start = c .before .before .before .before .before .before .before .before in
-    begins-as (c .before .before .sum .ensures) (ap (λ l. enc 0 (sumOf 0 (dec 0 (take (start .args .n) (start .args .s .now))) (dec 0 l))) (tail-part (start .args .n) (start .args .s .now)))
+    let s : tie.Start = c .before .before .before .before .before .before .before .before in
+    begins-as (c .before .before .sum .ensures)
+    (ap (λ l. enc 0 (sumOf 0 (dec 0 (take (s .args .n) (s .args .s .now))) (dec 0 l))) (tail-part (s .args .n) (s .args .s .now)))
 
 pub sum-parts-spec : {M : Type 1} → statement M
 sum-parts-spec =

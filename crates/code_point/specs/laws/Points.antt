@@ -11,7 +11,7 @@ use Rattle.horner.specs.definitions.Normal.{Normal}
 use Rattle.horner.specs.definitions.Points.{least, atFirst, firstPoint}
 use Rattle.horner.specs.definitions.Ring.{Ring, nat}
 use Rattle.horner.specs.definitions.Value.{nats}
-use Rattle.horner.specs.laws.First.{first-is, val-atFirst, normal-atFirst, bounded-atFirst}
+use Rattle.horner.specs.laws.First.{first-is, val-atFirst, normal-atFirst}
 use Rattle.horner.specs.laws.Prime.{P-regular}
 use Rattle.horner.specs.laws.Residues.{nat-red}
 use Rattle.horner.specs.laws.Roots.{Regular}
@@ -53,34 +53,10 @@ module _ {A : Type 0} (R : Ring A) where
       let e : suc n - 1 ≡ n = omega arith in
       subst (λ k. Normal R k (atFirst R x a)) e (normal-atFirst R (suc n) x h a)
 
-  -- any bounds that hold lead to one point
-  module _ (K : ℕ) (regular : Regular R K) where
-    same-point : (ds es : List ℕ) → AllLe K ds → AllLe K es → length ds ≡ length es → (x : Form A) → Normal R (length ds) x → Bounded ds x → Bounded es x
-        → isZero R x ≡ false → firstPoint R ds x ≡ firstPoint R es x
-    same-point [] [] k l e x hx b c nz = refl
-    same-point [] (f ∷ es) k l e x hx b c nz = absurd (omega arith)
-    same-point (d ∷ ds) [] k l e x hx b c nz = absurd (omega arith)
-    same-point (d ∷ ds) (f ∷ es) k l e x hx b c nz =
-        let n : length ds ≡ length es = omega arith in
-        let hy : Normal R (suc (length es)) x = subst (λ z. Normal R (suc z) x) n hx in
-        let a = value K regular d ds k x hx b nz in
-        let g = value-least K regular d ds k x hx b nz in
-        let o : a ≡ value K regular f es l x hy c nz = least-one g (value-least K regular f es l x hy c nz) in
-        ap (λ z. a ∷ z) (same-point ds es (k .1) (l .1) n (atFirst R x (nat R a)) (normal-next (length ds) x hx (nat R a)) (bounded-atFirst R (suc (length ds)) d ds x hx b (nat R a)) (bounded-atFirst R (suc (length es)) f es x hy c (nat R a)) (g .fails))
-        ∙ ap (λ z. z ∷ firstPoint R es (atFirst R x (nat R z))) o
-
 -- ---- over the remainders by P
 
 pub nat-leaf : (a : ℕ) → nat (ringOf 0) a ≡ leaf 0 a
 nat-leaf a = nat-red (modulus 0) (modulus-pos 0) a
-
--- for any bounds that hold
-pub point-any :
-    (n : ℕ) (ds : List ℕ) (h : Form (Leaf 0)) → Good 0 h → Ready n h → length ds ≡ n → AllLe 63 ds → Bounded ds h → pointOf n h ≡ firstPoint (ringOf 0) ds h
-unfolding pointOf
-point-any n ds h g r e k b =
-    same-point (ringOf 0) 63 P-regular (limits n) ds (limits-63 n) k (length-limits n ∙ sym e) h
-    (subst (λ z. Normal (ringOf 0) z h) (sym (length-limits n)) (r .normal)) (bounded-good n h (r .few) g (r .normal)) b (r .counts)
 
 pub point-none : (h : Form (Leaf 0)) → pointOf 0 h ≡ []
 unfolding pointOf

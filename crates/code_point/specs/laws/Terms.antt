@@ -8,12 +8,12 @@ use lib.ListN.{length}
 use Rattle.horner.specs.definitions.Form.{isZero, negate}
 use Rattle.horner.specs.definitions.Measures.{Within}
 use Rattle.horner.specs.definitions.Normal.{Normal}
-use Rattle.horner.specs.definitions.Points.{Before, firstPoint, IsFirst, gap, sides, IsPoint}
+use Rattle.horner.specs.definitions.Points.{Before, firstPoint, gap, sides, IsPoint}
 use Rattle.horner.specs.definitions.Residues.{redℤ, prime, prime-pos, P-ring}
 use Rattle.horner.specs.definitions.Term.{Term, normP, evalP}
 use Rattle.horner.specs.laws.Answer.{length-sides, point-is, point-before, val-gap, level}
 use Rattle.horner.specs.laws.Canonical.{length-box}
-use Rattle.horner.specs.laws.First.{first-is}
+use Rattle.horner.specs.laws.First.{first-is, IsFirst}
 use Rattle.horner.specs.laws.Normal.{normal-sum, normal-negate}
 use Rattle.horner.specs.laws.Prime.{P-regular}
 use Rattle.horner.specs.laws.Term.{normal-norm}
@@ -61,7 +61,7 @@ module _ (n : ℕ) (f g : Term) (few : n ≤ 4) (F : Within n f) (G : Within n g
         l = length-box (limits n) N (first-of .inside) ∙ length-limits n
 
         differs : evalP f N ≡ evalP g N → ⊥
-        differs e = first-of .counts (val-gap n f g F G N ∙ ap (λ z. P-ring .add z (P-ring .neg (evalP g N))) e ∙ P-ring .add-neg (evalP g N))
+        differs e = first-of .counts (val-gap n f g F G N ∙ ap (λ z. P-ring ._⊞_ z (P-ring .neg (evalP g N))) e ∙ P-ring .add-neg (evalP g N))
 
         at : (N ≡ M) ⊎ Before M N → N ≡ M
         at (inl e) = e

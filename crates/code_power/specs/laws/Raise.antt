@@ -5,20 +5,17 @@ use Prim.Native.Nat.{ℕ, zero, suc, _+_, _-_, _^_, _<_, _≤_}
 use native.Mathlib.Nat as NatL
 use native.Mathlib.Omega.{arith}
 use lib.ListN.{length}
-use Rattle.horner.specs.definitions.Form.{Form, int, raise}
+use Rattle.horner.specs.definitions.Form.{Form, raise}
 use Rattle.horner.specs.definitions.Measures.{sums, multiples, box, AllLe, one-if}
 use Rattle.horner.specs.laws.Bounds.{bounded-raise}
 use Rattle.horner.specs.laws.Count.{count-size, one-if-le}
 use Rattle.horner.specs.laws.Degree.{Below, all-le-below}
 use Rattle.horner.specs.laws.Measure.{meas-raise}
 use Rattle.horner.specs.laws.Normal.{normal-raise}
-use Rattle.code.specs.Coding.{enc}
 use Rattle.code.specs.Widths.{Leaf, ringOf}
-use Rattle.code.specs.laws.Good.{good-int}
 use Rattle.code.specs.laws.Sizes.{enc-pos}
-use Rattle.code_room.specs.Fit.{prodOf, Within, Fit, Held}
+use Rattle.code_room.specs.Fit.{prodOf, Within, Fit}
 use Rattle.code_room.specs.Tables.{Space}
-use Rattle.code_room.specs.laws.Fit.{fit-prod}
 use Rattle.code_room.specs.laws.Lists.{first-le, box-below}
 use Rattle.code_power.specs.Raise.{raiseOf, Raising}
 
@@ -54,10 +51,6 @@ power-mono c j k l h =
     omega (arith, ap (λ z. c ^ z) e, power-more c j (k - j) l)
 
 -- ---- the powers of a form
-pub raise-zero : (w : ℕ) (x : Form (Leaf w)) → raiseOf w x 0 ≡ int (ringOf w .unit)
-unfolding raiseOf
-raise-zero w x = refl
-
 pub raise-more : (w : ℕ) (x : Form (Leaf w)) (k : ℕ) → prodOf w x (raiseOf w x k) ≡ raiseOf w x (k + 1)
 unfolding raiseOf prodOf
 raise-more w x k =
@@ -106,14 +99,3 @@ module _ {w k n s o t u : ℕ} {x : Form (Leaf w)} (r : Raising w x k n s o t u)
 
   pub raise-behind : 0 < k → n < s
   raise-behind l = omega (arith, enc-pos w (raiseOf w x 0), r .lower 0 l, r .fits)
-
--- the power itself
-one-held : (w : ℕ) (x : Form (Leaf w)) → Held w (raiseOf w x 0)
-unfolding raiseOf enc
-one-held w x = record { good = good-int w (ringOf w .unit); words = omega arith }
-
-pub raise-held : {w n s o t u : ℕ} {x : Form (Leaf w)} (k : ℕ) → Raising w x k n s o t u → Held w (raiseOf w x k)
-raise-held {w} {x = x} zero r = one-held w x
-raise-held {w} {x = x} (suc k) r =
-    let e : k + 1 ≡ suc k = omega arith in
-    subst (Held w) (raise-more w x k ∙ ap (raiseOf w x) e) (fit-prod (raise-fit r k (omega arith)))

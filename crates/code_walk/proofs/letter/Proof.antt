@@ -24,7 +24,8 @@ letter-spec =
     -- returns
     (λ c.
     begins-as (begins-three (c .before .args .out .now) 2147483713 1 0 (omega arith))
-    (letter-first (c .before .args .width) ∙ ap (λ k. enc (c .before .args .width) (letterOf (c .before .args .width) k)) (sym (c .if1 .taken))))
+    (letter-first (c .before .args .width)
+    ∙ ap (λ k. enc (c .before .args .width) (letterOf (c .before .args .width) k)) (sym (c .if1 .taken))))
     (λ c. search needs)
     (λ c. search needs)
     (λ c. simp length-set (omega arith))

@@ -13,9 +13,11 @@ pub reduce-spec : {M : Type 1} → statement M
 reduce-spec =
     tie.close
     (tie.spec
-    (λ c κs. let s = c .before .before .before in (modulus-big (s .args .width), (s .pre .0, s .pre .1)))
+    (λ c κs.
+    let s : tie.Start = c .before .before .before in
+    (modulus-big (s .args .width), (s .pre .0, s .pre .1)))
     (λ c. search needs)
     -- returns
     (λ c.
-    let s = c .before .before .before .before .before .before in
+    let s : tie.Start = c .before .before .before .before .before .before in
     begins-as (c .before .before .carry .ensures) (ap (enc (s .args .width)) (carry-reduce (s .args .width) (dec 0 (s .args .x .now))))))

@@ -27,12 +27,17 @@ same-spec =
     (λ c. search needs)
     (λ c. search needs)
     (λ c. search needs)
-    (λ c. tells (says-no (λ e. (c .if2) .taken (ap (λ l. getD l (c .before .before .before .before .loop .k) 0) e))))
+    (λ c.
+    let at-loop : tie.At-loop Inv-loop μ-loop = c .before .before .before .before in
+    tells (says-no (λ e. (c .if2) .taken (ap (λ l. getD l (at-loop .loop .k) 0) e))))
     (λ c. search needs)
     (λ c. search needs)
-    (λ c. (omega arith, below-more _ _ (c .before .before .before .before .loop .inv .1) (c .if2 .left)))
+    (λ c.
+    let at-loop : tie.At-loop Inv-loop μ-loop = c .before .before .before .before in
+    (omega arith, below-more _ _ (at-loop .loop .inv .1) (c .if2 .left)))
     -- returns-3
     (λ c.
-    let s = c .before .before .before in
+    let s : tie.Start Inv-loop μ-loop = c .before .before .before in
     tells
-    (says-yes (ext-getD 0 (s .args .x .now) (s .args .y .now) (c .before .before .if1 .left) (λ j l. (c .before .loop) .inv .1 j (omega (arith, c .loop-test .left)))))))
+    (says-yes (ext-getD 0 (s .args .x .now) (s .args .y .now) (c .before .before .if1 .left)
+    (λ j l. (c .before .loop) .inv .1 j (omega (arith, c .loop-test .left)))))))

@@ -16,6 +16,6 @@ scale-spec =
     (λ c. search needs)
     -- returns
     (λ c.
-    let s = c .before .before .before .before .before .before in
+    let s : tie.Start = c .before .before .before .before .before .before in
     begins-as (c .before .before .carry .ensures)
     (ap (enc (s .args .width)) (carry-scale (s .args .width) (s .args .a) (dec (s .args .width) (s .args .y .now))))))

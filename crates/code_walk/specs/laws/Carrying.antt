@@ -1,28 +1,24 @@
 -- Carried forms: they have the values of the integers' form, reduced; they are normal within the same degrees and no longer; `scale` and `reduceOf` are cases.
 use mathlib.Core.Bool.{cond}
-use mathlib.Core.List.{List, [], _∷_, map}
-use mathlib.Core.Path.{_≡_, refl, ap, ap₂, _∙_}
+use mathlib.Core.List.{List, [], _∷_}
+use mathlib.Core.Path.{_≡_, ap, ap₂, _∙_}
 use Prim.Native.Nat.{ℕ, suc, _-_, _*_, _%_, _≤_, _<_}
 use native.Mathlib.Nat as NatL
 use native.Mathlib.Omega.{arith}
 use lib.Dec.{ltb}
-use lib.IntN.{ℤ, pos, negsuc}
+use lib.IntN.{pos, negsuc}
 use lib.ListN.{length}
 use borrow.Author.Tests.{lt-ltb, le-ltb, ltb-false}
 use Rattle.horner.specs.definitions.Form.{Form, int, pop, pow, size, mkpop, mkpow}
-use Rattle.horner.specs.definitions.Integers.{ℤ-ring}
 use Rattle.horner.specs.definitions.Measures.{Bounded}
 use Rattle.horner.specs.definitions.Normal.{Normal}
-use Rattle.horner.specs.definitions.Residues.{redℤ, lift, negBy, prime, prime-pos, res-ext}
+use Rattle.horner.specs.definitions.Residues.{redℤ, negBy, res-ext}
 use Rattle.horner.specs.definitions.Ring.{Ring}
-use Rattle.horner.specs.definitions.Value.{tl, after, val}
+use Rattle.horner.specs.definitions.Value.{after}
 use Rattle.horner.specs.laws.Bounds.{bounded-mkpop, bounded-mkpow}
-use Rattle.horner.specs.laws.Hom.{mapForm, val-map}
-use Rattle.horner.specs.laws.Lifting.{red-hom}
 use Rattle.horner.specs.laws.Normal.{normal-mkpop, normal-mkpow}
 use Rattle.horner.specs.laws.Ring.{unit-mul}
 use Rattle.horner.specs.laws.Tests.{cond-cases}
-use Rattle.horner.specs.laws.Value.{val-mkpop, val-mkpow-by}
 use Rattle.code.specs.Coding.{enc, limits, Good}
 use Rattle.code.specs.Operations.{scaleOf}
 use Rattle.code.specs.Widths.{modulus, modulus-pos, Leaf, ringOf, leaf}
@@ -31,12 +27,6 @@ use Rattle.code.specs.laws.Widths.{leaf-number, leaf-of, leaf-below}
 use Rattle.code_walk.specs.Carrying.{mapNormal, carried, reduceOf, carryOf}
 
 module _ {A B : Type 0} (S : Ring B) (f : A → B) where
-  -- the value is that of the form changed leaf by leaf
-  pub val-mapNormal : (x : Form A) (N : List B) → val S (mapNormal S f x) N ≡ val S (mapForm f x) N
-  val-mapNormal (int c) N = refl
-  val-mapNormal (pop i p) N = val-mkpop S i (mapNormal S f p) N ∙ val-mapNormal p (after i N)
-  val-mapNormal (pow i p q) N = val-mkpow-by S i (mapNormal S f p) (mapNormal S f q) N _ _ (val-mapNormal p N) (val-mapNormal q (tl N))
-
   pub normal-mapNormal : (R : Ring A) (n : ℕ) (x : Form A) → Normal R n x → Normal S n (mapNormal S f x)
   normal-mapNormal R n (int c) h = tt
   normal-mapNormal R n (pop i p) h = normal-mkpop S n i (mapNormal S f p) (normal-mapNormal R (n - i) p (h .2))
@@ -54,11 +44,6 @@ module _ {A B : Type 0} (S : Ring B) (f : A → B) where
   size-mapNormal (int c) = omega arith
   size-mapNormal (pop i p) = omega (arith, size-mkpop S i (mapNormal S f p), size-mapNormal p)
   size-mapNormal (pow i p q) = omega (arith, size-mkpow S i (mapNormal S f p) (mapNormal S f q), size-mapNormal p, size-mapNormal q)
-
-map-twice : {A B C : Type 0} (f : A → B) (g : B → C) (x : Form A) → mapForm (λ c. g (f c)) x ≡ mapForm g (mapForm f x)
-map-twice f g (int c) = refl
-map-twice f g (pop i p) = ap (pop i) (map-twice f g p)
-map-twice f g (pow i p q) = ap₂ (pow i) (map-twice f g p) (map-twice f g q)
 
 -- ---- the leaf
 
@@ -95,16 +80,6 @@ carried-back w c =
 
 -- ---- the form
 
--- the values of the reduced form are those of the integers' form, reduced
-pub val-reduce : (w : ℕ) (x : Form (Leaf 0)) (N : List ℤ)
-    → val (ringOf w) (reduceOf w x) (map (redℤ (modulus w) (modulus-pos w)) N) ≡ redℤ (modulus w) (modulus-pos w) (val ℤ-ring (mapForm (lift prime prime-pos) x) N)
-unfolding reduceOf
-val-reduce w x N =
-    let ρ : ℤ → Leaf w = redℤ (modulus w) (modulus-pos w) in
-    val-mapNormal (ringOf w) (carried 0 w) x (map ρ N)
-    ∙ ap (λ z. val (ringOf w) z (map ρ N)) (map-twice (lift prime prime-pos) ρ x)
-    ∙ val-map ℤ-ring (ringOf w) ρ (red-hom (modulus w) (modulus-pos w)) (mapForm (lift prime prime-pos) x) N
-
 pub reduce-good : (w : ℕ) (x : Form (Leaf 0)) → Good 0 x → Good w (reduceOf w x)
 unfolding reduceOf
 reduce-good w x g =
@@ -114,19 +89,19 @@ module _ (v w a : ℕ) where
   pub carry-good : (x : Form (Leaf v)) → Good v x → Good w (carryOf v w a x)
   unfolding carryOf
   carry-good x g =
-      let f : Leaf v → Leaf w = λ c. ringOf w .mul (leaf w a) (carried v w c) in
+      let f : Leaf v → Leaf w = λ c. ringOf w ._·_ (leaf w a) (carried v w c) in
       record { normal = normal-mapNormal (ringOf w) f (ringOf v) 4 x (g .normal); bounded = bounded-mapNormal (ringOf w) f (limits 4) x (g .bounded) }
 
   pub carry-length : (x : Form (Leaf v)) → length (enc w (carryOf v w a x)) ≤ length (enc v x)
   unfolding carryOf
   carry-length x =
-      let f : Leaf v → Leaf w = λ c. ringOf w .mul (leaf w a) (carried v w c) in
+      let f : Leaf v → Leaf w = λ c. ringOf w ._·_ (leaf w a) (carried v w c) in
       omega (arith, size-enc w (mapNormal (ringOf w) f x), size-enc v x, size-mapNormal (ringOf w) f x)
 
 -- the product with a leaf is a form carried to its own ring, times that leaf
 pub carry-scale : (w a : ℕ) (x : Form (Leaf w)) → carryOf w w a x ≡ scaleOf w a x
 unfolding carryOf scaleOf
-carry-scale w a (int c) = ap (λ z. int (ringOf w .mul (leaf w a) z)) (carried-back w c)
+carry-scale w a (int c) = ap (λ z. int (ringOf w ._·_ (leaf w a) z)) (carried-back w c)
 carry-scale w a (pop i p) = ap (mkpop i) (carry-scale w a p)
 carry-scale w a (pow i p q) = ap₂ (mkpow (ringOf w) i) (carry-scale w a p) (carry-scale w a q)
 

@@ -6,6 +6,7 @@ use native.Mathlib.Omega.{arith}
 use lib.ListN.{length, length-take}
 use lib.Seq.{length-take-le}
 use denote.Ref.{now}
+use Rattle.call_compare.specs.Compare.{is-compared}
 use Rattle.form_write.specs.laws.Wrote.{wrote-as}
 use Rattle.desk_serve.specs.Laws.{counted-not}
 use Rattle.desk_compare.specs.Laws.{compare-fields}
@@ -106,7 +107,7 @@ returns-2 c =
     wrote-as (c .before .before .compared .ensures)
     (compare-fields (tables start) (now (start .args .line)) _ (call .before .before .before .before .before .before .before .before .before .before .before .count .ensures) (call .before .before .before .before .before .before .before .before .before .before .if1 .left)
     (call .before .before .before .before .before .before .before .before .before .field .ensures) (call .before .before .before .before .before .before .before .before .field2 .ensures) (call .before .before .before .before .before .before .before .field3 .ensures) (call .before .before .before .before .before .before .at-most-four .ensures)
-    (call .compare .ensures .0) (call .compare .ensures .1 .0))
+    (is-compared (call .compare .ensures)) (call .compare .ensures .point))
 
 pub compare-line-spec : {M : Type 1} → statement M
 compare-line-spec =

@@ -5,6 +5,7 @@ use Prim.Native.Nat.{ℕ}
 use native.Mathlib.Omega.{arith}
 use lib.ListN.{length}
 use denote.Ref.{now}
+use Rattle.call_counters.specs.Counters.{is-counted}
 use Rattle.form_write.specs.laws.Wrote.{wrote-as}
 use Rattle.desk_serve.specs.Laws.{numbered-missing, numbered-wrong}
 use Rattle.desk_compare.specs.Compare.{countersBy}
@@ -130,7 +131,7 @@ returns-4 c =
     wrote-as (c .before .before .counted .ensures)
     (counters-fields (tables start) (now (start .args .line)) (call .before .before .before .before .before .before .before .before .before .before .before .before .before .before .before .count .ensures) (call .before .before .before .before .before .before .before .before .before .before .before .before .before .before .if1 .left) (call .before .before .before .before .before .before .before .before .before .before .before .before .natural .ensures) (call .before .before .before .before .before .before .before .before .before .before .before .before .before .field .ensures)
     (call .before .before .before .before .before .before .before .before .before .before .width .given .1) (call .before .before .before .before .before .before .before .before .if2 .left) (call .before .before .before .before .before .before .before .field2 .ensures) (call .before .before .before .before .before .before .field3 .ensures) (call .before .before .before .before .before .field4 .ensures)
-    (call .counters .ensures .0))
+    (is-counted (call .counters .ensures)))
 
 pub counters-line-spec : {M : Type 1} → statement M
 counters-line-spec =

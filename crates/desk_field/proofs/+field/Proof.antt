@@ -25,7 +25,6 @@ field-at t = and 1 field-kinds.ps (is 1 field-kinds.ps μ-field t) field.Pre
 abbrev field-below : ℕ → In 1 field-kinds.ps
 field-below t = and 1 field-kinds.ps (falls 1 field-kinds.ps _<_ μ-field t) field.Pre
 
--- src/lib.rt:77:9
 field-first-requires : (t : ℕ) → field-lts.Need-first-requires (
   first-reads.Asked,
   first-reads.Learnt,
@@ -36,7 +35,6 @@ field-first-requires : (t : ℕ) → field-lts.Need-first-requires (
 ) (field-at t) field.Post
 field-first-requires t c κs = tt
 
--- src/lib.rt:77:9
 field-returns : (t : ℕ) → field-lts.Need-returns (
   first-reads.Asked,
   first-reads.Learnt,
@@ -45,9 +43,9 @@ field-returns : (t : ℕ) → field-lts.Need-returns (
   field-below t,
   field.Post,
 ) (field-at t) field.Post
-field-returns t c = c .first .ensures ∙ field-none (now (c .before .before .before .args .line)) (c .before .before .before .args .k) (c .before .if1 .taken)
+field-returns t c = c .first .ensures
+    ∙ field-none (now (c .before .before .before .args .line)) (c .before .before .before .args .k) (c .before .if1 .taken)
 
--- src/lib.rt:79:11
 field-rest-requires : (t : ℕ) → field-lts.Need-rest-requires (
   first-reads.Asked,
   first-reads.Learnt,
@@ -58,7 +56,6 @@ field-rest-requires : (t : ℕ) → field-lts.Need-rest-requires (
 ) (field-at t) field.Post
 field-rest-requires t c κs = tt
 
--- src/lib.rt:79:23
 field-sub-field : (t : ℕ) → field-lts.Need-sub-field (
   first-reads.Asked,
   first-reads.Learnt,
@@ -69,7 +66,6 @@ field-sub-field : (t : ℕ) → field-lts.Need-sub-field (
 ) (field-at t) field.Post
 field-sub-field t c = omega arith
 
--- src/lib.rt:79:5
 field-field-requires : (t : ℕ) → field-lts.Need-field-requires (
   first-reads.Asked,
   first-reads.Learnt,
@@ -80,7 +76,6 @@ field-field-requires : (t : ℕ) → field-lts.Need-field-requires (
 ) (field-at t) field.Post
 field-field-requires t c κs = (omega (arith, c .before .before .before .pre .0, c .before .if1 .left), tt)
 
--- src/lib.rt:73:1
 field-returns-2 : (t : ℕ) → field-lts.Need-returns-2 (
   first-reads.Asked,
   first-reads.Learnt,
@@ -91,7 +86,8 @@ field-returns-2 : (t : ℕ) → field-lts.Need-returns-2 (
 ) (field-at t) field.Post
 field-returns-2 t c =
     let start = c .before .before .before .before in
-    c .field .ensures ∙ ap (λ s. fieldOf s (start .args .k - 1)) (c .before .rest .ensures) ∙ field-more (now (start .args .line)) (start .args .k) (c .before .before .if1 .left)
+    c .field .ensures ∙ ap (λ s. fieldOf s (start .args .k - 1)) (c .before .rest .ensures)
+    ∙ field-more (now (start .args .line)) (start .args .k) (c .before .before .if1 .left)
 
 pub +field-spec : {M : Type 1} → statement M
 +field-spec = close μ-field λ t. field-lts.spec (

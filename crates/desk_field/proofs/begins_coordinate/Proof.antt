@@ -9,29 +9,29 @@ use Rattle.desk_field.proofs.begins_coordinate.Lts as lts
 use Rattle.desk_field.proofs.first.Reads as first-reads
 use Rattle.desk_field.proofs.signed.Reads as signed-reads
 
--- src/lib.rt:162:20
 first-requires : tie.Need-first-requires
 first-requires c κs = search needs
 
--- src/lib.rt:162:9
 signed-requires : tie.Need-signed-requires
 signed-requires c κs = search needs
 
--- src/lib.rt:164:30
 enum-told : tie.Need-enum-told
 enum-told c = search needs
 
--- src/lib.rt:165:30
 enum-told-2 : tie.Need-enum-told-2
 enum-told-2 c = search needs
 
--- src/lib.rt:159:1
 returns : tie.Need-returns
-returns c = sym (ap (λ v. isCoordinate (signedOf v)) (sym (c .before .before .before .first .ensures)) ∙ ap isCoordinate (sym (c .before .before .signed .ensures) ∙ c .enum-told .given .1))
+returns c =
+    let at-first : tie.After-first = c .before .before .before in
+    sym (ap (λ v. isCoordinate (signedOf v)) (sym (at-first .first .ensures))
+    ∙ ap isCoordinate (sym (c .before .before .signed .ensures) ∙ c .enum-told .given .1))
 
--- src/lib.rt:159:1
 returns-2 : tie.Need-returns-2
-returns-2 c = sym (ap (λ v. isCoordinate (signedOf v)) (sym (c .before .before .before .first .ensures)) ∙ ap isCoordinate (sym (c .before .before .signed .ensures) ∙ c .enum-told2 .given .1))
+returns-2 c =
+    let at-first : tie.After-first = c .before .before .before in
+    sym (ap (λ v. isCoordinate (signedOf v)) (sym (at-first .first .ensures))
+    ∙ ap isCoordinate (sym (c .before .before .signed .ensures) ∙ c .enum-told2 .given .1))
 
 pub begins-coordinate-spec : {M : Type 1} → statement M
 begins-coordinate-spec =

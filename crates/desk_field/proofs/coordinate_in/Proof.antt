@@ -10,25 +10,22 @@ use Rattle.desk_field.proofs.coordinate_in.Reads as reads
 use Rattle.desk_field.proofs.coordinate_in.Lts as lts
 use Rattle.desk_field.proofs.signed.Reads as signed-reads
 
--- src/lib.rt:209:9
 signed-requires : tie.Need-signed-requires
 signed-requires c κs = search needs
 
--- src/lib.rt:211:24
 enum-known-x : tie.Need-enum-known-x
 enum-known-x c = search needs
 
--- src/lib.rt:212:30
 enum-told : tie.Need-enum-told
 enum-told c = search needs
 
--- src/lib.rt:206:1
 returns : tie.Need-returns
-returns c = let z = c .before .x .given .0 .0 in
+returns c =
+    let at-signed : tie.After-signed = c .before .before .before in
+    let z = c .before .x .given .0 .0 in
     let e : toZ w32 (ofZ w32 z) ≡ z = search needs in
-    e ∙ sym (ap coordinateOf (sym (c .before .before .before .signed .ensures) ∙ c .before .x .given .1))
+    e ∙ sym (ap coordinateOf (sym (at-signed .signed .ensures) ∙ c .before .x .given .1))
 
--- src/lib.rt:206:1
 returns-2 : tie.Need-returns-2
 returns-2 c = sym (ap coordinateOf (sym (c .before .before .signed .ensures) ∙ c .enum-told .given .1))
 

@@ -9,27 +9,25 @@ use Rattle.desk_field.proofs.coordinates.Lts as lts
 use Rattle.desk_field.proofs.coordinates_in.Reads as coordinates-in-reads
 use Rattle.desk_field.proofs.rest.Reads as rest-reads
 
--- src/lib.rt:202:30
 rest-requires : tie.Need-rest-requires
 rest-requires c κs = search needs
 
--- src/lib.rt:202:25
 rest-requires-2 : tie.Need-rest-requires-2
 rest-requires-2 c κs = search needs
 
--- src/lib.rt:202:20
 rest-requires-3 : tie.Need-rest-requires-3
 rest-requires-3 c κs = search needs
 
--- src/lib.rt:202:5
 coordinates-in-requires : tie.Need-coordinates-in-requires
 coordinates-in-requires c κs = search needs
 
--- src/lib.rt:199:1
 returns : tie.Need-returns
 returns c =
-    let start = c .before .before .before .before .before in
-    c .coordinates-in .ensures ∙ ap (coordinatesOf (start .args .n)) (c .before .rest3 .ensures ∙ ap restOf (c .before .before .rest2 .ensures ∙ ap restOf (c .before .before .before .rest .ensures)))
+    let at-rest : tie.After-rest = c .before .before .before in
+    let s = at-rest .before .before in
+    c .coordinates-in .ensures
+    ∙ ap (coordinatesOf (s .args .n))
+    (c .before .rest3 .ensures ∙ ap restOf (c .before .before .rest2 .ensures ∙ ap restOf (at-rest .rest .ensures)))
 
 pub coordinates-spec : {M : Type 1} → statement M
 coordinates-spec =

@@ -23,54 +23,47 @@ Inv-loop s n at₀ k₀ at k = (at ≤ length s) × (k ≤ n) × (k + coordinate
 abbrev μ-loop : tie.MeasureT-loop
 μ-loop s n at₀ k₀ at k = n - k
 
--- src/lib.rt:188:5
 loop-holds : tie.Need-loop-holds Inv-loop μ-loop
 loop-holds c = (omega arith, omega arith, coordinates-start (c .before .args .n) (now (c .before .args .s)))
 
--- src/lib.rt:189:31
 sub-begins-coordinate : tie.Need-sub-begins-coordinate Inv-loop μ-loop
 sub-begins-coordinate c = omega arith
 
--- src/lib.rt:189:31
 part-begins-coordinate-start : tie.Need-part-begins-coordinate-start Inv-loop μ-loop
 part-begins-coordinate-start c = omega arith
 
--- src/lib.rt:189:31
 part-begins-coordinate-end : tie.Need-part-begins-coordinate-end Inv-loop μ-loop
 part-begins-coordinate-end c = search needs
 
--- src/lib.rt:189:13
 begins-coordinate-requires : tie.Need-begins-coordinate-requires Inv-loop μ-loop
 begins-coordinate-requires c κs = tt
 
--- src/lib.rt:190:13
 returns : tie.Need-returns Inv-loop μ-loop
 returns c =
-    let loop = c .before .before .before .before .loop in
-    let start = c .before .before .before .before .before .before in
-    let l = loop in
+    let in-loop : tie.In-loop Inv-loop μ-loop = c .before .before .before in
+    let at-loop = in-loop .before in
+    let start = at-loop .before .before in
+    let l = at-loop .loop in
     let s = now (start .args .s) in
     let w = take-all (length s - l .at) (drop (l .at) s) (omega (arith, length-drop (l .at) s)) in
-    sym (coordinates-stop (start .args .n) (l .k) (drop (l .at) s) (c .before .before .before .loop-test .taken) (ap (λ v. isCoordinate (signedOf (firstOf v))) (sym w) ∙ sym (c .before .begins-coordinate .ensures) ∙ not-true _ (c .if1 .taken))) ∙ l .inv .2
+    sym (coordinates-stop (start .args .n) (l .k) (drop (l .at) s) (in-loop .loop-test .taken)
+    (ap (λ v. isCoordinate (signedOf (firstOf v))) (sym w) ∙ sym (c .before .begins-coordinate .ensures) ∙ not-true _ (c .if1 .taken)))
+    ∙ l .inv .2
 
--- src/lib.rt:192:9
 place-behind-requires : tie.Need-place-behind-requires Inv-loop μ-loop
 place-behind-requires c κs = omega arith
 
--- src/lib.rt:193:9
 add-k : tie.Need-add-k Inv-loop μ-loop
 add-k c = omega arith
 
--- src/lib.rt:188:5
 loop-less : tie.Need-loop-less Inv-loop μ-loop
 loop-less c = omega arith
 
--- src/lib.rt:188:5
 loop-again : tie.Need-loop-again Inv-loop μ-loop
 loop-again c =
-    let loop-test = c .before .before .before .before .loop-test in
-    let loop = c .before .before .before .before .before .loop in
-    let start = c .before .before .before .before .before .before .before in
+    let in-loop : tie.In-loop Inv-loop μ-loop = c .before .before .before .before in
+    let start : tie.Start Inv-loop μ-loop = in-loop .before .before .before in
+    let loop = in-loop .before .loop in
     let l = loop in
     let s = now (start .args .s) in
     let n = start .args .n in
@@ -78,14 +71,16 @@ loop-again c =
       c .place-behind .ensures .0,
       omega arith,
       ap (λ v. (l .k + 1) + coordinatesOf (n - (l .k + 1)) v) (c .place-behind .ensures .1)
-          ∙ sym (coordinates-on n (l .k) (drop (l .at) s) (loop-test .taken) (ap (λ v. isCoordinate (signedOf (firstOf v))) (sym w) ∙ sym (c .before .before .begins-coordinate .ensures) ∙ not-false _ (c .before .if1 .left)))
+          ∙ sym (coordinates-on n (l .k) (drop (l .at) s) (in-loop .loop-test .taken) (ap (λ v. isCoordinate (signedOf (firstOf v)))
+          (sym w) ∙ sym (c .before .before .begins-coordinate .ensures) ∙ not-false _ (c .before .if1 .left)))
           ∙ l .inv .2,
     )
 
--- src/lib.rt:183:1
 returns-2 : tie.Need-returns-2 Inv-loop μ-loop
-returns-2 c = let l = c .before .loop in
-    sym (coordinates-end (c .before .before .before .args .n) (l .k) (drop (l .at) (now (c .before .before .before .args .s))) (c .loop-test .left)) ∙ l .inv .2
+returns-2 c =
+    let s : tie.Start Inv-loop μ-loop = c .before .before .before in
+    let l = c .before .loop in
+    sym (coordinates-end (s .args .n) (l .k) (drop (l .at) (now (s .args .s))) (c .loop-test .left)) ∙ l .inv .2
 
 pub coordinates-in-spec : {M : Type 1} → statement M
 coordinates-in-spec =

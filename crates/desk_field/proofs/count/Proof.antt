@@ -18,34 +18,30 @@ Inv-loop line n₀ i₀ n i = (i ≤ length line) × ((n ≤ i + 1) × (n + tabs
 abbrev μ-loop : tie.MeasureT-loop
 μ-loop line n₀ i₀ n i = length line - i
 
--- src/lib.rt:43:5
 loop-holds : tie.Need-loop-holds Inv-loop μ-loop
 loop-holds c = (omega arith, (omega arith, omega arith))
 
--- src/lib.rt:44:12
 shared-slice-read-if1 : tie.Need-shared-slice-read-if1 Inv-loop μ-loop
 shared-slice-read-if1 c = omega arith
 
--- src/lib.rt:45:13
 add-n : tie.Need-add-n Inv-loop μ-loop
 add-n c = omega arith
 
--- src/lib.rt:47:9
 add-i : tie.Need-add-i Inv-loop μ-loop
 add-i c = omega arith
 
--- src/lib.rt:43:5
 loop-less : tie.Need-loop-less Inv-loop μ-loop
 loop-less c = omega arith
 
--- src/lib.rt:43:5
 loop-again : tie.Need-loop-again Inv-loop μ-loop
-loop-again c = let l = c .before .before .before .loop in
-    let s = now (c .before .before .before .before .args .line) in
+loop-again c =
+    let at-loop : tie.At-loop Inv-loop μ-loop = c .before .before .before in
+    let entry = at-loop .before in
+    let l = at-loop .loop in
+    let s = now (entry .args .line) in
     let t = c .before .before .loop-test .taken in
     ⊎-elim (λ w. omega (arith, tabs-tab s (l .i) t (w .0 .taken))) (λ w. omega (arith, tabs-on s (l .i) t (w .0 .left))) (c .if1 .came)
 
--- src/lib.rt:38:1
 returns : tie.Need-returns Inv-loop μ-loop
 returns c = omega (arith, tabs-end (now (c .before .before .args .line)) (c .before .loop .i) (c .loop-test .left))
 

@@ -17,60 +17,64 @@ use Rattle.desk_field.proofs.cut.Reads as reads
 use Rattle.desk_field.proofs.cut.Lts as lts
 
 abbrev Inv-loop : tie.InvT-loop
-Inv-loop w value₀ i₀ value i = (i ≤ length w) × ((value ≤ 4294967296) × ((all digit (drop i w) ≡ true) × (min (valueFrom value (drop i w)) 4294967296 ≡ min (valueFrom 0 w) 4294967296)))
+Inv-loop w value₀ i₀ value i = (i ≤ length w)
+    × ((value ≤ 4294967296)
+    × ((all digit (drop i w) ≡ true) × (min (valueFrom value (drop i w)) 4294967296 ≡ min (valueFrom 0 w) 4294967296)))
 
 abbrev μ-loop : tie.MeasureT-loop
 μ-loop w value₀ i₀ value i = length w - i
 
--- src/lib.rt:92:5
 loop-holds : tie.Need-loop-holds Inv-loop μ-loop
 loop-holds c = (omega arith, (omega arith, (c .pre, refl)))
 
--- src/lib.rt:93:17
 mul-value : tie.Need-mul-value Inv-loop μ-loop
 mul-value c = omega arith
 
--- src/lib.rt:93:31
 shared-slice-read-value : tie.Need-shared-slice-read-value Inv-loop μ-loop
 shared-slice-read-value c = search needs
 
--- src/lib.rt:93:31
 sub-value : tie.Need-sub-value Inv-loop μ-loop
-sub-value c = let l = c .before .before .loop in
-    omega (arith, digit-range (getD (now (c .before .before .before .args .w)) (l .i) 0) (all-here digit (now (c .before .before .before .args .w)) (l .i) (c .before .loop-test .taken) (l .inv .1 .1 .0)))
+sub-value c =
+    let s : tie.Start Inv-loop μ-loop = c .before .before .before in
+    let l = c .before .before .loop in
+    omega (
+      arith,
+      digit-range (getD (now (s .args .w)) (l .i) 0)
+          (all-here digit (now (s .args .w)) (l .i) (c .before .loop-test .taken) (l .inv .1 .1 .0)),
+    )
 
--- src/lib.rt:93:30
 cast-value : tie.Need-cast-value Inv-loop μ-loop
 cast-value c = omega (arith, c .shared-slice-known .given (c .before .before .loop .i))
 
--- src/lib.rt:93:17
 add-value : tie.Need-add-value Inv-loop μ-loop
 add-value c = omega (arith, c .shared-slice-known .given (c .before .before .loop .i))
 
--- src/lib.rt:97:9
 add-i : tie.Need-add-i Inv-loop μ-loop
 add-i c = omega arith
 
--- src/lib.rt:92:5
 loop-less : tie.Need-loop-less Inv-loop μ-loop
 loop-less c = omega arith
 
--- src/lib.rt:92:5
 loop-again : tie.Need-loop-again Inv-loop μ-loop
 loop-again c =
-    let start = c .before .before .before .before in
-    let l = c .before .before .before .loop in
-    let w = now (start .args .w) in
+    let at-loop : tie.At-loop Inv-loop μ-loop = c .before .before .before in
+    let s = at-loop .before in
+    let l = at-loop .loop in
+    let w = now (s .args .w) in
     let t = c .before .before .loop-test .taken in
-    let e : c .if1 .value ≡ min (l .value * 10 + (getD w (l .i) 0 - 48)) 4294967296 = ⊎-elim (λ m. omega arith) (λ m. omega arith) (c .if1 .came) in (
+    let e : c .if1 .value ≡ min (l .value * 10 + (getD w (l .i) 0 - 48)) 4294967296 = ⊎-elim (λ m. omega arith) (λ m. omega arith)
+    (c .if1 .came) in (
       omega arith,
       (
         omega arith,
-        (all-rest digit w (l .i) t (l .inv .1 .1 .0), ap (λ m. min (valueFrom m (drop (l .i + 1) w)) 4294967296) e ∙ sym (value-on w (l .i) (l .value) 4294967296 t) ∙ l .inv .1 .1 .1),
+        (
+          all-rest digit w (l .i) t (l .inv .1 .1 .0),
+          ap (λ m. min (valueFrom m (drop (l .i + 1) w)) 4294967296) e ∙ sym (value-on w (l .i) (l .value) 4294967296 t)
+              ∙ l .inv .1 .1 .1,
+        ),
       ),
     )
 
--- src/lib.rt:86:1
 returns : tie.Need-returns Inv-loop μ-loop
 returns c = let l = c .before .loop in
     let w = now (c .before .before .args .w) in

@@ -8,15 +8,13 @@ use Rattle.desk_field.proofs.first.Reads as reads
 use Rattle.desk_field.proofs.first.Lts as lts
 use Rattle.desk_field.proofs.first_end.Reads as first-end-reads
 
--- src/lib.rt:56:9
 first-end-requires : tie.Need-first-end-requires
 first-end-requires c κs = search needs
 
--- src/lib.rt:57:5
 slice-aggregate-result : tie.Need-slice-aggregate-result
-slice-aggregate-result c = sym (length-take-le (c .before .first-end .result) (c .before .before .before .args .s .now) (c .before .first-end .ensures .within))
+slice-aggregate-result c = sym
+    (length-take-le (c .before .first-end .result) (c .before .before .before .args .s .now) (c .before .first-end .ensures .within))
 
--- src/lib.rt:53:1
 returns : tie.Need-returns
 returns c = c .before .first-end .ensures .first
 

@@ -18,38 +18,37 @@ Inv-loop s i₀ i = (i ≤ length s) × ((firstOf s ≡ take i s ++ firstOf (dro
 abbrev μ-loop : tie.MeasureT-loop
 μ-loop s i₀ i = length s - i
 
--- src/lib.rt:28:5
 loop-holds : tie.Need-loop-holds Inv-loop μ-loop
 loop-holds c = (omega arith, (refl, refl))
 
--- src/lib.rt:29:12
 shared-slice-read-if1 : tie.Need-shared-slice-read-if1 Inv-loop μ-loop
 shared-slice-read-if1 c = omega arith
 
--- src/lib.rt:30:13
 returns : tie.Need-returns Inv-loop μ-loop
 returns c =
-    let start = c .before .before .before .before in
-    let l = c .before .before .before .loop in ends-tab (now (start .args .s)) (l .i) (l .inv .1 .0) (l .inv .1 .1) (c .before .before .loop-test .taken) (c .if1 .taken)
+    let at-loop : tie.At-loop Inv-loop μ-loop = c .before .before .before in
+    let s = at-loop .before in
+    let l = at-loop .loop in
+    ends-tab (now (s .args .s)) (l .i) (l .inv .1 .0) (l .inv .1 .1) (c .before .before .loop-test .taken) (c .if1 .taken)
 
--- src/lib.rt:32:9
 add-i : tie.Need-add-i Inv-loop μ-loop
 add-i c = omega arith
 
--- src/lib.rt:28:5
 loop-less : tie.Need-loop-less Inv-loop μ-loop
 loop-less c = omega arith
 
--- src/lib.rt:28:5
 loop-again : tie.Need-loop-again Inv-loop μ-loop
-loop-again c = let l = c .before .before .before .loop in
-    let s = now (c .before .before .before .before .args .s) in
+loop-again c =
+    let at-loop : tie.At-loop Inv-loop μ-loop = c .before .before .before in
+    let entry = at-loop .before in
+    let l = at-loop .loop in
+    let s = now (entry .args .s) in
     let t = c .before .before .loop-test .taken in
     (omega arith, (l .inv .1 .0 ∙ first-on s (l .i) t (c .if1 .left), l .inv .1 .1 ∙ rest-on s (l .i) t (c .if1 .left)))
 
--- src/lib.rt:24:1
 returns-2 : tie.Need-returns-2 Inv-loop μ-loop
-returns-2 c = let l = c .before .loop in ends-end (now (c .before .before .args .s)) (l .i) (l .inv .1 .0) (l .inv .1 .1) (l .inv .0) (c .loop-test .left)
+returns-2 c = let l = c .before .loop in
+    ends-end (now (c .before .before .args .s)) (l .i) (l .inv .1 .0) (l .inv .1 .1) (l .inv .0) (c .loop-test .left)
 
 pub first-end-spec : {M : Type 1} → statement M
 first-end-spec =

@@ -8,41 +8,33 @@ use Rattle.desk_field.proofs.place_behind.Reads as reads
 use Rattle.desk_field.proofs.place_behind.Lts as lts
 use Rattle.desk_field.proofs.first_end.Reads as first-end-reads
 
--- src/lib.rt:175:28
 sub-first-end : tie.Need-sub-first-end
 sub-first-end c = search needs
 
--- src/lib.rt:175:28
 part-first-end-start : tie.Need-part-first-end-start
 part-first-end-start c = search needs
 
--- src/lib.rt:175:28
 part-first-end-end : tie.Need-part-first-end-end
 part-first-end-end c = search needs
 
--- src/lib.rt:175:18
 first-end-requires : tie.Need-first-end-requires
 first-end-requires c κs = search needs
 
--- src/lib.rt:175:13
 add-e : tie.Need-add-e
 add-e c = search needs
 
--- src/lib.rt:177:16
 add-result : tie.Need-add-result
 add-result c = search needs
 
--- src/lib.rt:177:9
 returns : tie.Need-returns
 returns c =
-    let start = c .before .before .before .before in
-    place-next (now (start .args .s)) (start .args .at) (c .before .first-end .result) (start .pre) (c .before .first-end .ensures) (c .if1 .taken)
+    let s : tie.Start = c .before .before .before .before in
+    place-next (now (s .args .s)) (s .args .at) (c .before .first-end .result) (s .pre) (c .before .first-end .ensures) (c .if1 .taken)
 
--- src/lib.rt:170:1
 returns-2 : tie.Need-returns-2
 returns-2 c =
-    let start = c .before .before .before .before in
-    place-end (now (start .args .s)) (start .args .at) (c .before .first-end .result) (start .pre) (c .before .first-end .ensures) (c .if1 .left)
+    let s : tie.Start = c .before .before .before .before in
+    place-end (now (s .args .s)) (s .args .at) (c .before .first-end .result) (s .pre) (c .before .first-end .ensures) (c .if1 .left)
 
 pub place-behind-spec : {M : Type 1} → statement M
 place-behind-spec =

@@ -11,49 +11,42 @@ use Rattle.desk_field.proofs.rest.Reads as reads
 use Rattle.desk_field.proofs.rest.Lts as lts
 use Rattle.desk_field.proofs.first_end.Reads as first-end-reads
 
--- src/lib.rt:64:9
 first-end-requires : tie.Need-first-end-requires
 first-end-requires c κs = search needs
 
--- src/lib.rt:66:16
 sub-result : tie.Need-sub-result
 sub-result c = search needs
 
--- src/lib.rt:66:16
 part-result-start : tie.Need-part-result-start
 part-result-start c = search needs
 
--- src/lib.rt:66:16
 part-result-end : tie.Need-part-result-end
 part-result-end c = search needs
 
--- src/lib.rt:66:9
 returns : tie.Need-returns
 returns c =
-    let start = c .before .before .before .before in
+    let start : tie.Start = c .before .before .before .before in
     let s = start .args .s .now in
     let e = c .before .before .first-end .result in
-    take-all (length s - e) (drop e s) (omega (arith, length-drop e s)) ∙ drop-of-length-le s {i = e} (omega arith) ∙ sym (drop-of-length-le s {i = e + 1} (omega arith)) ∙ c .before .before .first-end .ensures .rest
+    take-all (length s - e) (drop e s) (omega (arith, length-drop e s)) ∙ drop-of-length-le s {i = e} (omega arith)
+    ∙ sym (drop-of-length-le s {i = e + 1} (omega arith)) ∙ c .before .before .first-end .ensures .rest
 
--- src/lib.rt:68:16
 add-next : tie.Need-add-next
 add-next c = search needs
 
--- src/lib.rt:69:5
 sub-result-2 : tie.Need-sub-result-2
 sub-result-2 c = search needs
 
--- src/lib.rt:69:5
 part-result-start-2 : tie.Need-part-result-start-2
 part-result-start-2 c = search needs
 
--- src/lib.rt:69:5
 part-result-end-2 : tie.Need-part-result-end-2
 part-result-end-2 c = search needs
 
--- src/lib.rt:61:1
 returns-2 : tie.Need-returns-2
-returns-2 c = let s = c .before .before .before .before .args .s .now in
+returns-2 c =
+    let entry : tie.Start = c .before .before .before .before in
+    let s = entry .args .s .now in
     let e = c .before .before .first-end .result in
     take-all (length s - (e + 1)) (drop (e + 1) s) (omega (arith, length-drop (e + 1) s)) ∙ c .before .before .first-end .ensures .rest
 

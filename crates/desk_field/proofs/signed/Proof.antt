@@ -16,46 +16,41 @@ use Rattle.desk_field.proofs.signed.Lts as lts
 use Rattle.desk_field.proofs.below_zero.Reads as below-zero-reads
 use Rattle.desk_field.proofs.from_zero.Reads as from-zero-reads
 
--- src/lib.rt:149:9
 returns : tie.Need-returns
 returns c = signed-empty (now (c .before .before .args .w)) (c .if1 .taken)
 
--- src/lib.rt:151:8
 shared-slice-read-if2 : tie.Need-shared-slice-read-if2
 shared-slice-read-if2 c = search needs
 
--- src/lib.rt:152:27
 sub-below-zero : tie.Need-sub-below-zero
 sub-below-zero c = search needs
 
--- src/lib.rt:152:27
 part-below-zero-start : tie.Need-part-below-zero-start
 part-below-zero-start c = search needs
 
--- src/lib.rt:152:27
 part-below-zero-end : tie.Need-part-below-zero-end
 part-below-zero-end c = search needs
 
--- src/lib.rt:152:9
 below-zero-requires : tie.Need-below-zero-requires
 below-zero-requires c κs = search needs
 
--- src/lib.rt:152:9
 returns-2 : tie.Need-returns-2
-returns-2 c = let w = now (c .before .before .before .before .before .before .args .w) in
+returns-2 c =
+    let at-else1 : tie.Else1 = c .before .before .before .before in
+    let s = at-else1 .before .before in
+    let w = now (s .args .w) in
     c .below-zero .ensures
     ∙ ap (λ v. signed32 (below0 (readNat v))) (take-all (length w - 1) (drop 1 w) (omega (arith, length-drop 1 w)))
-    ∙ signed-minus w (c .before .before .before .before .if1 .left) (c .before .before .if2 .taken)
+    ∙ signed-minus w (at-else1 .if1 .left) (c .before .before .if2 .taken)
 
--- src/lib.rt:154:5
 from-zero-requires : tie.Need-from-zero-requires
 from-zero-requires c κs = search needs
 
--- src/lib.rt:145:1
 returns-3 : tie.Need-returns-3
 returns-3 c =
-    let start = c .before .before .before .before .before in
-    c .from-zero .ensures ∙ signed-plain (now (start .args .w)) (c .before .before .before .if1 .left) (c .before .if2 .left)
+    let at-else1 : tie.Else1 = c .before .before .before in
+    let s = at-else1 .before .before in
+    c .from-zero .ensures ∙ signed-plain (now (s .args .w)) (at-else1 .if1 .left) (c .before .if2 .left)
 
 pub signed-spec : {M : Type 1} → statement M
 signed-spec =

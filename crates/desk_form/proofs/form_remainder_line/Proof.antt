@@ -5,6 +5,7 @@ use Prim.Native.Nat.{ℕ}
 use native.Mathlib.Omega.{arith}
 use lib.ListN.{length}
 use denote.Ref.{now}
+use Rattle.door_point.specs.Point.{is-remainder}
 use Rattle.form_write.specs.laws.Wrote.{wrote-as}
 use Rattle.reply.specs.definitions.Forms.{formRemainderReply}
 use Rattle.desk_serve.specs.Laws.{pointed-not, point-length, remainder-fields}
@@ -90,7 +91,7 @@ returns-2 c =
     let start = call .before .before .before .before .before .before .before .before .before .before .before .before .before .before .before .before .before .before in
     wrote-as (c .before .before .remaindered .ensures)
     (remainder-fields (now (start .args .line)) (call .before .before .before .before .before .before .before .five .ensures) (call .before .before .before .before .before .before .point-length .ensures) (λ u v N. formRemainderReply u (tables start) v N)
-    (call .before .before .before .before .before .before .before .before .before .before .before .point-fault .ensures) (call .before .before .before .before .before .before .before .before .before .before .if1 .left) (call .before .before .before .before .before .before .before .before .before .field .ensures) (call .before .before .before .before .before .before .before .before .field2 .ensures) (call .form-remainder .ensures .0))
+    (call .before .before .before .before .before .before .before .before .before .before .before .point-fault .ensures) (call .before .before .before .before .before .before .before .before .before .before .if1 .left) (call .before .before .before .before .before .before .before .before .before .field .ensures) (call .before .before .before .before .before .before .before .before .field2 .ensures) (is-remainder (call .form-remainder .ensures)))
 
 pub form-remainder-line-spec : {M : Type 1} → statement M
 form-remainder-line-spec =

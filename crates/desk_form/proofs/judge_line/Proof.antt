@@ -1,5 +1,6 @@
 -- `desk_form::judge_line` meets its contract.
 use denote.Ref.{now}
+use Rattle.call_judge.specs.Judge.{is-judged}
 use Rattle.form_write.specs.laws.Wrote.{wrote-as}
 use Rattle.desk_serve.specs.Laws.{counted-not}
 use Rattle.desk_form.specs.Laws.{judge-fields}
@@ -49,7 +50,7 @@ returns-2 : tie.Need-returns-2
 returns-2 c =
     let call = c .before .before .before .before in
     wrote-as (c .before .before .judged .ensures)
-    (judge-fields (now (call .before .before .before .before .before .before .before .args .line)) (call .before .before .before .before .count .ensures) (call .before .before .before .if1 .left) (call .before .before .field .ensures) (call .before .field2 .ensures) (call .judge .ensures))
+    (judge-fields (now (call .before .before .before .before .before .before .before .args .line)) (call .before .before .before .before .count .ensures) (call .before .before .before .if1 .left) (call .before .before .field .ensures) (call .before .field2 .ensures) (is-judged (call .judge .ensures)))
 
 pub judge-line-spec : {M : Type 1} → statement M
 judge-line-spec =

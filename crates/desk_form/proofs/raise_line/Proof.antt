@@ -6,6 +6,7 @@ use native.Mathlib.Omega.{arith}
 use lib.ListN.{length}
 use denote.Ref.{now}
 use borrow.Rule.Slice.PartMut.{same-len-mid}
+use Rattle.door_result.specs.Result.{is-written}
 use Rattle.form_write.specs.laws.Wrote.{wrote-as, wrote-length}
 use Rattle.reply.specs.definitions.Forms.{raiseReply}
 use Rattle.desk_reply.specs.laws.Replies.{text-room, text-line}
@@ -38,7 +39,7 @@ line-is c =
     let x = now (call .before .before .before .before .before .before .field3 .result) in
     wrote-as
     (text-line (now (start .args .out)) (start .pre) (raiseReply row (tables start) x _) (within-raise (tables start) row x _)
-    (call .raise .ensures .0) (call .raise .ensures .1 .0) (c .before .before .written .ensures))
+    (is-written (call .raise .ensures)) (call .raise .ensures .result) (c .before .before .written .ensures))
     (raise-fields (tables start) (now (start .args .line)) (call .before .before .before .before .before .before .before .before .before .before .before .before .before .before .before .count .ensures) (call .before .before .before .before .before .before .before .before .before .before .before .before .before .before .if1 .left) (call .before .before .before .before .before .before .before .before .before .before .before .before .natural .ensures) (call .before .before .before .before .before .before .before .before .before .before .before .before .before .field .ensures)
     (call .before .before .before .before .before .before .before .before .before .before .power .given .1) (call .before .before .before .before .before .before .before .before .if2 .left) (call .before .before .before .before .before .before .before .field2 .ensures) (call .before .before .before .before .before .before .field3 .ensures))
 
@@ -132,7 +133,7 @@ written-requires c κs =
     let old = now (start .args .out) in
     let row = now (call .before .before .before .before .before .before .before .field2 .result) in
     let x = now (call .before .before .before .before .before .before .field3 .result) in
-    text-room old (start .pre) (raiseReply row (tables start) x _) (within-raise (tables start) row x _) (call .raise .ensures .0)
+    text-room old (start .pre) (raiseReply row (tables start) x _) (within-raise (tables start) row x _) (is-written (call .raise .ensures))
     (same-len-mid 5 65535 old (call .raise .last .1 .1 .1 .0) (call .raise .kept .1 .1 .1 .0))
 
 same-length-4 : tie.Need-same-length-4

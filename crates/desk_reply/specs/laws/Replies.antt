@@ -7,15 +7,15 @@ use native.Mathlib.Omega.{arith}
 use lib.ListN.{length, take, drop, take-append-drop, length-take, length-drop, length-append}
 use lib.Seq.{drop-at, drop-drop, drop-append-le, length-take-le}
 use borrow.Rule.Slice.PartMut.{putMid, put-same}
+use Rattle.refusal.specs.declared.Side.{Side}
 use Rattle.text.specs.definitions.Answer.{Reading, read, refused}
 use Rattle.text.specs.definitions.Bytes.{bytes}
 use Rattle.form_write.specs.Write.{Wrote}
-use Rattle.reply.specs.definitions.Buffers.{resultAfter}
-use Rattle.reply.specs.definitions.Reply.{Reply, Side, gives, refuses, asked, readAs, fitted}
+use Rattle.reply.specs.definitions.Reply.{Reply, gives, refuses, asked, readAs, fitted, resultAfter}
 use Rattle.door_result.specs.Result.{writtenOf}
-use Rattle.door_result.specs.declared.Written.{Written}
-use Rattle.door_result.specs.declared.Written.the-variants.{Text, Refused}
-use Rattle.door.specs.declared.Side.{Side as Told}
+use Rattle.reply.specs.declared.Written.{Written}
+use Rattle.reply.specs.declared.Written.the-variants.{Text, Refused}
+use Rattle.refusal.specs.declared.Refusal.{Refusal}
 use Rattle.desk_reply.specs.Reply.{refusedText, resultText, Room, Replied}
 use lib.Dec.{leb}
 use borrow.Author.Tests.{leb-true}
@@ -23,14 +23,14 @@ use borrow.Author.Tests.{leb-true}
 -- ---- a result text is no longer than what was lent
 abbrev pub Within : ℕ → Reply (List ℕ) → Type 0
 Within n (gives w) = length w ≤ n
-Within n (refuses e s p) = Unit {0}
+Within n (refuses bad) = Unit {0}
 
 pub within-asked : (n : ℕ) (b : Bool) (e : ℕ) (r : Unit {0} → Reply (List ℕ)) → ((u : Unit {0}) → Within n (r u)) → Within n (asked b e r)
 within-asked n true e r h = h tt
 within-asked n false e r h = tt
 
 pub within-read : {A : Type 0} (n : ℕ) (s : Side) (x : Reading A) (r : A → Reply (List ℕ)) → ((a : A) → Within n (r a)) → Within n (readAs s x r)
-within-read n s (refused e p) r h = tt
+within-read n s (refused bad) r h = tt
 within-read n s (read a) r h = h a
 
 pub within-fitted : (n : ℕ) (w : List ℕ) → Within n (fitted n w)
@@ -43,7 +43,7 @@ within-fitted n w = at (leb (length w) n) refl
 -- so there is room for its line
 pub room-for : (x : Reply (List ℕ)) (k : ℕ) → Within 65535 x → 65540 ≤ k → Room (writtenOf x) k
 room-for (gives w) k h l = (omega arith, omega arith)
-room-for (refuses e s p) k h l = omega arith
+room-for (refuses bad) k h l = omega arith
 
 -- ---- the line
 module _ (old : List ℕ) (long : 65540 ≤ length old) where
@@ -71,16 +71,16 @@ module _ (old : List ℕ) (long : 65540 ≤ length old) where
         ∙ sym (append-assoc (bytes "FORM ") w (drop (5 + length w) old))
         ∙ ap (λ k. (bytes "FORM " ++ w) ++ drop k old) (sym (p .0));
   }
-  replied (refuses n s k) h {r} {e} {new} q p =
-      subst (λ l. Wrote r (resultText (refuses n s k)) l new) (ap (putMid 5 65535 old) q ∙ put-same 5 65535 old) p
+  replied (refuses bad) h {r} {e} {new} q p =
+      subst (λ l. Wrote r (resultText (refuses bad)) l new) (ap (putMid 5 65535 old) q ∙ put-same 5 65535 old) p
 
 -- ---- case by case, as the code goes
 pub replied-text : {x : Written} {n r : ℕ} {old new : List ℕ} → x ≡ Text n → Wrote r (bytes "FORM ") old new → Replied x (r + n) old new
 replied-text {x} {n} {r} {old} {new} e h =
     subst (λ z. Replied z (r + n) old new) (sym e) (omega (arith, h .size), subst (λ k. Wrote k (bytes "FORM ") old new) (h .size) h)
 
-pub replied-refused : {x : Written} {e p r : ℕ} {s : Told} {old new : List ℕ} → x ≡ Refused e s p → Wrote r (refusedText e s p) old new → Replied x r old new
-replied-refused {x} {e} {p} {r} {s} {old} {new} q h = subst (λ z. Replied z r old new) (sym q) h
+pub replied-refused : {x : Written} {bad : Refusal} {r : ℕ} {old new : List ℕ} → x ≡ Refused bad → Wrote r (refusedText bad) old new → Replied x r old new
+replied-refused {x} {bad} {r} {old} {new} q h = subst (λ z. Replied z r old new) (sym q) h
 
 pub room-text : {x : Written} {n k : ℕ} → x ≡ Text n → Room x k → (5 + n ≤ k) × (64 ≤ k)
 room-text {x} {n} {k} e h = subst (λ z. Room z k) e h

@@ -8,8 +8,8 @@ use lib.ListN.{length, take, getD}
 use lib.Seq.{take-suc}
 use Rattle.text_laws.specs.laws.Length.{dec-length}
 use Rattle.form_write.specs.Write.{numeral}
-use Rattle.door.specs.declared.Side.{Side}
-use Rattle.door.specs.declared.Side.the-variants.{Left, Right, Neither}
+use Rattle.refusal.specs.declared.Side.{Side}
+use Rattle.refusal.specs.declared.Side.the-variants.{Left, Right, Neither}
 use Rattle.desk_reply.specs.Reply.{sideText, spaced}
 
 -- of a number of 64 bits

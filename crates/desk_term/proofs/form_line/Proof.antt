@@ -6,6 +6,7 @@ use native.Mathlib.Omega.{arith}
 use lib.ListN.{length}
 use denote.Ref.{now}
 use borrow.Rule.Slice.PartMut.{same-len-mid}
+use Rattle.door_result.specs.Result.{is-written}
 use Rattle.form_write.specs.laws.Wrote.{wrote-as, wrote-length}
 use Rattle.reply.specs.definitions.Terms.{formReply}
 use Rattle.desk_reply.specs.laws.Replies.{text-room}
@@ -34,7 +35,7 @@ line-is c =
     let start = call .before .before .before .before .before .before .before .before .before .before .before .before .before .before .before .before in
     one-text (now (start .args .line)) (start .pre) (call .before .before .before .before .before .before .before .before .before .count .ensures) (call .before .before .before .before .before .before .before .field .ensures) (call .before .before .before .before .before .before .field2 .ensures)
     (λ u v. formReply u (tables start) v) (within-form (tables start)) (call .before .before .before .before .before .before .before .before .if1 .left)
-    (call .form .ensures .0) (call .form .ensures .1 .0) (c .before .before .written .ensures)
+    (is-written (call .form .ensures)) (call .form .ensures .result) (c .before .before .written .ensures)
 
 count-requires : tie.Need-count-requires
 count-requires c κs = tt
@@ -77,7 +78,7 @@ written-requires c κs =
     let old = now (start .args .out) in
     let row = now (call .before .before .before .before .before .before .before .field .result) in
     let x = now (call .before .before .before .before .before .before .field2 .result) in
-    text-room old (start .pre) (formReply row (tables start) x) (within-form (tables start) row x) (call .form .ensures .0)
+    text-room old (start .pre) (formReply row (tables start) x) (within-form (tables start) row x) (is-written (call .form .ensures))
     (same-len-mid 5 65535 old (call .form .last .1 .1 .0) (call .form .kept .1 .1 .0))
 
 same-length-2 : tie.Need-same-length-2

@@ -1,10 +1,9 @@
--- `door::clear_tables` meets its contract: each table by `residue::clear`.
+-- `door::clear_tables` meets its contract: each table by `clear`.
 use borrow.Author.Needs.{needs}
 use Rattle.door.proofs.clear_tables.Statement.{statement}
 use Rattle.door.proofs.clear_tables.Tie as tie
 use Rattle.door.proofs.clear_tables.Reads as reads
 use Rattle.door.proofs.clear_tables.Lts as lts
-use Rattle.residue.proofs.clear.Reads as clear-reads
 
 -- src/lib.rt:90:5
 clear-requires : tie.Need-clear-requires

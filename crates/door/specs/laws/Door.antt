@@ -1,62 +1,78 @@
 -- What the test of the row and the tables tells.
 use mathlib.Core.Bool.{Bool, true, false, _&&_}
 use mathlib.Core.List.{List, [], _∷_}
-use mathlib.Core.Path.{_≡_, refl, sym, _∙_}
+use mathlib.Core.Path.{_≡_, refl, sym, ap, _∙_}
 use Prim.Native.Nat.{ℕ, _≤_, _<_}
 use native.Mathlib.Omega.{arith}
 use borrow.Author.Tests.{le-leb, lt-leb, leb-true}
 use lib.Dec.{leb}
+use Rattle.refusal.specs.Refusal.{ofNeither}
 use Rattle.text.specs.definitions.Bytes.{isRow}
-use Rattle.reply.specs.definitions.Reply.{Reply, refuses, neither, enough, opened}
+use Rattle.refusal.specs.declared.Refusal.{Refusal}
+use Rattle.reply.specs.definitions.Reply.{Reply, refuses, enough, opened}
 use Rattle.text_laws.specs.laws.Bytes.{and-l, and-r}
-use Rattle.door.specs.Door.{readyOf, Long}
+use Rattle.code.specs.Lengths.{Long}
+use Rattle.door.specs.Door.{readyOf}
+use Rattle.door.specs.declared.Entry.the-variants.{Granted, Refused}
 
 -- ---- the test
 short-second : (a : Bool) → (a && false) ≡ false
 short-second true = refl
 short-second false = refl
 
-pub not-row : (row ts : List ℕ) → isRow row ≡ false → 1 ≡ readyOf row ts
+pub not-row : (row ts : List ℕ) → isRow row ≡ false → Refused (ofNeither 1) ≡ readyOf row ts
 not-row row ts h = rw h refl
 
-pub tables-short : (row : List ℕ) (ts : List ℕ) → isRow row ≡ true → enough ts ≡ false → 2 ≡ readyOf row ts
+pub tables-short : (row : List ℕ) (ts : List ℕ) → isRow row ≡ true → enough ts ≡ false → Refused (ofNeither 2) ≡ readyOf row ts
 tables-short row ts h k = rw (h, k) refl
 
-pub all-ready : (row : List ℕ) (ts : List ℕ) → isRow row ≡ true → enough ts ≡ true → 0 ≡ readyOf row ts
+pub all-ready : (row : List ℕ) (ts : List ℕ) → isRow row ≡ true → enough ts ≡ true → Granted ≡ readyOf row ts
 all-ready row ts h k = rw (h, k) refl
 
--- where it is 0, the call goes on; else it is the refusal
+no-grant : {P : Type 0} {bad : Refusal} → Granted ≡ Refused bad → P
+no-grant h = absurd (let z : _≡_ {A = ℕ} 0 1 = cc in omega arith)
+
+-- where it is ready, the call goes on; else it replies the refusal
 pub record Open (row ts : List ℕ) : Type 0 where
   pub proper : isRow row ≡ true
   pub long : enough ts ≡ true
 
-pub ready-open : (row ts : List ℕ) → readyOf row ts ≡ 0 → Open row ts
+pub ready-open : (row ts : List ℕ) → readyOf row ts ≡ Granted → Open row ts
 ready-open row ts = go (isRow row) (enough ts) refl refl
   where
-    go : (a b : Bool) → isRow row ≡ a → enough ts ≡ b → readyOf row ts ≡ 0 → Open row ts
+    go : (a b : Bool) → isRow row ≡ a → enough ts ≡ b → readyOf row ts ≡ Granted → Open row ts
     go true true h k e = record { proper = h; long = k }
-    go true false h k e = absurd (omega (arith, tables-short row ts h k ∙ e))
-    go false b h k e = absurd (omega (arith, not-row row ts h ∙ e))
+    go true false h k e = no-grant (sym (tables-short row ts h k ∙ e))
+    go false b h k e = no-grant (sym (not-row row ts h ∙ e))
 
 pub open-goes : {A : Type 0} (row ts : List ℕ) (r : Unit {0} → Reply A) → Open row ts → opened row ts r ≡ r tt
 open-goes row ts r o = rw (o .proper) (rw (o .long) refl)
 
-pub not-open : {A : Type 0} (row ts : List ℕ) (r : Unit {0} → Reply A) → (readyOf row ts ≡ 0 → ⊥) → opened row ts r ≡ refuses (readyOf row ts) neither 0
-not-open row ts r n = go (isRow row) (enough ts) refl refl
+pub not-open : {A : Type 0} (row ts : List ℕ) (r : Unit {0} → Reply A) {bad : Refusal} → readyOf row ts ≡ Refused bad → opened row ts r ≡ refuses bad
+not-open row ts r {bad} = go (isRow row) (enough ts) refl refl
   where
-    go : (a b : Bool) → isRow row ≡ a → enough ts ≡ b → opened row ts r ≡ refuses (readyOf row ts) neither 0
-    go true true h k = absurd (n (sym (all-ready row ts h k)))
-    go true false h k = rw h (rw k refl)
-    go false b h k = rw h refl
+    go : (a b : Bool) → isRow row ≡ a → enough ts ≡ b → readyOf row ts ≡ Refused bad → opened row ts r ≡ refuses bad
+    go true true h k e = no-grant (all-ready row ts h k ∙ e)
+    go true false h k e =
+        let short : Refused (ofNeither 2) ≡ Refused bad = tables-short row ts h k ∙ e in
+        let same : ofNeither 2 ≡ bad = cc in
+        rw h (rw k (ap refuses same))
+    go false b h k e =
+        let low : Refused (ofNeither 1) ≡ Refused bad = not-row row ts h ∙ e in
+        let same : ofNeither 1 ≡ bad = cc in
+        rw h (ap refuses same)
 
 -- it is 1 or 2: "1 and 2 touch nothing"
-pub ready-small : (row ts : List ℕ) → readyOf row ts ≤ 2
-ready-small row ts = go (isRow row) (enough ts) refl refl
+pub ready-small : (row ts : List ℕ) {bad : Refusal} → readyOf row ts ≡ Refused bad → bad .number ≤ 2
+ready-small row ts {bad} = go (isRow row) (enough ts) refl refl
   where
-    go : (a b : Bool) → isRow row ≡ a → enough ts ≡ b → readyOf row ts ≤ 2
-    go true true h k = omega (arith, sym (all-ready row ts h k))
-    go true false h k = omega (arith, sym (tables-short row ts h k))
-    go false b h k = omega (arith, sym (not-row row ts h))
+    number : {e : ℕ} → Refused (ofNeither e) ≡ Refused bad → e ≤ 2 → bad .number ≤ 2
+    number {e} h l = let same : ofNeither e ≡ bad = cc in omega (arith, ap (λ (r : Refusal). r .number) same)
+
+    go : (a b : Bool) → isRow row ≡ a → enough ts ≡ b → readyOf row ts ≡ Refused bad → bad .number ≤ 2
+    go true true h k e = no-grant (all-ready row ts h k ∙ e)
+    go true false h k e = number (tables-short row ts h k ∙ e) (omega arith)
+    go false b h k e = number (not-row row ts h ∙ e) (omega arith)
 
 -- four lengths
 module _ (a b c d : ℕ) where

@@ -7,35 +7,30 @@ use native.Mathlib.Omega.{arith}
 use borrow.Author.Tests.{le-leb, lt-leb}
 use lib.Dec.{leb}
 use lib.ListN.{length, replicate}
+use Rattle.refusal.specs.declared.Fault.{Fault}
+use Rattle.refusal.specs.declared.Refusal.{Refusal}
+use Rattle.refusal.specs.declared.Side.{Side}
 use Rattle.text.specs.definitions.Answer.{Reading, read, refused}
-use Rattle.reply.specs.definitions.Buffers.{untouched, tableAfter, Tables}
-use Rattle.reply.specs.definitions.Reply.{Reply, gives, refuses, Side, neither, asked, readAs, fitted}
+use Rattle.reply.specs.definitions.Reply.{Reply, gives, refuses, asked, readAs, fitted, Work, work, zeros, cleared, untouched, workAfter}
 
-kept : {A : Type 0} (x : Reply A) (t : List ℕ) → untouched x ≡ true → t ≡ tableAfter x t
-kept x t h = sym (ap (λ b. cond b t (replicate (length t) 0)) h)
-
-cleared : {A : Type 0} (x : Reply A) (t : List ℕ) {u : List ℕ} → untouched x ≡ false → u ≡ replicate (length t) 0 → u ≡ tableAfter x t
-cleared x t h e = e ∙ sym (ap (λ b. cond b t (replicate (length t) 0)) h)
-
-pub tables-kept : {A : Type 0} (x : Reply A) {e : ℕ} (a b c d : List ℕ) → x ≡ refuses e neither 0 → e ≤ 2 → Tables x a b c d a b c d
-tables-kept x {e} a b c d h l =
-    let k : untouched x ≡ true = ap untouched h ∙ le-leb e 2 l in
-    record { first = kept x a k; second = kept x b k; third = kept x c k; fourth = kept x d k }
+pub tables-kept : {A : Type 0} (x : Reply A) {bad : Refusal} (w : Work) → x ≡ refuses bad → bad .number ≤ 2 → w ≡ workAfter x w
+tables-kept x {bad} w h l = sym (ap (λ b. cond b w (cleared w)) (ap untouched h ∙ le-leb (bad .number) 2 l))
 
 -- the four tables are zeros
 pub record Zeros (a b c d a′ b′ c′ d′ : List ℕ) : Type 0 where
-  pub first : a′ ≡ replicate (length a) 0
-  pub second : b′ ≡ replicate (length b) 0
-  pub third : c′ ≡ replicate (length c) 0
-  pub fourth : d′ ≡ replicate (length d) 0
+  pub first : a′ ≡ zeros a
+  pub second : b′ ≡ zeros b
+  pub third : c′ ≡ zeros c
+  pub fourth : d′ ≡ zeros d
 
-pub tables-cleared : {A : Type 0} (x : Reply A) (a b c d : List ℕ) {a′ b′ c′ d′ : List ℕ} → untouched x ≡ false → Zeros a b c d a′ b′ c′ d′ → Tables x a b c d a′ b′ c′ d′
-tables-cleared x a b c d h z = record { first = cleared x a h (z .first); second = cleared x b h (z .second); third = cleared x c h (z .third); fourth = cleared x d h (z .fourth) }
+pub tables-cleared : {A : Type 0} (x : Reply A) (a b c d : List ℕ) {a′ b′ c′ d′ : List ℕ} → untouched x ≡ false → Zeros a b c d a′ b′ c′ d′
+    → work a′ b′ c′ d′ ≡ workAfter x (work a b c d)
+tables-cleared x a b c d h z = (λ i. work (z .first i) (z .second i) (z .third i) (z .fourth i)) ∙ sym (ap (λ e. cond e (work a b c d) (cleared (work a b c d))) h)
 
 -- ---- which replies clear the tables
-pub read-clears : {A B : Type 0} (s : Side) (y : Reading A) (k : A → Reply B) → ((e p : ℕ) → y ≡ refused e p → 2 < e) → ((a : A) → untouched (k a) ≡ false) → untouched (readAs s y k) ≡ false
+pub read-clears : {A B : Type 0} (s : Side) (y : Reading A) (k : A → Reply B) → ((bad : Fault) → y ≡ refused bad → 2 < bad .number) → ((a : A) → untouched (k a) ≡ false) → untouched (readAs s y k) ≡ false
 read-clears s (read a) k h f = f a
-read-clears s (refused e p) k h f = lt-leb e 2 (h e p refl)
+read-clears s (refused bad) k h f = lt-leb (bad .number) 2 (h bad refl)
 
 pub asked-clears : {A : Type 0} (b : Bool) (e : ℕ) (r : Unit {0} → Reply A) → 2 < e → untouched (r tt) ≡ false → untouched (asked b e r) ≡ false
 asked-clears true e r l h = h

@@ -1,11 +1,12 @@
 -- The refusals of texts have numbers above 2, so that the tables are cleared after them.
 use mathlib.Core.Bool.{Bool, true, false}
 use mathlib.Core.List.{List}
-use mathlib.Core.Path.{_≡_, refl, sym, _∙_}
+use mathlib.Core.Path.{_≡_, refl, sym, ap, _∙_}
 use Prim.Native.Nat.{ℕ, suc, _<_}
 use native.Mathlib.Omega.{arith}
 use Rattle.horner.specs.definitions.Form.{Form}
 use lib.IntN.{ℤ}
+use Rattle.refusal.specs.declared.Fault.{Fault}
 use Rattle.text.specs.definitions.Answer.{Reading, refused}
 use Rattle.text.specs.definitions.FormJudging.{acceptForm}
 use Rattle.text.specs.definitions.FormMeaning as F
@@ -18,8 +19,8 @@ use Rattle.text_laws.specs.laws.FormRefused as FR
 use Rattle.text_laws.specs.laws.Refused.{why}
 use Rattle.text_laws.specs.laws.Sofar.{no-refusal}
 
-same-number : {X : Type 0} {e p e′ p′ : ℕ} → _≡_ {A = Reading X} (refused e p) (refused e′ p′) → e ≡ e′
-same-number h = cc
+same-number : {X : Type 0} {bad worse : Fault} → _≡_ {A = Reading X} (refused bad) (refused worse) → bad .number ≡ worse .number
+same-number {bad = bad} {worse} h = let same : bad ≡ worse = cc in ap (λ (f : Fault). f .number) same
 
 -- ---- terms
 syntax-number : {row s : List ℕ} {e p : ℕ} → RefusedAs row s e p → 2 < e
@@ -38,10 +39,10 @@ passes-number row t = go (powersFit row t) (weightFits row t) (termsFit row t) r
     go true true false h k l n = omega (arith, let i : passes row t ≡ 10 = rw (h, passes) (rw (k, l) refl) in i)
     go true true true h k l n = absurd (n (rw (h, passes) (rw (k, l) refl)))
 
-pub term-number : (row s : List ℕ) (e p : ℕ) → acceptTerm row s ≡ refused e p → 2 < e
-term-number row s e p h = go (T.outcome row s)
+pub term-number : (row s : List ℕ) (bad : Fault) → acceptTerm row s ≡ refused bad → 2 < bad .number
+term-number row s bad h = go (T.outcome row s)
   where
-    go : T.Outcome row s (acceptTerm row s) → 2 < e
+    go : T.Outcome row s (acceptTerm row s) → 2 < bad .number
     go (T.not-term e′ p′ i j) = omega (arith, syntax-number (why row s e′ p′ i), same-number (sym j ∙ h))
     go (T.too-big t e′ p′ i f j) = omega (arith, passes-number row (f .node) (λ z. f .over (sym (f .number) ∙ z)), f .number, same-number (sym j ∙ h))
     go (T.stands-as t i f j) = no-refusal (sym h ∙ j)
@@ -59,10 +60,10 @@ measure-number (A.degree i h) = omega arith
 measure-number (A.heavy i h k) = omega arith
 measure-number (A.many i h k l) = omega arith
 
-pub form-number : (m : ℕ) (s : List ℕ) (e p : ℕ) → acceptForm m s ≡ refused e p → 2 < e
-form-number m s e p h = go (A.outcome m s)
+pub form-number : (m : ℕ) (s : List ℕ) (bad : Fault) → acceptForm m s ≡ refused bad → 2 < bad .number
+form-number m s bad h = go (A.outcome m s)
   where
-    go : A.Outcome m s (acceptForm m s) → 2 < e
+    go : A.Outcome m s (acceptForm m s) → 2 < bad .number
     go (A.not-text e′ p′ i j) = omega (arith, form-syntax-number (FR.why s e′ p′ i), same-number (sym j ∙ h))
     go (A.not-normal f p′ t w j) = omega (arith, same-number (sym j ∙ h))
     go (A.too-big f e′ t n k j) = omega (arith, measure-number k, same-number (sym j ∙ h))

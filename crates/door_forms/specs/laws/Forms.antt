@@ -1,6 +1,6 @@
 -- Two forms side by side.
 use mathlib.Core.List.{List}
-use mathlib.Core.Path.{_≡_, refl, sym, ap, _∙_}
+use mathlib.Core.Path.{_≡_, sym, ap, ap₂, _∙_}
 use Prim.Native.Nat.{ℕ, _+_, _-_, _≤_}
 use native.Mathlib.Omega.{arith}
 use borrow.Rule.Slice.PartMut.{putMid}
@@ -8,33 +8,37 @@ use lib.ListN.{length, take, drop, length-drop}
 use Rattle.code.proofs.Lists.{begins-le}
 use Rattle.code.proofs.Regions.{region-before, region-put}
 use Rattle.measure.specs.declared.Measures.{Measures}
-use Rattle.form_read.specs.Read.{FormRead}
-use Rattle.form_read.specs.declared.Read.{Read}
-use Rattle.form_read.specs.declared.Read.the-variants as R
+use Rattle.form_read.specs.Read.{IsForm, FormRead, refusal, form}
+use Rattle.form_read.specs.declared.FormReading.{FormReading}
+use Rattle.form_read.specs.declared.FormReading.the-variants as R
 use Rattle.code_pair.specs.Pair as Pairs
-use Rattle.form_read.specs.laws.Read.{read-form, read-refusal, form-coded}
-use Rattle.door.specs.declared.Side.{Side}
-use Rattle.door.specs.declared.Side.the-variants.{Left, Right}
-use Rattle.door_forms.specs.Forms.{pairRefused, IsPair, PairRead, left-refusal, right-refusal, forms}
-use Rattle.door_forms.specs.declared.Pair.{Pair}
-use Rattle.door_forms.specs.declared.Pair.the-variants.{Forms, Refused}
+use Rattle.form_read.specs.laws.Read.{read-form, form-coded}
+use Rattle.refusal.specs.declared.Refusal.{Refusal}
+use Rattle.door_forms.specs.Forms.{begun, ended, IsPair, PairRead, left-refusal, right-refusal, forms}
+use Rattle.door_forms.specs.declared.FormPair.{FormPair}
+use Rattle.door_forms.specs.declared.FormPair.the-variants.{Forms, Refused}
 
-module _ {m : ℕ} {s t : List ℕ} {x : Pair} where
-  pub left-refused : {l : List ℕ} (k : List ℕ) {r : Read} {e p : ℕ} → x ≡ pairRefused r Left → r ≡ R.Refused e p → FormRead m s r l → PairRead m s t x k
-  left-refused k {e = e} {p} i h T = left-refusal e p (read-refusal h T) (i ∙ ap (λ z. pairRefused z Left) h)
+no-forms : {P : Type 0} {x y : Measures} {n k : ℕ} {bad : Refusal} → _≡_ {A = FormPair} (Forms x n y k) (Refused bad) → P
+no-forms h = absurd (let z : _≡_ {A = ℕ} 0 1 = cc in omega arith)
 
-  pub right-refused : {l j : List ℕ} (k : List ℕ) {q r : Read} {a : Measures} {n e p : ℕ} → x ≡ pairRefused r Right → q ≡ R.Form a n → FormRead m s q j → r ≡ R.Refused e p
-      → FormRead m t r l → PairRead m s t x k
-  right-refused k {e = e} {p} i f S h T =
-      let F = read-form f S in
-      right-refusal (F .f) e p (F .accepted) (read-refusal h T) (i ∙ ap (λ z. pairRefused z Right) h)
+begun-form : (q : FormReading) {x y : Measures} {n k : ℕ} → begun q ≡ Forms x n y k → q ≡ R.Form x n
+begun-form (R.Refused bad) h = no-forms (sym h)
+begun-form (R.Form x′ n′) {x} {n = n} h = let a : x′ ≡ x = cc in let b : n′ ≡ n = cc in ap₂ R.Form a b
 
--- the right form is read into the part behind the left one
-pub both : {m : ℕ} {s t : List ℕ} (l j : List ℕ) {q r : Read} {x y : Measures} {n k : ℕ} → q ≡ R.Form x n → FormRead m s q l → r ≡ R.Form y k → FormRead m t r j
-    → PairRead m s t (Forms x n y k) (putMid n (length l - n) l j)
-both l j {x = x} {y} {n} {k} i S h T =
-    let F = read-form i S in
-    let G = read-form h T in
+-- the left text was read, and is a form
+pub left-form : {m : ℕ} {s l : List ℕ} {q : FormReading} {x y : Measures} {n k : ℕ} {z : FormPair} → z ≡ begun q → z ≡ Forms x n y k → FormRead m s q l → IsForm m s x n l
+left-form {q = q} h i = read-form (begun-form q (sym h ∙ i))
+
+-- the left text is refused, and the right one not read
+pub left-refused : {m : ℕ} {s t l : List ℕ} (k : List ℕ) {q : FormReading} {z : FormPair} {bad : Refusal} → z ≡ begun q → z ≡ Refused bad → FormRead m s q l → PairRead m s t z k
+left-refused k h i (refusal worse a j) = left-refusal worse a (h ∙ ap begun j)
+left-refused k h i (form x n F j) = no-forms (ap begun (sym j) ∙ sym h ∙ i)
+
+-- the right text was read into the part behind the left form
+pub right-read : {m : ℕ} {s t : List ℕ} (l j : List ℕ) {x : Measures} {n : ℕ} {r : FormReading} → IsForm m s x n l → FormRead m t r j
+    → PairRead m s t (ended x n r) (putMid n (length l - n) l j)
+right-read l j {x} {n} F (refusal bad a h) = right-refusal (F .f) bad (F .accepted) a (ap (ended x n) h)
+right-read l j {x} {n} F (form y k G h) =
     let a = begins-le (F .made) in
     let z : n + 0 ≡ n = omega arith in
     forms x n y k
@@ -58,15 +62,12 @@ both l j {x = x} {y} {n} {k} i S h T =
                 };
           };
     })
-    refl
+    (ap (ended x n) h)
 
 -- ---- what was read, by the enum
-no-forms : {P : Type 0} {x y : Measures} {n k e p : ℕ} {s : Side} → _≡_ {A = Pair} (Forms x n y k) (Refused e s p) → P
-no-forms h = absurd (let z : _≡_ {A = ℕ} 0 1 = cc in omega arith)
-
-pub read-pair : {m : ℕ} {s t l : List ℕ} {x y : Measures} {n k : ℕ} {r : Pair} → r ≡ Forms x n y k → PairRead m s t r l → IsPair m s t x n y k l
-read-pair h (left-refusal e p a i) = no-forms (sym h ∙ i)
-read-pair h (right-refusal f e p a b i) = no-forms (sym h ∙ i)
+pub read-pair : {m : ℕ} {s t l : List ℕ} {x y : Measures} {n k : ℕ} {r : FormPair} → r ≡ Forms x n y k → PairRead m s t r l → IsPair m s t x n y k l
+read-pair h (left-refusal bad a i) = no-forms (sym h ∙ i)
+read-pair h (right-refusal f bad a b i) = no-forms (sym h ∙ i)
 read-pair {x = x} {y} {n} {k} h (forms x′ n′ y′ k′ P i) =
     let a : x′ ≡ x = cc in
     let b : n′ ≡ n = cc in

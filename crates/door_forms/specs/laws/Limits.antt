@@ -7,6 +7,7 @@ use borrow.Author.Tests.{le-leb, lt-leb}
 use lib.Dec.{leb}
 use lib.IntN.{ℤ}
 use lib.ListN.{length, getD, length-map}
+use Rattle.refusal.specs.Refusal.{ofNeither}
 use Rattle.horner.specs.definitions.Form.{Form}
 use Rattle.horner.specs.definitions.Integers.{ℤ-ring}
 use Rattle.horner.specs.definitions.Measures.{AllLe, box, maxs, sums, multiples, degrees, weight, terms}
@@ -16,7 +17,7 @@ use Rattle.horner.specs.laws.Highest.{maxs-getD}
 use Rattle.text.specs.definitions.Bytes.{all}
 use Rattle.text_laws.specs.laws.Bytes.{all-le, le-all}
 use Rattle.reply.specs.definitions.Forms.{Measured, ofSum, ofProduct, ofPower, limited}
-use Rattle.reply.specs.definitions.Reply.{Reply, refuses, neither}
+use Rattle.reply.specs.definitions.Reply.{Reply, refuses}
 use Rattle.measure.specs.declared.Measures.{Measures}
 use Rattle.measure.specs.Limits.{Limited, fits, degree-over, weight-passed, terms-passed, limited as found, is-small, all-63, degree-63}
 use Rattle.measure.specs.Measure.{addM, mulM, powM, limitM}
@@ -44,17 +45,17 @@ module _ {A : Type 0} (M : Measured) (r : Unit {0} → Reply A) where
   goes-on : Inside M → limited M r ≡ r tt
   goes-on I = rw (le-all (M .powers) (I .low)) (rw (le-leb (M .heavy) 1073741823 (I .light)) (rw (le-leb (min (M .many) (box (M .powers))) 256 (I .few)) refl))
 
-  over-8 : (AllLe 63 (M .powers) → ⊥) → limited M r ≡ refuses 8 neither 0
+  over-8 : (AllLe 63 (M .powers) → ⊥) → limited M r ≡ refuses (ofNeither 8)
   over-8 n = go (all (λ d. leb d 63) (M .powers)) refl
     where
-      go : (b : Bool) → all (λ d. leb d 63) (M .powers) ≡ b → limited M r ≡ refuses 8 neither 0
+      go : (b : Bool) → all (λ d. leb d 63) (M .powers) ≡ b → limited M r ≡ refuses (ofNeither 8)
       go true e = absurd (n (all-le (M .powers) e))
       go false e = rw e refl
 
-  over-9 : AllLe 63 (M .powers) → 1073741823 < M .heavy → limited M r ≡ refuses 9 neither 0
+  over-9 : AllLe 63 (M .powers) → 1073741823 < M .heavy → limited M r ≡ refuses (ofNeither 9)
   over-9 a h = rw (le-all (M .powers) a) (rw (lt-leb (M .heavy) 1073741823 h) refl)
 
-  over-10 : AllLe 63 (M .powers) → M .heavy ≤ 1073741823 → 256 < min (M .many) (box (M .powers)) → limited M r ≡ refuses 10 neither 0
+  over-10 : AllLe 63 (M .powers) → M .heavy ≤ 1073741823 → 256 < min (M .many) (box (M .powers)) → limited M r ≡ refuses (ofNeither 10)
   over-10 a w h = rw (le-all (M .powers) a) (rw (le-leb (M .heavy) 1073741823 w) (rw (lt-leb (min (M .many) (box (M .powers))) 256 h) refl))
 
 module _ {M : Measured} {m : Measures} (T : Meets M m) where
@@ -73,13 +74,13 @@ module _ {M : Measured} {m : Measures} (T : Meets M m) where
   passed r z = goes-on M r (inside z)
 
   -- the lowest that is
-  pub stopped : {A : Type 0} (r : Unit {0} → Reply A) → (limitM m ≡ 0 → ⊥) → limited M r ≡ refuses (limitM m) neither 0
+  pub stopped : {A : Type 0} (r : Unit {0} → Reply A) → (limitM m ≡ 0 → ⊥) → limited M r ≡ refuses (ofNeither (limitM m))
   stopped {A} r n = go (found m)
     where
-      number : {k : ℕ} → limitM m ≡ k → limited M r ≡ refuses k neither 0 → limited M r ≡ refuses (limitM m) neither 0
-      number e h = h ∙ ap (λ k. refuses k neither 0) (sym e)
+      number : {k : ℕ} → limitM m ≡ k → limited M r ≡ refuses (ofNeither k) → limited M r ≡ refuses (ofNeither (limitM m))
+      number e h = h ∙ ap (λ k. refuses (ofNeither k)) (sym e)
 
-      go : Limited m → limited M r ≡ refuses (limitM m) neither 0
+      go : Limited m → limited M r ≡ refuses (ofNeither (limitM m))
       go (fits z s) = absurd (n z)
       go (degree-over z k) =
           number z

@@ -7,27 +7,27 @@ use native.Mathlib.Omega.{arith}
 use lib.Dec.{leb}
 use lib.IntN.{ℤ}
 use lib.ListN.{length}
+use Rattle.refusal.specs.Refusal.{onSide, ofNeither}
 use Rattle.horner.specs.definitions.Form.{Form as HForm}
 use Rattle.horner.specs.definitions.Measures.{box}
-use Rattle.text.specs.definitions.Answer.{Reading, read, refused}
+use Rattle.text.specs.definitions.Answer.{Reading, read}
 use Rattle.text.specs.definitions.Bytes.{all}
 use Rattle.text.specs.definitions.FormJudging.{acceptForm}
 use Rattle.text.specs.definitions.FormText.{text}
-use Rattle.reply.specs.definitions.Buffers.{resultAfter, untouched}
 use Rattle.reply.specs.definitions.Forms.{Measured, limited, twoOf}
-use Rattle.reply.specs.definitions.Reply.{Reply, left, right, readAs, asked, fitted}
+use Rattle.reply.specs.definitions.Reply.{Reply, refuses, readAs, asked, fitted, resultAfter, untouched}
 use Rattle.measure.specs.declared.Measures.{Measures}
 use Rattle.measure.specs.Measure.{limitM}
-use Rattle.door.specs.declared.Side.{Side}
-use Rattle.door.specs.declared.Side.the-variants.{Left, Right, Neither}
+use Rattle.refusal.specs.declared.Refusal.{Refusal}
+use Rattle.refusal.specs.declared.Side.the-variants.{Left, Right}
 use Rattle.door.specs.laws.Ending.{read-clears, asked-clears, fitted-clears}
 use Rattle.door.specs.laws.Numbers.{form-number}
 use Rattle.door_result.specs.Result.{writtenOf}
-use Rattle.door_result.specs.declared.Written.{Written}
-use Rattle.door_result.specs.declared.Written.the-variants as W
+use Rattle.reply.specs.declared.Written.{Written}
+use Rattle.reply.specs.declared.Written.the-variants as W
 use Rattle.door_forms.specs.Forms.{IsPair, PairRead, left-refusal, right-refusal, forms}
-use Rattle.door_forms.specs.declared.Pair.{Pair}
-use Rattle.door_forms.specs.declared.Pair.the-variants.{Refused}
+use Rattle.door_forms.specs.declared.FormPair.{FormPair}
+use Rattle.door_forms.specs.declared.FormPair.the-variants.{Refused}
 use Rattle.door_forms.specs.laws.Limits.{Meets, passed, stopped}
 
 -- the answer and the result buffer are as the reply says
@@ -49,34 +49,30 @@ module _ (measured : HForm ℤ → HForm ℤ → Measured) (op : HForm ℤ → H
   pub two-of : {f g : HForm ℤ} → acceptForm (length row) s ≡ read f → acceptForm (length row) t ≡ read g
       → twoOf measured op row s t n ≡ limited (measured f g) (λ v. fitted n (text (op f g)))
   two-of {f} {g} i j =
-      ap (λ (z : Reading (HForm ℤ)). readAs left z (λ x. readAs right (acceptForm (length row) t) (λ y. limited (measured x y) (λ v. fitted n (text (op x y)))))) i
-      ∙ ap (λ (z : Reading (HForm ℤ)). readAs right z (λ y. limited (measured f y) (λ v. fitted n (text (op f y))))) j
+      ap (λ (z : Reading (HForm ℤ)). readAs Left z (λ x. readAs Right (acceptForm (length row) t) (λ y. limited (measured x y) (λ v. fitted n (text (op x y)))))) i
+      ∙ ap (λ (z : Reading (HForm ℤ)). readAs Right z (λ y. limited (measured f y) (λ v. fitted n (text (op f y))))) j
 
   -- a text is refused
-  pub two-refused : {l : List ℕ} {r : Pair} {e p : ℕ} {side : Side} (b : List ℕ) → r ≡ Refused e side p → PairRead (length row) s t r l
-      → Answers (twoOf measured op row s t n) (W.Refused e side p) b b
-  two-refused {e = e} {p} {side} b h (left-refusal e′ p′ i j) =
-      let k = ap (λ (z : Reading (HForm ℤ)). readAs left z (λ x. readAs right (acceptForm (length row) t) (λ y. limited (measured x y) (λ v. fitted n (text (op x y)))))) i in
-      let x : e ≡ e′ = cc in
-      let y : p ≡ p′ = cc in
-      let z : side ≡ Left = cc in
-      ((λ q. W.Refused (x q) (z q) (y q)) ∙ answers b k .0, answers b k .1)
-  two-refused {e = e} {p} {side} b h (right-refusal f e′ p′ i j g) =
+  pub two-refused : {l : List ℕ} {r : FormPair} {bad : Refusal} (b : List ℕ) → r ≡ Refused bad → PairRead (length row) s t r l
+      → Answers (twoOf measured op row s t n) (W.Refused bad) b b
+  two-refused {bad = bad} b h (left-refusal worse i j) =
+      let k = ap (λ (z : Reading (HForm ℤ)). readAs Left z (λ x. readAs Right (acceptForm (length row) t) (λ y. limited (measured x y) (λ v. fitted n (text (op x y)))))) i in
+      let same : onSide Left worse ≡ bad = cc in
+      answers b (k ∙ ap refuses same)
+  two-refused {bad = bad} b h (right-refusal f worse i j g) =
       let k =
-      ap (λ (z : Reading (HForm ℤ)). readAs left z (λ x. readAs right (acceptForm (length row) t) (λ y. limited (measured x y) (λ v. fitted n (text (op x y)))))) i
-      ∙ ap (λ (z : Reading (HForm ℤ)). readAs right z (λ y. limited (measured f y) (λ v. fitted n (text (op f y))))) j in
-      let x : e ≡ e′ = cc in
-      let y : p ≡ p′ = cc in
-      let z : side ≡ Right = cc in
-      ((λ q. W.Refused (x q) (z q) (y q)) ∙ answers b k .0, answers b k .1)
-  two-refused {e = e} {p} {side} b h (forms x k y q P g) = absurd (let z : _≡_ {A = ℕ} 0 1 = cc in omega arith)
+      ap (λ (z : Reading (HForm ℤ)). readAs Left z (λ x. readAs Right (acceptForm (length row) t) (λ y. limited (measured x y) (λ v. fitted n (text (op x y)))))) i
+      ∙ ap (λ (z : Reading (HForm ℤ)). readAs Right z (λ y. limited (measured f y) (λ v. fitted n (text (op f y))))) j in
+      let same : onSide Right worse ≡ bad = cc in
+      answers b (k ∙ ap refuses same)
+  two-refused b h (forms x k y q P g) = absurd (let z : _≡_ {A = ℕ} 0 1 = cc in omega arith)
 
   module _ {l : List ℕ} {x y : Measures} {k q : ℕ} {a : Measures} (P : IsPair (length row) s t x k y q l) (T : Meets (measured (P .of-left .f) (P .of-right .f)) a) where
     -- a limit is passed
-    pub two-stopped : {e : ℕ} (b : List ℕ) → e ≡ limitM a → (e ≡ 0 → ⊥) → Answers (twoOf measured op row s t n) (W.Refused e Neither 0) b b
+    pub two-stopped : {e : ℕ} (b : List ℕ) → e ≡ limitM a → (e ≡ 0 → ⊥) → Answers (twoOf measured op row s t n) (W.Refused (ofNeither e)) b b
     two-stopped b h z =
         let i = two-of (P .of-left .accepted) (P .of-right .accepted) ∙ stopped T (λ v. fitted n (text (op (P .of-left .f) (P .of-right .f)))) (λ w. z (h ∙ w)) in
-        (ap (λ e. W.Refused e Neither 0) h ∙ answers b i .0, answers b i .1)
+        (ap (λ e. W.Refused (ofNeither e)) h ∙ answers b i .0, answers b i .1)
 
     -- none is
     pub two-goes : limitM a ≡ 0 → twoOf measured op row s t n ≡ fitted n (text (op (P .of-left .f) (P .of-right .f)))
@@ -84,6 +80,6 @@ module _ (measured : HForm ℤ → HForm ℤ → Measured) (op : HForm ℤ → H
 
   pub two-clears : untouched (twoOf measured op row s t n) ≡ false
   two-clears =
-      read-clears left (acceptForm (length row) s) (λ x. readAs right (acceptForm (length row) t) (λ y. limited (measured x y) (λ v. fitted n (text (op x y))))) (form-number (length row) s)
-      (λ x. read-clears right (acceptForm (length row) t) (λ y. limited (measured x y) (λ v. fitted n (text (op x y)))) (form-number (length row) t)
+      read-clears Left (acceptForm (length row) s) (λ x. readAs Right (acceptForm (length row) t) (λ y. limited (measured x y) (λ v. fitted n (text (op x y))))) (form-number (length row) s)
+      (λ x. read-clears Right (acceptForm (length row) t) (λ y. limited (measured x y) (λ v. fitted n (text (op x y)))) (form-number (length row) t)
       (λ y. limited-clears (measured x y) (λ v. fitted n (text (op x y))) (fitted-clears n (text (op x y)))))

@@ -7,7 +7,7 @@ use mir.Syntax.{w32}
 use mir.ValLaws.{toZ-ofZ}
 use lib.IntN.{pos}
 use lib.ListN.{length, take, drop, getD, set, length-set}
-use Rattle.residue.specs.Residue.{remainderOf}
+use Rattle.reply.specs.definitions.Terms.{remainder}
 use Rattle.door_point.specs.Point.{residuesOf}
 use Rattle.door_point.specs.laws.Residues.{residues-none, residues-more, residues-all}
 use borrow.Author.Needs.{needs}
@@ -15,7 +15,6 @@ use Rattle.door_point.proofs.put_point.Statement.{statement}
 use Rattle.door_point.proofs.put_point.Tie as tie
 use Rattle.door_point.proofs.put_point.Reads as reads
 use Rattle.door_point.proofs.put_point.Lts as lts
-use Rattle.residue.proofs.of_coordinate.Reads as of-coordinate-reads
 
 abbrev Inv-loop : tie.InvT-loop
 Inv-loop point out₀ i₀ out i = (i ≤ length point) × ((length out ≡ length out₀) × (out ≡ residuesOf (take i point) ++ drop i out₀))
@@ -62,7 +61,7 @@ loop-again c =
     let P = start .args .point .now in
     let O = start .args .out .now in
     let i = c .before .before .before .loop .i in
-    let e = c .of-coordinate .ensures .is ∙ ap remainderOf (toZ-ofZ w32 (getD P i (pos 0)) (record { sfits = c .before .of-coordinate-arg .given })) in
+    let e = c .of-coordinate .ensures ∙ ap remainder (toZ-ofZ w32 (getD P i (pos 0)) (record { sfits = c .before .of-coordinate-arg .given })) in
     (search needs, (simp length-set (c .before .before .before .loop .inv .1 .0), ap (λ (xs : List ℕ). set xs i (c .of-coordinate .result)) (c .before .before .before .loop .inv .1 .1) ∙ ap (set (residuesOf (take i P) ++ drop i O) i) e ∙ residues-more P O i (omega arith) (omega arith)))
 
 -- src/lib.rt:32:1

@@ -10,7 +10,7 @@ use lib.Seq.{drop-cons, set-at, length-take-le, take-length, take-at}
 use Rattle.horner.specs.definitions.Residues.{redℤ, prime, prime-pos, below}
 use Rattle.code.specs.Widths.{modulus}
 use Rattle.code_walk.specs.Points.{Leaves}
-use Rattle.residue.specs.Residue as C
+use Rattle.reply.specs.definitions.Terms.{remainder}
 use Rattle.door_point.specs.Point.{residuesOf}
 
 pub residues-length : (N : List ℤ) → length (residuesOf N) ≡ length N
@@ -21,7 +21,7 @@ pub residues-leaves : (N : List ℤ) → Leaves 0 (residuesOf N)
 unfolding residuesOf
 residues-leaves N = record { below = small N }
   where
-    small : (N : List ℤ) (k : ℕ) → getD (map (λ z. redℤ prime prime-pos z .0) N) k 0 < modulus 0
+    small : (N : List ℤ) (k : ℕ) → getD (map remainder N) k 0 < modulus 0
     small [] k = omega arith
     small (z ∷ N) zero = below prime prime-pos (redℤ prime prime-pos z)
     small (z ∷ N) (suc k) = small N k
@@ -35,22 +35,22 @@ module _ (N : List ℤ) (d : List ℕ) where
   unfolding residuesOf
   residues-none = refl
 
-  residues-suc : (k : ℕ) → k < length N → residuesOf (take (suc k) N) ≡ residuesOf (take k N) ++ (C.remainderOf (getD N k (pos 0)) ∷ [])
-  unfolding residuesOf C.remainderOf
+  residues-suc : (k : ℕ) → k < length N → residuesOf (take (suc k) N) ≡ residuesOf (take k N) ++ (remainder (getD N k (pos 0)) ∷ [])
+  unfolding residuesOf
   residues-suc k h = go N k h
     where
       go : (N : List ℤ) (k : ℕ) → k < length N
-          → map (λ z. redℤ prime prime-pos z .0) (take (suc k) N) ≡ map (λ z. redℤ prime prime-pos z .0) (take k N) ++ (redℤ prime prime-pos (getD N k (pos 0)) .0 ∷ [])
+          → map remainder (take (suc k) N) ≡ map remainder (take k N) ++ (remainder (getD N k (pos 0)) ∷ [])
       go [] k h = absurd (omega arith)
       go (z ∷ N) zero h = refl
-      go (z ∷ N) (suc k) h = ap (λ l. redℤ prime prime-pos z .0 ∷ l) (go N k (omega arith))
+      go (z ∷ N) (suc k) h = ap (λ l. remainder z ∷ l) (go N k (omega arith))
 
   -- one more is written over d
   pub residues-more : (k : ℕ) → k < length N → k < length d
-      → set (residuesOf (take k N) ++ drop k d) k (C.remainderOf (getD N k (pos 0))) ≡ residuesOf (take (k + 1) N) ++ drop (k + 1) d
+      → set (residuesOf (take k N) ++ drop k d) k (remainder (getD N k (pos 0))) ≡ residuesOf (take (k + 1) N) ++ drop (k + 1) d
   residues-more k h l =
       let e : length (residuesOf (take k N)) ≡ k = residues-length (take k N) ∙ length-take-le k N (omega arith) in
-      rw (add-one, drop-cons d k 0, set-at (residuesOf (take k N)) (getD d k 0) (drop (suc k) d) (C.remainderOf (getD N k (pos 0))) k e, residues-suc k h, append-assoc)
+      rw (add-one, drop-cons d k 0, set-at (residuesOf (take k N)) (getD d k 0) (drop (suc k) d) (remainder (getD N k (pos 0))) k e, residues-suc k h, append-assoc)
 
   pub residues-all : (k : ℕ) → k ≤ length N → length N ≤ k → residuesOf (take k N) ++ drop k d ≡ residuesOf N ++ drop (length N) d
   residues-all k h l =

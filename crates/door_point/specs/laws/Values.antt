@@ -36,8 +36,8 @@ module _ {A B : Type 0} (R : Ring A) (S : Ring B) (f : A → B) (h : Hom R S f) 
   evalh-map (pop i p) N = ap (evalh S (mapForm f p)) (sym (map-drop f i N)) ∙ evalh-map p (drop i N)
   evalh-map (pow i p q) [] = sym (h .keeps-nil)
   evalh-map (pow i p q) (a ∷ N) =
-      ap₂ (S .add) (ap₂ (S .mul) (sym (map-power R S f h a i)) (evalh-map p (a ∷ N)) ∙ sym (h .keeps-mul (power R a i) (evalh R p (a ∷ N)))) (evalh-map q N)
-      ∙ sym (h .keeps-add (R .mul (power R a i) (evalh R p (a ∷ N))) (evalh R q N))
+      ap₂ (S ._⊞_) (ap₂ (S ._·_) (sym (map-power R S f h a i)) (evalh-map p (a ∷ N)) ∙ sym (h .keeps-mul (power R a i) (evalh R p (a ∷ N)))) (evalh-map q N)
+      ∙ sym (h .keeps-add (R ._·_ (power R a i) (evalh R p (a ∷ N))) (evalh R q N))
 
 -- the coordinates' remainders as leaves
 point-leaves : (N : List ℤ) → map (leaf 0) (residuesOf N) ≡ map by-P N

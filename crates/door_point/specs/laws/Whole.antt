@@ -8,17 +8,19 @@ use borrow.Author.Tests.{eq-eqb, ne-eqb}
 use lib.Dec.{eqb}
 use lib.IntN.{ℤ}
 use lib.ListN.{length}
+use Rattle.refusal.specs.Refusal.{ofNeither}
+use Rattle.refusal.specs.declared.Refusal.{Refusal}
 use Rattle.text.specs.definitions.Bytes.{isRow}
 use Rattle.text_laws.specs.laws.Rows.{row-length}
-use Rattle.reply.specs.definitions.Buffers.{untouched, Tables}
-use Rattle.reply.specs.definitions.Reply.{Reply, neither, refuses, asked, opened}
-use Rattle.door.specs.Door.{readyOf, Long}
-use Rattle.door.specs.declared.Side.the-variants.{Neither}
+use Rattle.reply.specs.definitions.Reply.{Reply, refuses, asked, opened, work, untouched, toldRemainder, Remainders}
+use Rattle.code.specs.Lengths.{Long}
+use Rattle.door.specs.Door.{readyOf}
+use Rattle.door.specs.declared.Entry.the-variants as Closed
 use Rattle.door.specs.laws.Door.{Open, open-goes, not-open, ready-small}
 use Rattle.door.specs.laws.Ending.{tables-kept, Zeros, tables-cleared}
-use Rattle.door_point.specs.Point.{remainderedOf}
-use Rattle.door_point.specs.declared.Remaindered.{Remaindered}
-use Rattle.door_point.specs.declared.Remaindered.the-variants.{Refused}
+use Rattle.door_point.specs.Point.{remainderedOf, tells-remainder}
+use Rattle.reply.specs.declared.Remaindered.{Remaindered}
+use Rattle.reply.specs.declared.Remaindered.the-variants.{Refused}
 
 -- a table has room for the coordinates
 pub room-for : (row : List ℕ) {a b c d : ℕ} (N : List ℤ) → isRow row ≡ true → Long a b c d → length N ≡ length row → length N ≤ b
@@ -28,29 +30,27 @@ room-for row N r l e = omega (arith, row-length row r .1, l .second)
 abbrev pub pointed : (row ts : List ℕ) (N : List ℤ) → Reply ℕ → Reply ℕ
 pointed row ts N y = opened row ts (λ u. asked (eqb (length N) (length row)) 12 (λ v. y))
 
-abbrev pub Whole : Reply ℕ → Remaindered → (a b c d a′ b′ c′ d′ : List ℕ) → Type 0
-Whole x r a b c d a′ b′ c′ d′ = (r ≡ remainderedOf x) × Tables x a b c d a′ b′ c′ d′
-
 cleared-whole : (x y : Reply ℕ) {r : Remaindered} (a b c d : List ℕ) {a′ b′ c′ d′ : List ℕ} → x ≡ y → untouched y ≡ false → r ≡ remainderedOf y
-    → Zeros a b c d a′ b′ c′ d′ → Whole x r a b c d a′ b′ c′ d′
-cleared-whole x y a b c d h u i z = (i ∙ ap remainderedOf (sym h), tables-cleared x a b c d (ap untouched h ∙ u) z)
+    → Zeros a b c d a′ b′ c′ d′ → Remainders x r (work a b c d) (work a′ b′ c′ d′)
+cleared-whole x y a b c d h u i z =
+    record { answer = ap toldRemainder i ∙ tells-remainder y ∙ sym h; tables = tables-cleared x a b c d (ap untouched h ∙ u) z }
 
 module _ (row ts : List ℕ) (N : List ℤ) (x y : Reply ℕ) (is : x ≡ pointed row ts N y) where
   abbrev rest : Bool → Reply ℕ
   rest b = asked b 12 (λ v. y)
 
-  pub refused-whole : {e : ℕ} (a b c d : List ℕ) → e ≡ readyOf row ts → (e ≡ 0 → ⊥) → Whole x (Refused e Neither 0) a b c d a b c d
-  refused-whole a b c d h n =
-      let k = is ∙ not-open row ts (λ u. rest (eqb (length N) (length row))) (λ z. n (h ∙ z)) in
-      (ap (λ n. Refused n Neither 0) h ∙ ap remainderedOf (sym k), tables-kept x a b c d k (ready-small row ts))
+  pub refused-whole : {bad : Refusal} (a b c d : List ℕ) → readyOf row ts ≡ Closed.Refused bad → Remainders x (Refused bad) (work a b c d) (work a b c d)
+  refused-whole a b c d h =
+      let k = is ∙ not-open row ts (λ u. rest (eqb (length N) (length row))) h in
+      record { answer = sym k; tables = tables-kept x (work a b c d) k (ready-small row ts h) }
 
   -- the point has another length than the row
   pub other-length : (a b c d : List ℕ) {a′ b′ c′ d′ : List ℕ} → Open row ts → (length N ≡ length row → ⊥) → Zeros a b c d a′ b′ c′ d′
-      → Whole x (Refused 12 Neither 0) a b c d a′ b′ c′ d′
+      → Remainders x (Refused (ofNeither 12)) (work a b c d) (work a′ b′ c′ d′)
   other-length a b c d o n z =
-      cleared-whole x (refuses 12 neither 0) a b c d (is ∙ open-goes row ts (λ u. rest (eqb (length N) (length row))) o ∙ ap rest (ne-eqb (length N) (length row) n)) refl refl z
+      cleared-whole x (refuses (ofNeither 12)) a b c d (is ∙ open-goes row ts (λ u. rest (eqb (length N) (length row))) o ∙ ap rest (ne-eqb (length N) (length row) n)) refl refl z
 
   pub answered-whole : {r : Remaindered} (a b c d : List ℕ) {a′ b′ c′ d′ : List ℕ} → Open row ts → length N ≡ length row → untouched y ≡ false → r ≡ remainderedOf y
-      → Zeros a b c d a′ b′ c′ d′ → Whole x r a b c d a′ b′ c′ d′
+      → Zeros a b c d a′ b′ c′ d′ → Remainders x r (work a b c d) (work a′ b′ c′ d′)
   answered-whole a b c d o l u i z =
       cleared-whole x y a b c d (is ∙ open-goes row ts (λ u. rest (eqb (length N) (length row))) o ∙ ap rest (eq-eqb (length N) (length row) l)) u i z

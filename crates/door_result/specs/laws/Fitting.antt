@@ -6,20 +6,19 @@ use Prim.Native.Nat.{ℕ, _≤_, _<_}
 use native.Mathlib.Omega.{arith}
 use borrow.Author.Tests.{le-leb, lt-leb}
 use lib.ListN.{length, drop}
-use Rattle.reply.specs.definitions.Reply.{gives, refuses, neither, fitted}
-use Rattle.reply.specs.definitions.Buffers.{resultAfter}
+use Rattle.refusal.specs.Refusal.{ofNeither}
+use Rattle.reply.specs.definitions.Reply.{gives, refuses, fitted, resultAfter}
 use Rattle.form_write.specs.Write.{Wrote}
-use Rattle.door.specs.declared.Side.the-variants.{Neither}
 use Rattle.door_result.specs.Result.{writtenOf}
-use Rattle.door_result.specs.declared.Written.the-variants.{Text, Refused}
+use Rattle.reply.specs.declared.Written.the-variants.{Text, Refused}
 
-pub too-short : (n : ℕ) (w : List ℕ) → n < length w → fitted n w ≡ refuses 11 neither 0
+pub too-short : (n : ℕ) (w : List ℕ) → n < length w → fitted n w ≡ refuses (ofNeither 11)
 too-short n w h = rw (lt-leb (length w) n h) refl
 
 pub long-enough : (n : ℕ) (w : List ℕ) → length w ≤ n → fitted n w ≡ gives w
 long-enough n w h = rw (le-leb (length w) n h) refl
 
-pub answered-short : (n : ℕ) (w b : List ℕ) → n < length w → (Refused 11 Neither 0 ≡ writtenOf (fitted n w)) × (b ≡ resultAfter (fitted n w) b)
+pub answered-short : (n : ℕ) (w b : List ℕ) → n < length w → (Refused (ofNeither 11) ≡ writtenOf (fitted n w)) × (b ≡ resultAfter (fitted n w) b)
 answered-short n w b h = (ap writtenOf (sym (too-short n w h)), ap (λ r. resultAfter r b) (sym (too-short n w h)))
 
 pub answered : {r : ℕ} {w old new : List ℕ} → Wrote r w old new → (Text r ≡ writtenOf (fitted (length old) w)) × (new ≡ resultAfter (fitted (length old) w) old)

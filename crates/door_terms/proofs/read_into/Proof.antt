@@ -16,51 +16,40 @@ use Rattle.door_terms.proofs.read_into.Lts as lts
 use Rattle.code.proofs.copy.Reads as copy-reads
 use Rattle.term_read.proofs.read_term.Reads as read-term-reads
 
--- src/lib.rt:41:9
 read-term-requires : tie.Need-read-term-requires
 read-term-requires c κs = search needs
 
--- src/lib.rt:42:20
 enum-known-reading : tie.Need-enum-known-reading
 enum-known-reading c = search needs
 
--- src/lib.rt:43:9
 enum-told : tie.Need-enum-told
 enum-told c = search needs
 
--- src/lib.rt:43:9
 same-length : tie.Need-same-length
 same-length c = search needs
 
--- src/lib.rt:43:9
 same-length-2 : tie.Need-same-length-2
 same-length-2 c = search needs
 
--- src/lib.rt:43:9
 same-length-3 : tie.Need-same-length-3
 same-length-3 c = search needs
 
--- src/lib.rt:43:9
 same-length-4 : tie.Need-same-length-4
 same-length-4 c = search needs
 
--- src/lib.rt:43:9
 returns : tie.Need-returns
 returns c = refused-any _ (c .enum-told .given .1) (c .before .before .before .before .before .before .before .before .before .before .read-term .ensures)
 
--- src/lib.rt:45:17
 slice-reshare-prefix-copy : tie.Need-slice-reshare-prefix-copy
 slice-reshare-prefix-copy c =
     let read-term = c .before .before .before .before .before .before .before .before .before .before .before .read-term in
     begins-le (read-form (c .before .reading .given .1) (read-term .ensures) .made)
 
--- src/lib.rt:45:17
 slice-aggregate-copy : tie.Need-slice-aggregate-copy
 slice-aggregate-copy c =
     let read-term = c .before .before .before .before .before .before .before .before .before .before .before .before .read-term in
     sym (length-take-le (c .before .before .reading .given .0 .0) (read-term .last .1 .1 .0) (begins-le (read-form (c .before .before .reading .given .1) (read-term .ensures) .made)))
 
--- src/lib.rt:45:5
 copy-requires : tie.Need-copy-requires
 copy-requires c κs =
     let read-term = c .before .before .before .before .before .before .before .before .before .before .before .before .before .read-term in
@@ -68,23 +57,18 @@ copy-requires c κs =
     let T = read-form (c .before .before .before .reading .given .1) (read-term .ensures) in
     omega (arith, length-take-le (c .before .before .before .reading .given .0 .0) (read-term .last .1 .1 .0) (begins-le (T .made)), term-words (start .pre .0) T, start .pre .1 .fourth, read-term .kept .1 .1 .1 .1 .1 .0)
 
--- src/lib.rt:29:1
 same-length-5 : tie.Need-same-length-5
 same-length-5 c = search needs
 
--- src/lib.rt:29:1
 same-length-6 : tie.Need-same-length-6
 same-length-6 c = search needs
 
--- src/lib.rt:29:1
 same-length-7 : tie.Need-same-length-7
 same-length-7 c = search needs
 
--- src/lib.rt:29:1
 same-length-8 : tie.Need-same-length-8
 same-length-8 c = search needs
 
--- src/lib.rt:29:1
 returns-2 : tie.Need-returns-2
 returns-2 c =
     let reading = c .before .before .before .before .before .before .reading in

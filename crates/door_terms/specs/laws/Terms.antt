@@ -7,49 +7,53 @@ use borrow.Rule.Slice.PartMut.{putMid}
 use lib.ListN.{length, take, drop}
 use Rattle.code.proofs.Lists.{begins-le, copied-front}
 use Rattle.code.proofs.Regions.{region-before, region-put}
-use Rattle.text.specs.definitions.Answer.{Reading, read, refused}
+use Rattle.text.specs.definitions.Answer.{Reading, read}
 use Rattle.text.specs.definitions.Limits.{acceptTerm}
-use Rattle.reply.specs.definitions.Reply as C
-use Rattle.reply.specs.definitions.Reply.{Reply, readAs}
+use Rattle.reply.specs.definitions.Reply.{Reply, refuses, readAs}
 use Rattle.text.specs.definitions.Tree.{Tree}
-use Rattle.door.specs.Door.{told}
 use Rattle.term_read.specs.Read.{IsTerm, TermRead, refusal, form}
-use Rattle.door.specs.declared.Read.{Read}
-use Rattle.door.specs.declared.Read.the-variants as R
-use Rattle.door.specs.declared.Side.{Side}
-use Rattle.door.specs.declared.Side.the-variants.{Left, Right}
+use Rattle.term_read.specs.declared.TermReading.{TermReading}
+use Rattle.term_read.specs.declared.TermReading.the-variants as R
+use Rattle.refusal.specs.Refusal.{onSide}
+use Rattle.refusal.specs.declared.Fault.{Fault}
+use Rattle.refusal.specs.declared.Refusal.{Refusal}
+use Rattle.refusal.specs.declared.Side.the-variants.{Left, Right}
 use Rattle.term_read.specs.laws.Reading.{read-form, read-refusal}
-use Rattle.door_terms.specs.Terms.{pairRefused, IsPair, PairRead, left-refusal, right-refusal, forms}
-use Rattle.door_terms.specs.declared.Pair.{Pair}
-use Rattle.door_terms.specs.declared.Pair.the-variants.{Forms, Refused}
+use Rattle.door_terms.specs.Terms.{begun, ended, IsPair, PairRead, left-refusal, right-refusal, forms}
+use Rattle.door_terms.specs.declared.TermPair.{TermPair}
+use Rattle.door_terms.specs.declared.TermPair.the-variants.{Forms, Refused}
 
 -- ---- one form, copied to the front of another table
 -- a refusal says nothing of the tables
-pub refused-any : {row s l : List ℕ} {r : Read} {e p : ℕ} (k : List ℕ) → r ≡ R.Refused e p → TermRead row s r l → TermRead row s r k
-refused-any {e = e} {p} k h t = refusal e p (read-refusal h t) h
+pub refused-any : {row s l : List ℕ} {r : TermReading} {bad : Fault} (k : List ℕ) → r ≡ R.Refused bad → TermRead row s r l → TermRead row s r k
+refused-any {bad = bad} k h t = refusal bad (read-refusal h t) h
 
-pub copied : {row s l d′ : List ℕ} {r : Read} {n : ℕ} (d : List ℕ) → r ≡ R.Form n → TermRead row s r l → d′ ≡ take n l ++ d → TermRead row s (R.Form n) d′
+pub copied : {row s l d′ : List ℕ} {r : TermReading} {n : ℕ} (d : List ℕ) → r ≡ R.Form n → TermRead row s r l → d′ ≡ take n l ++ d → TermRead row s (R.Form n) d′
 copied {n = n} d h t e =
     let T = read-form h t in
     form n (record { t = T .t; accepted = T .accepted; made = copied-front d (T .made) e }) refl
 
 -- ---- the pair
-module _ {row s t : List ℕ} {x : Pair} where
-  pub left-refused : {l : List ℕ} (k : List ℕ) {r : Read} {e p : ℕ} → x ≡ pairRefused r Left → r ≡ R.Refused e p → TermRead row s r l → PairRead row s t x k
-  left-refused k {e = e} {p} i h T = left-refusal e p (read-refusal h T) (i ∙ ap (λ z. pairRefused z Left) h)
+no-forms : {P : Type 0} {k m : ℕ} {bad : Refusal} → _≡_ {A = TermPair} (Forms k m) (Refused bad) → P
+no-forms h = absurd (let z : _≡_ {A = ℕ} 0 1 = cc in omega arith)
 
-  pub right-refused : {l m : List ℕ} (k : List ℕ) {q r : Read} {n e p : ℕ} → x ≡ pairRefused r Right → q ≡ R.Form n → TermRead row s q m → r ≡ R.Refused e p
-      → TermRead row t r l → PairRead row s t x k
-  right-refused k {e = e} {p} j i S h T =
-      let F = read-form i S in
-      right-refusal (F .t) e p (F .accepted) (read-refusal h T) (j ∙ ap (λ z. pairRefused z Right) h)
+begun-form : (q : TermReading) {n z : ℕ} → begun q ≡ Forms n z → q ≡ R.Form n
+begun-form (R.Refused bad) h = no-forms (sym h)
+begun-form (R.Form k) {n} h = let e : k ≡ n = cc in ap R.Form e
 
--- the right form is read into the part behind the left one
-pub both : {row s t : List ℕ} (l m : List ℕ) {q r : Read} {n k : ℕ} → q ≡ R.Form n → TermRead row s q l → r ≡ R.Form k → TermRead row t r m
-    → PairRead row s t (Forms n k) (putMid n (length l - n) l m)
-both l m {n = n} {k} i S j T =
-    let F = read-form i S in
-    let G = read-form j T in
+-- the left text was read, and is a form
+pub left-form : {row s l : List ℕ} {q : TermReading} {n z : ℕ} {x : TermPair} → x ≡ begun q → x ≡ Forms n z → TermRead row s q l → IsTerm row s n l
+left-form {q = q} h i = read-form (begun-form q (sym h ∙ i))
+
+-- the left text is refused, and the right one not read
+pub left-refused : {row s t l : List ℕ} (k : List ℕ) {q : TermReading} {x : TermPair} {bad : Refusal} → x ≡ begun q → x ≡ Refused bad → TermRead row s q l → PairRead row s t x k
+left-refused k h i (refusal worse a j) = left-refusal worse a (h ∙ ap begun j)
+left-refused k h i (form n t j) = no-forms (ap begun (sym j) ∙ sym h ∙ i)
+
+-- the right text was read into the part behind the left form
+pub right-read : {row s t : List ℕ} (l m : List ℕ) {n : ℕ} {r : TermReading} → IsTerm row s n l → TermRead row t r m → PairRead row s t (ended n r) (putMid n (length l - n) l m)
+right-read l m {n} F (refusal bad a j) = right-refusal (F .t) bad (F .accepted) a (ap (ended n) j)
+right-read l m {n} F (form k G j) =
     let a = begins-le (F .made) in
     let z : n + 0 ≡ n = omega arith in
     forms n k
@@ -65,38 +69,27 @@ both l m {n = n} {k} i S j T =
             is = ap (λ i. take k (drop i (putMid n (length l - n) l m))) (sym z) ∙ region-put n 0 k l m a (omega (arith, begins-le (G .made))) ∙ G .made .is;
           };
     })
-    refl
+    (ap (ended n) j)
 
 -- ---- by the enum
-no-forms : {P : Type 0} {k m e p : ℕ} {s : Side} → _≡_ {A = Pair} (Forms k m) (Refused e s p) → P
-no-forms h = absurd (let z : _≡_ {A = ℕ} 0 1 = cc in omega arith)
 
-pub pair-forms : {row s t l : List ℕ} {q : Pair} {k m : ℕ} → q ≡ Forms k m → PairRead row s t q l → IsPair row s t k m l
-pair-forms h (left-refusal e p a i) = no-forms (sym h ∙ i)
-pair-forms h (right-refusal f e p a b i) = no-forms (sym h ∙ i)
+pub pair-forms : {row s t l : List ℕ} {q : TermPair} {k m : ℕ} → q ≡ Forms k m → PairRead row s t q l → IsPair row s t k m l
+pair-forms h (left-refusal bad a i) = no-forms (sym h ∙ i)
+pair-forms h (right-refusal f bad a b i) = no-forms (sym h ∙ i)
 pair-forms {row} {s} {t} {l} {k = k} {m} h (forms k′ m′ Q i) =
     let a : k′ ≡ k = cc in
     let b : m′ ≡ m = cc in
     subst (λ z. IsPair row s t z m l) a (subst (λ z. IsPair row s t k′ z l) b Q)
 
 -- what any call on two terms replies where one is refused
-pub record RefusedSo {B : Type 0} (x : Reply B) (q : Pair) : Type 0 where
-  pub number : ℕ
-  pub side : C.Side
-  pub place : ℕ
-  pub is : q ≡ Refused number (told side) place
-  pub replies : x ≡ C.refuses number side place
-
-pub pair-refused : {B : Type 0} {row s t l : List ℕ} {q : Pair} {e p : ℕ} {d : Side} (k : Tree → Tree → Reply B) → q ≡ Refused e d p → PairRead row s t q l
-    → RefusedSo (readAs C.left (acceptTerm row s) (λ f. readAs C.right (acceptTerm row t) (k f))) q
-pair-refused {row = row} {s} {t} k h (left-refusal e p a i) =
-    record { number = e; side = C.left; place = p; is = i; replies = ap (λ (x : Reading Tree). readAs C.left x (λ f. readAs C.right (acceptTerm row t) (k f))) a }
-pair-refused {row = row} {s} {t} k h (right-refusal f e p a b i) =
-    record {
-      number = e;
-      side = C.right;
-      place = p;
-      is = i;
-      replies = ap (λ (x : Reading Tree). readAs C.left x (λ f. readAs C.right (acceptTerm row t) (k f))) a ∙ ap (λ (x : Reading Tree). readAs C.right x (k f)) b;
-    }
+pub pair-refused : {B : Type 0} {row s t l : List ℕ} {q : TermPair} {bad : Refusal} (k : Tree → Tree → Reply B) → q ≡ Refused bad → PairRead row s t q l
+    → readAs Left (acceptTerm row s) (λ f. readAs Right (acceptTerm row t) (k f)) ≡ refuses bad
+pair-refused {row = row} {s} {t} {bad = bad} k h (left-refusal worse a i) =
+    let same : onSide Left worse ≡ bad = cc in
+    ap (λ (x : Reading Tree). readAs Left x (λ f. readAs Right (acceptTerm row t) (k f))) a ∙ ap refuses same
+pair-refused {row = row} {s} {t} {bad = bad} k h (right-refusal f worse a b i) =
+    let same : onSide Right worse ≡ bad = cc in
+    ap (λ (x : Reading Tree). readAs Left x (λ f. readAs Right (acceptTerm row t) (k f))) a
+    ∙ ap (λ (x : Reading Tree). readAs Right x (k f)) b
+    ∙ ap refuses same
 pair-refused k h (forms n m Q i) = no-forms (sym i ∙ h)

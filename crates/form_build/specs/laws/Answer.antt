@@ -9,6 +9,7 @@ use borrow.Author.Tests.{eq-eqb, ne-eqb, lt-ltb, le-ltb, leb-true, leb-false}
 use lib.Dec.{ltb, leb}
 use lib.IntN.{ℤ}
 use lib.ListN.{length, getD}
+use Rattle.refusal.specs.Refusal.{fault}
 use Rattle.horner.specs.definitions.Form.{Form}
 use Rattle.horner.specs.definitions.Integers.{ℤ-ring}
 use Rattle.horner.specs.definitions.Measures.{AllLe, weight, degrees, count, terms}
@@ -27,7 +28,7 @@ use Rattle.text_laws.specs.laws.Picks.{pick, pick-yes, pick-no}
 use Rattle.measure.specs.declared.Measures.{Measures}
 use Rattle.measure.specs.Measure.{limitM}
 use Rattle.form_head.specs.Heads.{Standing}
-use Rattle.form_build.specs.declared.Judged.the-variants.{Form as Formed, Refused}
+use Rattle.form_build.specs.declared.FormJudged.the-variants.{Form as Formed, Refused}
 use Rattle.form_normal.specs.declared.Seen.the-variants.{Wrong, Fine}
 use Rattle.form_build.specs.Answer.{IsRead, judgedOf, limitedM}
 use Rattle.form_normal.specs.Normal.{shapeOf, seen, SeenAt}
@@ -126,8 +127,8 @@ module _ (m : ℕ) (few : m ≤ 4) (f : Form ℤ) (n : Normal ℤ-ring m f) wher
       l = ap limitM q ∙ limit-is
 
       go : (e : ℕ) → passes m f ≡ e → limitedM a ≡ judgedOf m (fine e 0 (λ u. read f))
-      go zero e = pick-yes (Formed a) (Refused (limitM a) 0) (eq-eqb (limitM a) 0 (l ∙ e)) ∙ ap Formed (q ∙ exact (within-limits (passes m f) (measure m f) e))
-      go (suc k) e = pick-no (Formed a) (Refused (limitM a) 0) (ne-eqb (limitM a) 0 (λ z. omega (arith, z, l, e))) ∙ ap (λ x. Refused x 0) (l ∙ e)
+      go zero e = pick-yes (Formed a) (Refused (fault (limitM a) 0)) (eq-eqb (limitM a) 0 (l ∙ e)) ∙ ap Formed (q ∙ exact (within-limits (passes m f) (measure m f) e))
+      go (suc k) e = pick-no (Formed a) (Refused (fault (limitM a) 0)) (ne-eqb (limitM a) 0 (λ z. omega (arith, z, l, e))) ∙ ap (λ x. Refused (fault x 0)) (l ∙ e)
 
 -- ---- the text
 module _ (m : ℕ) (few : m ≤ 4) (s : List ℕ) (R : IsRead s) where
@@ -141,15 +142,15 @@ module _ (m : ℕ) (few : m ≤ 4) (s : List ℕ) (R : IsRead s) where
   unfolding acceptForm
   accept-read = ap (thenJudged m) (R .is)
 
-  pub answer-wrong : (p : ℕ) → SeenAt m s 0 (Wrong p) → Refused 7 p ≡ judgedOf m (acceptForm m s)
+  pub answer-wrong : (p : ℕ) → SeenAt m s 0 (Wrong p) → Refused (fault 7 p) ≡ judgedOf m (acceptForm m s)
   answer-wrong p S = go (judgedAt m 0 0 (R .f)) (judged m (R .f) (nodes 0 0 (R .f))) (S m 0 (R .f) [] (sub-zero m) (text-stands is-text)) ∙ ap (judgedOf m) (sym accept-read)
     where
-      go : (x : Reading (Form ℤ)) → Verdict m (R .f) (nodes 0 0 (R .f)) x → Wrong p ≡ seen x (shapeOf (R .f)) (0 + length (text (R .f))) → Refused 7 p ≡ judgedOf m (thenMeasured m x)
+      go : (x : Reading (Form ℤ)) → Verdict m (R .f) (nodes 0 0 (R .f)) x → Wrong p ≡ seen x (shapeOf (R .f)) (0 + length (text (R .f))) → Refused (fault 7 p) ≡ judgedOf m (thenMeasured m x)
       go x (upright a e) q = absurd (let w = q ∙ ap (λ z. seen z (shapeOf (R .f)) (0 + length (text (R .f)))) e in let z : _≡_ {A = ℕ} 0 1 = cc in omega arith)
       go x (fallen ls k js j a w e) q =
           let v : Wrong p ≡ Wrong (k .place) = q ∙ ap (λ z. seen z (shapeOf (R .f)) (0 + length (text (R .f)))) e in
           let u : p ≡ k .place = cc in
-          ap (Refused 7) u ∙ ap (λ z. judgedOf m (thenMeasured m z)) (sym e)
+          ap (λ x. Refused (fault 7 x)) u ∙ ap (λ z. judgedOf m (thenMeasured m z)) (sym e)
 
   pub answer-fine : (shape next : ℕ) → SeenAt m s 0 (Fine shape next) → {a b : Measures} {end : ℕ} → MeasuredAt s 0 a end → b ≡ atLeastOne a → limitedM b ≡ judgedOf m (acceptForm m s)
   answer-fine shape next S {a} {b} M q = go (judgedAt m 0 0 (R .f)) (judged m (R .f) (nodes 0 0 (R .f))) (S m 0 (R .f) [] (sub-zero m) (text-stands is-text)) ∙ ap (judgedOf m) (sym accept-read)

@@ -1,9 +1,10 @@
 -- What a caller learns from the answer on a form's text.
 use mathlib.Core.List.{List}
-use mathlib.Core.Path.{_≡_, refl, sym, _∙_}
+use mathlib.Core.Path.{_≡_, refl, sym, ap, _∙_}
 use Prim.Native.Nat.{ℕ}
 use native.Mathlib.Omega.{arith}
 use lib.IntN.{ℤ}
+use Rattle.refusal.specs.declared.Fault.{Fault}
 use Rattle.horner.specs.definitions.Form.{Form}
 use Rattle.horner.specs.definitions.Measures.{degrees}
 use Rattle.text.specs.definitions.Answer.{Reading, read, refused}
@@ -11,7 +12,7 @@ use Rattle.text.specs.definitions.FormJudging.{acceptForm}
 use Rattle.text_laws.specs.laws.FormAccepted.{accepts}
 use Rattle.measure.specs.declared.Measures.{Measures}
 use Rattle.measure.specs.Measure.{Small}
-use Rattle.form_build.specs.declared.Judged.the-variants.{Form as Formed, Refused}
+use Rattle.form_build.specs.declared.FormJudged.the-variants.{Form as Formed, Refused}
 use Rattle.form_build.specs.Answer.{judgedOf}
 use Rattle.form_build.specs.Measure.{measuresOf}
 use Rattle.form_build.specs.laws.Answer.{all-at}
@@ -28,17 +29,14 @@ module _ (m : ℕ) (s : List ℕ) where
     where
       go : (x : Reading (Form ℤ)) → acceptForm m s ≡ x → Formed a ≡ judgedOf m x → AcceptedAs m s a
       go (read f) i q = record { f = f; is = i; found = (cc) }
-      go (refused n p) i q = absurd (let z : _≡_ {A = ℕ} 0 1 = cc in omega arith)
+      go (refused bad) i q = absurd (let z : _≡_ {A = ℕ} 0 1 = cc in omega arith)
 
-  pub form-refused : (e p : ℕ) → Refused e p ≡ judgedOf m (acceptForm m s) → acceptForm m s ≡ refused e p
-  form-refused e p q = go (acceptForm m s) refl q
+  pub form-refused : (bad : Fault) → Refused bad ≡ judgedOf m (acceptForm m s) → acceptForm m s ≡ refused bad
+  form-refused bad q = go (acceptForm m s) refl q
     where
-      go : (x : Reading (Form ℤ)) → acceptForm m s ≡ x → Refused e p ≡ judgedOf m x → acceptForm m s ≡ refused e p
+      go : (x : Reading (Form ℤ)) → acceptForm m s ≡ x → Refused bad ≡ judgedOf m x → acceptForm m s ≡ refused bad
       go (read f) i q = absurd (let z : _≡_ {A = ℕ} 0 1 = cc in omega arith)
-      go (refused n k) i q =
-          let a : e ≡ n = cc in
-          let b : p ≡ k = cc in
-          i ∙ (λ j. refused (sym a j) (sym b j))
+      go (refused worse) i q = let same : worse ≡ bad = cc in i ∙ ap refused same
 
   -- its measures are within the limits
   pub accepted-small : (f : Form ℤ) → acceptForm m s ≡ read f → Small (measuresOf m f)

@@ -11,7 +11,7 @@ use lib.ListN.{length}
 use Rattle.horner.specs.definitions.Form.{Form, int, pop, pow, isZero}
 use Rattle.horner.specs.definitions.Integers.{ℤ-ring, isZeroℤ}
 use Rattle.horner.specs.definitions.Normal.{isPow, leads}
-use Rattle.text.specs.definitions.Answer.{Reading, read, refused}
+use Rattle.text.specs.definitions.Answer.{Reading, read, refused, refusedAt}
 use Rattle.text.specs.definitions.FormJudging.{stands}
 use Rattle.text.specs.definitions.FormText.{text, powHead}
 use Rattle.text_laws.specs.laws.Descent.{andThen, judgedAt, judged-pop, judged-pow}
@@ -84,7 +84,7 @@ some-left m l left e = go (ltb l m) refl
 abbrev by : Bool → Seen → Seen → Seen
 by b x y = elim b [ true ↦ x | false ↦ y ]
 
-seen-by : (b : Bool) (f : Form ℤ) (at shape next : ℕ) → seen (elim b [ true ↦ read f | false ↦ refused 7 at ]) shape next ≡ by b (Fine shape next) (Wrong at)
+seen-by : (b : Bool) (f : Form ℤ) (at shape next : ℕ) → seen (elim b [ true ↦ read f | false ↦ refusedAt 7 at ]) shape next ≡ by b (Fine shape next) (Wrong at)
 seen-by true f at shape next = refl
 seen-by false f at shape next = refl
 
@@ -104,7 +104,7 @@ four-tests false b c d x y = refl
 
 -- what the node itself says, behind its parts
 abbrev own : (m l at : ℕ) → Form ℤ → Reading (Form ℤ)
-own m l at f = elim (stands m l f) [ true ↦ read f | false ↦ refused 7 at ]
+own m l at f = elim (stands m l f) [ true ↦ read f | false ↦ refusedAt 7 at ]
 
 own-pop : (m l at i next number : ℕ) (p : Form ℤ) → number ≡ min i 64 → popSeen number (shapeOf p) at next ≡ seen (own m l at (pop i p)) 2 next
 own-pop m l at i next number p e =
@@ -133,11 +133,11 @@ own-pow m l at i next number left p q e f =
 -- ---- a part that is wrong, and one that is not
 seen-stop : (r k : Reading (Form ℤ)) (a b c d w : ℕ) → Wrong w ≡ seen r a b → Wrong w ≡ seen (andThen r k) c d
 seen-stop (read f) k a b c d w e = absurd (let z : _≡_ {A = ℕ} 0 1 = cc in omega arith)
-seen-stop (refused n p) k a b c d w e = e
+seen-stop (refused bad) k a b c d w e = e
 
 seen-on : (r k : Reading (Form ℤ)) (a b shape next : ℕ) → Fine shape next ≡ seen r a b → (andThen r k ≡ k) × ((shape ≡ a) × (next ≡ b))
 seen-on (read f) k a b shape next e = (refl, ((cc), (cc)))
-seen-on (refused n p) k a b shape next e = absurd (let z : _≡_ {A = ℕ} 0 1 = cc in omega arith)
+seen-on (refused bad) k a b shape next e = absurd (let z : _≡_ {A = ℕ} 0 1 = cc in omega arith)
 
 pub seen-ends : {left : ℕ} {s : List ℕ} {at : ℕ} (shape next : ℕ) → SeenAt left s at (Fine shape next) → Ends s at next
 seen-ends {left} {s} {at} shape next X g rest h =

@@ -32,7 +32,7 @@ judge-text-requires c κs =
 returns : tie.Need-returns
 returns c =
     let start = c .before .before .before .before .before in
-    syntax-refused (start .args .m) (now (start .args .s)) _ _ (sym (c .before .before .before .judge-form .ensures) ∙ c .before .syntax .given .1)
+    syntax-refused (start .args .m) (now (start .args .s)) _ (sym (c .before .before .before .judge-form .ensures) ∙ c .before .syntax .given .1)
 
 -- src/lib.rt:19:1
 returns-2 : tie.Need-returns-2

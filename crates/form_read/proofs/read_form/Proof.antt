@@ -43,7 +43,7 @@ build-form-requires c κs =
 
 -- src/lib.rt:31:1
 returns : tie.Need-returns
-returns c = judged-refused _ _ _ _ _ (sym (c .before .before .before .accept-form .ensures) ∙ c .before .judged .given .1)
+returns c = judged-refused _ _ _ _ (sym (c .before .before .before .accept-form .ensures) ∙ c .before .judged .given .1)
 
 -- src/lib.rt:31:1
 same-length : tie.Need-same-length

@@ -8,6 +8,7 @@ use native.Mathlib.Omega.{arith}
 use lib.Dec.{eqb}
 use lib.ListN.{length, getD}
 use borrow.Author.Tests.{eq-eqb, ne-eqb}
+use Rattle.refusal.specs.Refusal.{fault}
 use Rattle.horner.specs.laws.Compare.{lt-or-ge}
 use Rattle.text.specs.definitions.Bytes.{digit}
 use Rattle.text.specs.definitions.FormReading.{Kind}
@@ -92,7 +93,7 @@ sign-move x ws true z e = ap₂ (λ (a b : Bool). cond (a && not b) (moved digit
 sign-move x ws false z e = ap₂ (λ (a b : Bool). cond (a && not b) (moved digits ws) stuck) e z
 
 module _ (s : List ℕ) (at : ℕ) where
-  pub natural-end : length s ≤ at → NaturalAt s at (Off 4 at)
+  pub natural-end : length s ≤ at → NaturalAt s at (Off (fault 4 at))
   natural-end h = record {
     within = tt;
     index = λ k ws. record { leads = ends s at (before-i k) ws h refl };
@@ -123,7 +124,7 @@ module _ (s : List ℕ) (at : ℕ) where
     start-goes o m ws e =
         start-move (getD s at 0) ws (none 40 o) (none 45 m) ∙ ap₂ (λ (x y : Bool). cond x (moved zeroInt ws) (cond y (moved digits ws) stuck)) none-48 e
 
-    pub natural-none : digit (getD s at 0) ≡ false → NaturalAt s at (Off 4 at)
+    pub natural-none : digit (getD s at 0) ≡ false → NaturalAt s at (Off (fault 4 at))
     natural-none d = record {
       within = tt;
       index = λ k ws. record { leads = stops s at (before-i k) ws h (index-goes k ws d) };
@@ -148,7 +149,7 @@ module _ (s : List ℕ) (at : ℕ) where
     minus : (ws : List Wait) → from s at start ws ≡ from s (at + 1) sign ws
     minus ws = step-at s at start ws 45 h refl refl
 
-    pub int-zero : isAt s (at + 1) 48 ≡ true → IntAt s at (Off 4 (at + 1))
+    pub int-zero : isAt s (at + 1) 48 ≡ true → IntAt s at (Off (fault 4 (at + 1)))
     int-zero z = record {
       within = tt;
       takes = λ ws. record { leads = minus ws ∙ stops s (at + 1) sign ws (at-inside s (at + 1) 48 z) (ap (move sign ws) (at-byte s (at + 1) 48 z)) };

@@ -7,8 +7,10 @@ use Prim.Native.Nat.{ℕ, _+_, _≤_, _<_}
 use native.Mathlib.Omega.{arith}
 use lib.ListN.{length, getD}
 use borrow.Author.Tests.{eq-eqb}
+use Rattle.refusal.specs.Refusal.{fault}
+use Rattle.refusal.specs.declared.Fault.{Fault}
 use Rattle.horner.specs.laws.Compare.{lt-or-ge}
-use Rattle.text.specs.definitions.Answer.{refused}
+use Rattle.text.specs.definitions.Answer.{refusedAt}
 use Rattle.text.specs.definitions.FormReading.{Kind, popKind, powKind}
 use Rattle.text.specs.program.FormKinds.{Stand, open0, openP, before-i, zero-i, Wait, moved, stuck}
 use Rattle.form_syntax.specs.declared.Part.{Part}
@@ -24,10 +26,10 @@ module _ (s : List ℕ) (at x : ℕ) where
     takes = λ {a} {b} {us} {vs} w. record { leads = step-at s at a us x h (w .is x ∙ ap (λ (t : Bool). cond t (moved b vs) stuck) (eq-eqb x x refl)) (w .free x) };
   }
 
-  pub expect-no : isAt s at x ≡ false → Expects s at x (Off 4 at)
+  pub expect-no : isAt s at x ≡ false → Expects s at x (Off (fault 4 at))
   expect-no h = record { within = tt; takes = λ {a} {b} {us} {vs} w. record { leads = by a b us vs w (lt-or-ge at (length s)) } }
     where
-      by : (a b : Stand) (us vs : List Wait) → Wants x a us b vs → (at < length s) ⊎ (length s ≤ at) → from s at a us ≡ refused 4 at
+      by : (a b : Stand) (us vs : List Wait) → Wants x a us b vs → (at < length s) ⊎ (length s ≤ at) → from s at a us ≡ refusedAt 4 at
       by a b us vs w (inl i) = stops s at a us i (w .is (getD s at 0) ∙ ap (λ (t : Bool). cond t (moved b vs) stuck) (sym (is-byte s at x i) ∙ h))
       by a b us vs w (inr i) = ends s at a us i (w .more)
 
@@ -36,7 +38,7 @@ module _ (s : List ℕ) (at : ℕ) (x : Part) (p : Expects s at 80 x) where
   wants-P : (ws : List Wait) → Wants 80 open0 ws openP ws
   wants-P ws = record { is = λ y. refl; free = λ y. refl; more = refl }
 
-  pub letters-off : {n q : ℕ} → x ≡ Off n q → LettersAt s at x
+  pub letters-off : {bad : Fault} → x ≡ Off bad → LettersAt s at x
   letters-off e = record { within = p .within; takes = λ ws. off e (p .takes (wants-P ws)) }
 
   pub letters : {i : ℕ} → x ≡ On i → (r : Part) → Expects s i 79 r → LettersAt s at r
@@ -51,14 +53,14 @@ module _ (s : List ℕ) (at : ℕ) (x : Part) (p : Expects s at 32 x) where
   wants-space popKind ws = record { is = λ y. refl; free = λ y. refl; more = refl }
   wants-space powKind ws = record { is = λ y. refl; free = λ y. refl; more = refl }
 
-  pub index-off : {n q : ℕ} → x ≡ Off n q → IndexAt s at x
+  pub index-off : {bad : Fault} → x ≡ Off bad → IndexAt s at x
   index-off e = record { within = p .within; takes = λ k ws. off e (p .takes (wants-space k ws)) }
 
   module _ (i : ℕ) (e : x ≡ On i) (y : Part) (m : NaturalAt s i y) where
     natural-takes : (k : Kind) (ws : List Wait) → Takes s at y (named k) ws (zero-i k) ws
     natural-takes k ws = on e (p .takes (wants-space k ws)) (m .index k ws)
 
-    pub index-none : {n q : ℕ} → y ≡ Off n q → IndexAt s at y
+    pub index-none : {bad : Fault} → y ≡ Off bad → IndexAt s at y
     index-none f = record {
       within = within-from s at i y (omega (arith, within-on s at i x e (p .within))) (m .within);
       takes = λ k ws. off f (natural-takes k ws);

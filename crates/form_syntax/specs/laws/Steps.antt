@@ -8,7 +8,8 @@ use native.Mathlib.Numerals.{add-one}
 use lib.Dec.{eqb, ltb}
 use lib.ListN.{length, getD, drop, drop-of-length-le}
 use borrow.Author.Tests.{ltb-true, lt-ltb, le-ltb, eqb-true}
-use Rattle.text.specs.definitions.Answer.{Reading, refused, fine}
+use Rattle.refusal.specs.declared.Fault.{Fault}
+use Rattle.text.specs.definitions.Answer.{Reading, refusedAt, fine}
 use Rattle.text.specs.program.FormKinds.{Stand, Wait, Move, moved, stuck, move, isWhole, caseMove, check, ended, walk}
 use Rattle.text_laws.specs.laws.Bytes.{and-l, and-r}
 use Rattle.text_word.proofs.Walk.{one-on}
@@ -37,7 +38,7 @@ module _ (s : List ℕ) (p x : ℕ) where
 -- ---- a part
 pub within-from : (s : List ℕ) (at p : ℕ) (r : Part) → at ≤ p → Within s p r → Within s at r
 within-from s at p (On e) h w = (omega (arith, w .0), w .1)
-within-from s at p (Off n q) h w = tt
+within-from s at p (Off bad) h w = tt
 
 pub within-on : (s : List ℕ) (at e : ℕ) (x : Part) → x ≡ On e → Within s at x → (at < e) × (e ≤ length s)
 within-on s at e x q w = subst (Within s at) q w
@@ -47,19 +48,19 @@ module _ {s : List ℕ} {at : ℕ} {x : Part} {a b c : Stand} {us vs ws : List W
   pub on : {p : ℕ} {r : Part} → x ≡ On p → Takes s at x a us b vs → Takes s p r b vs c ws → Takes s at r a us c ws
   on q t u = record { leads = t .leads ∙ ap (λ z. after z (λ e. from s e b vs)) q ∙ u .leads }
 
-  pub off : {n p : ℕ} → x ≡ Off n p → Takes s at x a us b vs → Takes s at x a us c ws
+  pub off : {bad : Fault} → x ≡ Off bad → Takes s at x a us b vs → Takes s at x a us c ws
   off q t = record { leads = t .leads ∙ ap (λ z. after z (λ e. from s e b vs)) q ∙ sym (ap (λ z. after z (λ e. from s e c ws)) q) }
 
 -- ---- the walk at a place
 abbrev pub goes : List ℕ → ℕ → Move → ℕ → Reading (Unit {0})
-goes s p m c = caseMove m (refused 4 p) (λ b vs. fine c p (λ u. from s (p + 1) b vs))
+goes s p m c = caseMove m (refusedAt 4 p) (λ b vs. fine c p (λ u. from s (p + 1) b vs))
 
 module _ (s : List ℕ) (p : ℕ) (a : Stand) (us : List Wait) where
   pub opened : p < length s → from s p a us ≡ goes s p (move a us (getD s p 0)) (check room a (length us) (getD s p 0))
   unfolding from
   opened h =
       ap (λ (l : List ℕ). walk room p a us l) (one-on s p h)
-      ∙ ap (λ (q : ℕ). caseMove (move a us (getD s p 0)) (refused 4 p) (λ b vs. fine (check room a (length us) (getD s p 0)) p (λ u. walk room q b vs (drop (p + 1) s)))) (sym (add-one p))
+      ∙ ap (λ (q : ℕ). caseMove (move a us (getD s p 0)) (refusedAt 4 p) (λ b vs. fine (check room a (length us) (getD s p 0)) p (λ u. walk room q b vs (drop (p + 1) s)))) (sym (add-one p))
 
   pub closed : length s ≤ p → from s p a us ≡ ended room (isWhole a us) p
   unfolding from
@@ -68,10 +69,10 @@ module _ (s : List ℕ) (p : ℕ) (a : Stand) (us : List Wait) where
   pub step : {b : Stand} {vs : List Wait} → p < length s → move a us (getD s p 0) ≡ moved b vs → check room a (length us) (getD s p 0) ≡ 0 → from s p a us ≡ from s (p + 1) b vs
   step h m c = opened h ∙ ap₂ (goes s p) m c
 
-  pub stops : p < length s → move a us (getD s p 0) ≡ stuck → from s p a us ≡ refused 4 p
+  pub stops : p < length s → move a us (getD s p 0) ≡ stuck → from s p a us ≡ refusedAt 4 p
   stops h m = opened h ∙ ap (λ (z : Move). goes s p z (check room a (length us) (getD s p 0))) m
 
-  pub ends : length s ≤ p → isWhole a us ≡ false → from s p a us ≡ refused 4 p
+  pub ends : length s ≤ p → isWhole a us ≡ false → from s p a us ≡ refusedAt 4 p
   ends h w = closed h ∙ ap (λ (b : Bool). ended room b p) w
 
   -- at a byte that is known

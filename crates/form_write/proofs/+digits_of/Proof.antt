@@ -2,14 +2,14 @@
 -- Assumes nothing.
 use Prim.Native.Nat.{_/_, ℕ, _<_}
 use native.Mathlib.Omega.{arith}
-use borrow.Fn.Kinds.{In}
+use borrow.Fn.Kinds.{In, Out}
 use borrow.Fn.PlainCycle.{Measures, is, falls, and}
 use Rattle.form_write.specs.laws.Sizes.{numeral-short, numeral-long, numeral-most}
 use Rattle.form_write.proofs.+digits_of.{statement}
 use Rattle.form_write.proofs.+digits_of.Tie.{close}
 use Rattle.form_write.proofs.digits_of.Reads as digits-of
 use Rattle.form_write.proofs.digits_of.Kinds as digits-of-kinds
-use Rattle.form_write.proofs.+digits_of.Lts-digits_of as digits-of-lts
+use Rattle.form_write.proofs.+digits_of.Lts-digits_of as lts
 
 abbrev μ-digits-of : Measures 0 digits-of-kinds.ps ℕ
 μ-digits-of κs a = a .0
@@ -21,9 +21,13 @@ abbrev digits-of-below : ℕ → In 0 digits-of-kinds.ps
 digits-of-below t =
     and 0 digits-of-kinds.ps (falls 0 digits-of-kinds.ps _<_ μ-digits-of t) digits-of.Pre
 
+-- what its calls ask and give, where the measure is t
+abbrev calls : ℕ → lts.Claims
+calls t = (digits-of-below t, digits-of.Post)
+
 pub +digits-of-spec : {M : Type 1} → statement M
 +digits-of-spec = close μ-digits-of λ t.
-    digits-of-lts.spec (digits-of-below t, digits-of.Post) (digits-of-at t) digits-of.Post
+    lts.spec (calls t) (digits-of-at t) digits-of.Post
     (λ c. omega (arith, numeral-short (c .before .args .n) (c .if1 .taken)))
     (λ c κs. (omega (arith, c .before .pre .0, c .if1 .left), tt))
     (λ c. omega (arith, c .digits-of .ensures, numeral-most (c .before .before .args .n / 10) (omega (arith, c .before .before .good))))

@@ -4,7 +4,7 @@ use mathlib.Core.Path.{sym}
 use Prim.Native.Nat.{_%_, _+_, ℕ, _<_}
 use native.Mathlib.Omega.{arith}
 use lib.ListN.{length-set}
-use borrow.Fn.Kinds.{In}
+use borrow.Fn.Kinds.{In, Out}
 use borrow.Fn.PlainCycle.{Measures, is, falls, and}
 use Rattle.text_laws.specs.laws.Numerals.{dec-short, dec-long}
 use Rattle.form_write.specs.laws.Sizes.{numeral-long, numeral-some}
@@ -13,7 +13,7 @@ use Rattle.form_write.proofs.+write_number.{statement}
 use Rattle.form_write.proofs.+write_number.Tie.{close}
 use Rattle.form_write.proofs.write_number.Reads as write-number
 use Rattle.form_write.proofs.write_number.Kinds as write-number-kinds
-use Rattle.form_write.proofs.+write_number.Lts-write_number as write-number-lts
+use Rattle.form_write.proofs.+write_number.Lts-write_number as lts
 
 abbrev μ-write-number : Measures 1 write-number-kinds.ps ℕ
 μ-write-number κs a = a .0
@@ -30,28 +30,48 @@ write-number-below t =
     (falls 1 write-number-kinds.ps _<_ μ-write-number t)
     write-number.Pre
 
+-- what its calls ask and give; and its place P, where the measure is t
+abbrev calls : ℕ → lts.Claims
+calls t = (write-number-below t, write-number.Post)
+
+abbrev At : (lts.Claims → In 1 write-number-kinds.ps → Out 1 write-number-kinds.ps write-number-kinds.r → Type 0) → ℕ → Type 0
+At P t = P (calls t) (write-number-at t) write-number.Post
+
 pub +write-number-spec : {M : Type 1} → statement M
 +write-number-spec = close μ-write-number λ t.
-    write-number-lts.spec (write-number-below t, write-number.Post) (write-number-at t) write-number.Post
+    lts.spec (calls t) (write-number-at t) write-number.Post
     (λ c. omega arith)
     (λ c. omega arith)
     (λ c. omega (arith, numeral-some (c .before .before .args .n), c .before .before .pre .1))
     (λ c. simp length-set)
-    (λ c. wrote-as (wrote-byte (wrote-none (c .before .before .args .out .now)) (48 + c .before .before .args .n) (omega (arith, numeral-some (c .before .before .args .n), c .before .before .pre .1))) (sym (dec-short (c .before .before .args .n) (c .if1 .taken))))
-    (λ c κs. (omega (arith, c .before .before .before .pre .0, c .before .if1 .left), omega (arith, c .before .before .before .pre .1, numeral-long (c .before .before .before .args .n) (c .before .if1 .left))))
+    (λ c.
+    let s = c .before .before in
+    wrote-as (wrote-byte (wrote-none (s .args .out .now)) (48 + s .args .n) (omega (arith, numeral-some (s .args .n), s .pre .1)))
+    (sym (dec-short (s .args .n) (c .if1 .taken))))
+    (λ c κs.
+    let s : At lts.Start t = c .before .before .before in
+    (omega (arith, s .pre .0, c .before .if1 .left), omega (arith, s .pre .1, numeral-long (s .args .n) (c .before .if1 .left))))
     (λ c. omega arith)
     (λ c. omega arith)
     (λ c.
-    let if1 = c .before .before .before .before .if1 in
-    let start = c .before .before .before .before .before .before in
-    omega (arith, c .before .before .write-number .ensures .size, wrote-length (c .before .before .write-number .ensures), start .pre .1, numeral-long (start .args .n) (if1 .left)))
+    let at-else1 : At lts.Else1 t = c .before .before .before .before in
+    let s = at-else1 .before .before in
+    omega (
+      arith,
+      c .before .before .write-number .ensures .size,
+      wrote-length (c .before .before .write-number .ensures),
+      s .pre .1,
+      numeral-long (s .args .n) (at-else1 .if1 .left),
+    ))
     (λ c.
-    let if1 = c .before .before .before .before .if1 in
-    let good = c .before .before .before .before .before .before .good in
-    let start = c .before .before .before .before .before .before in
-    omega (arith, c .before .before .write-number .ensures .size, start .pre .1, numeral-long (start .args .n) (if1 .left), good))
+    let at-else1 : At lts.Else1 t = c .before .before .before .before in
+    let s = at-else1 .before .before in
+    omega (arith, c .before .before .write-number .ensures .size, s .pre .1, numeral-long (s .args .n) (at-else1 .if1 .left), s .good))
     (λ c. simp length-set (wrote-length (c .before .before .write-number .ensures)))
     (λ c.
-    let if1 = c .before .before .before .before .if1 in
-    let start = c .before .before .before .before .before .before in
-    wrote-as (wrote-byte (c .before .before .write-number .ensures) (48 + start .args .n % 10) (omega (arith, c .before .before .write-number .ensures .size, start .pre .1, numeral-long (start .args .n) (if1 .left)))) (sym (dec-long (start .args .n) (if1 .left))))
+    let at-else1 : At lts.Else1 t = c .before .before .before .before in
+    let s = at-else1 .before .before in
+    let if1 = at-else1 .if1 in
+    wrote-as (wrote-byte (c .before .before .write-number .ensures) (48 + s .args .n % 10)
+    (omega (arith, c .before .before .write-number .ensures .size, s .pre .1, numeral-long (s .args .n) (if1 .left))))
+    (sym (dec-long (s .args .n) (if1 .left))))

@@ -24,7 +24,11 @@ add-result : tie.Need-add-result
 add-result c = omega (arith, c .digits-of2 .ensures, numeral-most (2147483647 - c .before .before .args .x) (omega arith))
 
 returns-2 : tie.Need-returns-2
-returns-2 c = omega (arith, c .digits-of2 .ensures, leaf-length-minus (c .before .before .args .x) (c .before .if1 .left) (c .before .before .pre))
+returns-2 c = omega (
+  arith,
+  c .digits-of2 .ensures,
+  leaf-length-minus (c .before .before .args .x) (c .before .if1 .left) (c .before .before .pre),
+)
 
 pub leaf-length-spec : {M : Type 1} → statement M
 leaf-length-spec =

@@ -20,37 +20,34 @@ Inv-loop text out₀ i₀ out i = (i ≤ length text) × Wrote i (take i text) o
 abbrev μ-loop : tie.MeasureT-loop
 μ-loop text out₀ i₀ out i = length text - i
 
--- src/lib.rt:16:5
 loop-holds : tie.Need-loop-holds Inv-loop μ-loop
 loop-holds c = (omega arith, wrote-none (now (c .args .out)))
 
--- src/lib.rt:17:18
 shared-slice-read-out : tie.Need-shared-slice-read-out Inv-loop μ-loop
 shared-slice-read-out c = omega arith
 
--- src/lib.rt:17:9
 slice-write-out : tie.Need-slice-write-out Inv-loop μ-loop
 slice-write-out c = omega (arith, wrote-length (c .before .before .loop .inv .1), c .before .before .before .pre)
 
--- src/lib.rt:18:9
 add-i : tie.Need-add-i Inv-loop μ-loop
 add-i c = omega arith
 
--- src/lib.rt:16:5
 loop-less : tie.Need-loop-less Inv-loop μ-loop
 loop-less c = omega arith
 
--- src/lib.rt:16:5
 loop-again : tie.Need-loop-again Inv-loop μ-loop
-loop-again c = let l = c .before .before .loop in
-    let t = now (c .before .before .before .args .text) in
-    (omega arith, wrote-as (wrote-byte (l .inv .1) (getD t (l .i) 0) (omega (arith, c .before .before .before .pre))) (sym (take-suc t (l .i) 0 (c .before .loop-test .taken)) ∙ ap (λ k. take k t) (sym (add-one (l .i)))))
+loop-again c =
+    let s : tie.Start Inv-loop μ-loop = c .before .before .before in
+    let l = c .before .before .loop in
+    let t = now (s .args .text) in (
+      omega arith,
+      wrote-as (wrote-byte (l .inv .1) (getD t (l .i) 0) (omega (arith, s .pre)))
+          (sym (take-suc t (l .i) 0 (c .before .loop-test .taken)) ∙ ap (λ k. take k t) (sym (add-one (l .i)))),
+    )
 
--- src/lib.rt:11:1
 same-length : tie.Need-same-length Inv-loop μ-loop
 same-length c = wrote-length (c .before .loop .inv .1)
 
--- src/lib.rt:11:1
 returns : tie.Need-returns Inv-loop μ-loop
 returns c = let l = c .before .loop in
     wrote-as (l .inv .1) (take-all (l .i) (now (c .before .before .args .text)) (c .loop-test .left))

@@ -9,6 +9,10 @@ use Rattle.form_write.proofs.Heads.{wrote-five, wrote-head}
 use Rattle.form_write.proofs.write_head.Statement.{statement}
 use Rattle.form_write.proofs.write_head.Tie as tie
 
+-- the places that are looked at, each seen from a later one
+abbrev start : tie.After-write-number → tie.Start
+start c = c .before .before .before
+
 slice-write-out : tie.Need-slice-write-out
 slice-write-out c = omega (arith, c .before .pre, head-length (c .before .args .c) (c .before .args .i))
 
@@ -35,37 +39,49 @@ part-write-number-end c = search needs
 
 write-number-requires : tie.Need-write-number-requires
 write-number-requires c κs =
-    let l = head-length (c .before .before .args .c) (c .before .before .args .i) in
-    omega (arith, c .before .before .pre, l, wrote-room (wrote-five (c .before .before .args .c) (c .before .before .args .out .now) (omega (arith, c .before .before .pre, l))))
+    let s = c .before .before in
+    let l = head-length (s .args .c) (s .args .i) in
+    omega (arith, s .pre, l, wrote-room (wrote-five (s .args .c) (s .args .out .now) (omega (arith, s .pre, l))))
 
 add-e : tie.Need-add-e
 add-e c =
-    let start = c .before .before .before .before .before in
-    let good = c .before .before .before .before .before .good in
-    omega (arith, start .pre, good, head-length (start .args .c) (start .args .i), c .before .before .write-number .ensures .size)
+    let s = start (c .before .before) in
+    omega (arith, s .pre, s .good, head-length (s .args .c) (s .args .i), c .before .before .write-number .ensures .size)
 
 slice-write-out-6 : tie.Need-slice-write-out-6
 slice-write-out-6 c =
-    let start = c .before .before .before .before .before in
-    let l = head-length (start .args .c) (start .args .i) in
-    let f = wrote-five (start .args .c) (start .args .out .now) (omega (arith, start .pre, l)) in
-    omega (arith, start .pre, l, c .before .before .write-number .ensures .size, wrote-length (wrote-on f (c .before .before .write-number .ensures)))
+    let at-write-number = c .before .before in
+    let s = start at-write-number in
+    let l = head-length (s .args .c) (s .args .i) in
+    let f = wrote-five (s .args .c) (s .args .out .now) (omega (arith, s .pre, l)) in
+    omega (
+      arith,
+      s .pre,
+      l,
+      at-write-number .write-number .ensures .size,
+      wrote-length (wrote-on f (at-write-number .write-number .ensures)),
+    )
 
 add-result : tie.Need-add-result
 add-result c =
-    let start = c .before .before .before .before .before in
-    let good = c .before .before .before .before .before .good in
-    omega (arith, start .pre, good, head-length (start .args .c) (start .args .i), c .before .before .write-number .ensures .size)
+    let s = start (c .before .before) in
+    omega (arith, s .pre, s .good, head-length (s .args .c) (s .args .i), c .before .before .write-number .ensures .size)
 
 same-length : tie.Need-same-length
 same-length c =
-    let start = c .before .before .before .before .before in
-    wrote-length (wrote-head (start .args .c) (start .args .i) (start .args .out .now) (c .before .before .write-number .last .1 .0) (omega (arith, start .pre, head-length (start .args .c) (start .args .i), c .before .before .write-number .ensures .size)) (c .before .before .write-number .ensures))
+    let at-write-number = c .before .before in
+    let s = start at-write-number in
+    wrote-length (wrote-head (s .args .c) (s .args .i) (s .args .out .now) (at-write-number .write-number .last .1 .0)
+    (omega (arith, s .pre, head-length (s .args .c) (s .args .i), at-write-number .write-number .ensures .size))
+    (at-write-number .write-number .ensures))
 
 returns : tie.Need-returns
 returns c =
-    let start = c .before .before .before .before .before in
-    wrote-head (start .args .c) (start .args .i) (start .args .out .now) (c .before .before .write-number .last .1 .0) (omega (arith, start .pre, head-length (start .args .c) (start .args .i), c .before .before .write-number .ensures .size)) (c .before .before .write-number .ensures)
+    let at-write-number = c .before .before in
+    let s = start at-write-number in
+    wrote-head (s .args .c) (s .args .i) (s .args .out .now) (at-write-number .write-number .last .1 .0)
+    (omega (arith, s .pre, head-length (s .args .c) (s .args .i), at-write-number .write-number .ensures .size))
+    (at-write-number .write-number .ensures)
 
 pub write-head-spec : {M : Type 1} → statement M
 write-head-spec =

@@ -1,10 +1,12 @@
 -- The coefficients of the polynomial that a normal form stands for: by these, and not by how it is written, document 01 measures it.
+use mathlib.Core.Bool.{Bool, _&&_}
 use mathlib.Core.List.{List, [], _∷_}
-use Prim.Native.Nat.{ℕ, zero, suc}
+use Prim.Native.Nat.{ℕ, zero, suc, _%_}
+use lib.Dec.{eqb}
+use lib.IntN.{ℤ, natAbs}
 use lib.ListN.{getD}
 use Rattle.horner.specs.definitions.Form.{Form, int, pop, pow, lower, zeroForm}
-use Rattle.horner.specs.definitions.Ring.{Ring, power}
-use Rattle.horner.specs.definitions.Value.{tl, hd}
+use Rattle.horner.specs.definitions.Ring.{Ring}
 
 module _ {A : Type 0} (R : Ring A) where
   open Ring R using (nil)
@@ -36,20 +38,8 @@ module _ {A : Type 0} (R : Ring A) where
   coefAt [] x = constant x
   coefAt (k ∷ ks) x = coefAt ks (coefOf k x)
 
--- f added up over 0 .. d, and over all exponents within the bounds ds
-module _ {B : Type 0} (join : B → B → B) where
-  abbrev pub sumTo : ℕ → (ℕ → B) → B
-  sumTo zero f = f 0
-  sumTo (suc d) f = join (f 0) (sumTo d (λ k. f (suc k)))
-
-  abbrev pub sumBox : List ℕ → (List ℕ → B) → B
-  sumBox [] f = f []
-  sumBox (d ∷ ds) f = sumTo d (λ k. sumBox ds (λ ks. f (k ∷ ks)))
-
--- v_0^k_0 v_1^k_1 .. at a point
-module _ {A : Type 0} (R : Ring A) where
-  open Ring R using (mul, unit)
-
-  abbrev pub monomial : List ℕ → List A → A
-  monomial [] N = unit
-  monomial (k ∷ ks) N = mul (power R (hd R N) k) (monomial ks (tl N))
+-- each coefficient of the form is a multiple of m
+abbrev pub multiplesOf : ℕ → Form ℤ → Bool
+multiplesOf m (int z) = eqb (natAbs z % m) 0
+multiplesOf m (pop i p) = multiplesOf m p
+multiplesOf m (pow i p q) = multiplesOf m p && multiplesOf m q

@@ -1,9 +1,9 @@
 -- Sparse Horner forms (Definition 4) and the operations on them (Definitions 7 to 12).
--- Definitions 9 and 11 call themselves on forms that are no parts of their arguments, so `sumF` and `prodF` take a number that falls with each call; `sum`
--- and `prod` start them with the two sizes, which is always enough: laws/Equations has each clause as printed, of `sum` and `prod` themselves.
-use mathlib.Core.Bool.{Bool, false, cond, _&&_}
+-- Definitions 9 and 11 call themselves on forms that are no parts of their arguments, so `sumF` and `prodF` take a number that falls with
+-- each call; `sum` and `prod` start them with the two sizes, which is always enough: Clauses has each clause as printed, of `sum` and
+-- `prod` themselves.
+use mathlib.Core.Bool.{Bool, false, cond}
 use Prim.Native.Nat.{ℕ, zero, suc, _+_}
-use lib.Dec.{eqb}
 use Rattle.horner.specs.definitions.Ring.{Ring}
 
 -- ---- two numbers compared, with their distance
@@ -25,7 +25,8 @@ caseCmp same e m l = e tt
 caseCmp (more d) e m l = m d
 caseCmp (less d) e m l = l d
 
--- Definition 4: "(a) An integer; (b) A list (POP i p), where i is a natural number and p is a SHF; (c) A list (POW i p q), where .. p and q are SHFs."
+-- Definition 4: "(a) An integer; (b) A list (POP i p), where i is a natural number and p is a SHF; (c) A list (POW i p q), where .. p and
+-- q are SHFs."
 pub data Form (A : Type 0) : Type 0 where
   int : A → Form A
   pop : ℕ → Form A → Form A
@@ -51,7 +52,7 @@ module _ {A : Type 0} where
   lower (suc i) p = pop (suc i) p
 
 module _ {A : Type 0} (R : Ring A) where
-  open Ring R using (add, neg, mul, nil, unit, isNil)
+  open Ring R using (_⊞_, neg, _·_, nil, unit, isNil)
 
   abbrev pub isZero : Form A → Bool
   isZero (int c) = isNil c
@@ -69,7 +70,7 @@ module _ {A : Type 0} (R : Ring A) where
 
   -- Definition 9 (1): "(a) y an integer: x + y. (b) y = (POP i p): (POP i x ⊕ p). (c) y = (POW i p q): (POW i p x ⊕ q)."
   abbrev pub addInt : A → Form A → Form A
-  addInt a (int b) = int (add a b)
+  addInt a (int b) = int (a ⊞ b)
   addInt a (pop i p) = pop i (addInt a p)
   addInt a (pow i p q) = pow i p (addInt a q)
 
@@ -106,12 +107,12 @@ module _ {A : Type 0} (R : Ring A) where
 
   -- Definition 11 (1): "(a) y an integer: xy. (b) y = (POP i p): pop(i, x ⊗ p). (c) y = (POW i p q): pow(i, x ⊗ p, x ⊗ q)."
   abbrev pub scale : A → Form A → Form A
-  scale a (int b) = int (mul a b)
+  scale a (int b) = int (a · b)
   scale a (pop i p) = mkpop i (scale a p)
   scale a (pow i p q) = mkpow i (scale a p) (scale a q)
 
-  -- Definition 11, (1) to (6), with document 01's exponent j in the last summand of (6). In (4) the POW is made by mkpow, which keeps the form normal also
-  -- where the ring has divisors of zero; over the integers it is the printed (POW ..): laws/Domain, prod-4-ℤ
+  -- Definition 11, (1) to (6), with document 01's exponent j in the last summand of (6). In (4) the POW is made by mkpow, which keeps the
+  -- form normal also where the ring has divisors of zero; over the integers it is the printed (POW ..): laws/Domain, prod-4-ℤ
   abbrev pub prodF : ℕ → Form A → Form A → Form A
   prodF zero x y = x
   prodF (suc k) (int a) y = scale a y
@@ -142,16 +143,3 @@ module _ {A : Type 0} (R : Ring A) where
   -- Definition 13 (b): "x = v_i: norm(x, V) = pop(i, (POW 1 1 0))"
   abbrev pub letter : ℕ → Form A
   letter i = mkpop i (pow 1 (int unit) zeroForm)
-
--- equality of forms as a test, by one of coefficients (laws/Decide)
-module _ {A : Type 0} (eq : A → A → Bool) where
-  abbrev pub eqForm : Form A → Form A → Bool
-  eqForm (int a) (int b) = eq a b
-  eqForm (int a) (pop j q) = false
-  eqForm (int a) (pow j r s) = false
-  eqForm (pop i p) (int b) = false
-  eqForm (pop i p) (pop j q) = eqb i j && eqForm p q
-  eqForm (pop i p) (pow j r s) = false
-  eqForm (pow i p q) (int b) = false
-  eqForm (pow i p q) (pop j r) = false
-  eqForm (pow i p q) (pow j r s) = eqb i j && (eqForm p r && eqForm q s)

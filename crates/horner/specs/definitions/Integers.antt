@@ -2,7 +2,6 @@
 use mathlib.Core.Bool.{Bool, true, false, true≢false}
 use mathlib.Core.Path.{_≡_, refl, sym}
 use Prim.Native.Nat.{zero, suc}
-use lib.Dec.{eqb}
 use lib.IntN.{ℤ, pos, negsuc, negℤ, _+ℤ_, _*ℤ_, +ℤ-invr, +ℤ-idr, +ℤ-assoc, +ℤ-comm, *ℤ-comm}
 use Rattle.horner.specs.definitions.Ring.{Ring}
 use Rattle.horner.specs.laws.Integers.{*ℤ-+ℤ, *ℤ-assoc, *ℤ-unit}
@@ -12,12 +11,6 @@ isZeroℤ (pos zero) = true
 isZeroℤ (pos (suc n)) = false
 isZeroℤ (negsuc n) = false
 
-abbrev pub eqℤ : ℤ → ℤ → Bool
-eqℤ (pos a) (pos b) = eqb a b
-eqℤ (pos a) (negsuc b) = false
-eqℤ (negsuc a) (pos b) = false
-eqℤ (negsuc a) (negsuc b) = eqb a b
-
 pub isZeroℤ-true : (a : ℤ) → isZeroℤ a ≡ true → a ≡ pos zero
 isZeroℤ-true (pos zero) h = refl
 isZeroℤ-true (pos (suc n)) h = absurd (true≢false (sym h))
@@ -25,9 +18,9 @@ isZeroℤ-true (negsuc n) h = absurd (true≢false (sym h))
 
 abbrev pub ℤ-ring : Ring ℤ
 ℤ-ring = record {
-  add = _+ℤ_;
+  _⊞_ = _+ℤ_;
   neg = negℤ;
-  mul = _*ℤ_;
+  _·_ = _*ℤ_;
   nil = pos zero;
   unit = pos (suc zero);
   isNil = isZeroℤ;

@@ -32,10 +32,6 @@ sums ds (e ∷ es) = (firstOr0 ds + e) ∷ sums (tl ds) es
 abbrev pub multiples : ℕ → List ℕ → List ℕ
 multiples k ds = map (λ d. k * d) ds
 
-abbrev pub total : List ℕ → ℕ
-total [] = 0
-total (d ∷ ds) = d + total ds
-
 -- "the box is the product, over the row, of degree plus 1"
 abbrev pub box : List ℕ → ℕ
 box [] = 1
@@ -125,12 +121,7 @@ module _ {A : Type 0} where
   Bounded [] (pow i p q) = ⊥
   Bounded (d ∷ ds) (pow i p q) = (i ≤ d) × Bounded ((d - i) ∷ ds) p × Bounded ds q
 
-  -- how many POW, and how many parentheses open at once
-  abbrev pub pows : Form A → ℕ
-  pows (int c) = 0
-  pows (pop i p) = pows p
-  pows (pow i p q) = suc (pows p + pows q)
-
+  -- how many parentheses open at once
   abbrev pub nest : Form A → ℕ
   nest (int c) = 0
   nest (pop i p) = suc (nest p)

@@ -10,7 +10,6 @@ use Rattle.horner.specs.definitions.Measures.{maxs, degrees}
 use Rattle.horner.specs.definitions.Residues.{Res, prime, P-ring}
 use Rattle.horner.specs.definitions.Ring.{Ring, power, nat}
 use Rattle.horner.specs.definitions.Term.{Term, normP, evalP}
-use Rattle.horner.specs.definitions.Value.{val, nats}
 
 -- no coordinate above the bounds
 abbrev pub InBox : List ℕ → List ℕ → Type 0
@@ -31,8 +30,6 @@ least zero t a = a
 least (suc f) t a = elim (t a) [ true ↦ least f t (suc a) | false ↦ a ]
 
 module _ {A : Type 0} (R : Ring A) where
-  open Ring R using (nil)
-
   -- the form with a put for its first variable
   abbrev pub atFirst : Form A → A → Form A
   atFirst (int c) a = int c
@@ -46,12 +43,6 @@ module _ {A : Type 0} (R : Ring A) where
   firstPoint (d ∷ ds) x =
       let a = least (suc d) (λ b. isZero R (atFirst x (nat R b))) 0 in
       a ∷ firstPoint ds (atFirst x (nat R a))
-
-  -- N is the first point at which x is not 0, and lies within ds
-  pub record IsFirst (ds : List ℕ) (x : Form A) (N : List ℕ) : Type 0 where
-    pub inside : InBox ds N
-    pub counts : val R x (nats R N) ≡ nil → ⊥
-    pub earlier : (M : List ℕ) → Before M N → length M ≡ length ds → val R x (nats R M) ≡ nil
 
 -- ---- of two terms
 -- their difference over the remainders by P, and in each variable the "highest power in the two forms"

@@ -1,15 +1,15 @@
 -- The remainders by m, for any m > 0, and P = 2,147,483,647.
-use mathlib.Core.Bool.{Bool, cond}
+use mathlib.Core.Bool.{cond}
 use mathlib.Core.HLevel.{Σ-prop-path}
 use mathlib.Core.Path.{_≡_, sym, _∙_, ap, subst}
-use Prim.Native.Nat.{ℕ, zero, suc, _+_, _-_, _<_, _*_, _%_, _/_}
-use native.Mathlib.Nat as NatL
-use native.Mathlib.Omega.{arith}
+use Prim.Native.Nat.{ℕ, zero, suc, _+_, _-_, _<_, _*_, _%_}
+use native.Mathlib.Nat.{mod-lt, zero-mod, add-comm, mul-comm}
 use lib.Dec.{T, ltb, ltb→lt, eqb, eqb→eq, lit<, lt→ltb, T-prop}
 use lib.IntN.{ℤ, pos, negsuc}
 use Rattle.horner.specs.definitions.Ring.{Ring}
+use Rattle.horner.specs.laws.Modulus.{mod-add-assoc, mod-add-nil, mod-add-neg, mod-mul-assoc, mod-mul-unit, mod-mul-add}
 
--- sums, products, negations, differences and powers of remainders, on numbers
+-- sums, products, negations and powers of remainders, on numbers
 abbrev pub addBy : ℕ → ℕ → ℕ → ℕ
 addBy m a b = (a + b) % m
 
@@ -19,9 +19,6 @@ mulBy m a b = (a * b) % m
 abbrev pub negBy : ℕ → ℕ → ℕ
 negBy m a = (m - a) % m
 
-abbrev pub subBy : ℕ → ℕ → ℕ → ℕ
-subBy m a b = addBy m a (negBy m b)
-
 abbrev pub powBy : ℕ → ℕ → ℕ → ℕ
 powBy m a zero = 1 % m
 powBy m a (suc n) = mulBy m a (powBy m a n)
@@ -30,13 +27,10 @@ powBy m a (suc n) = mulBy m a (powBy m a n)
 abbrev pub Res : ℕ → Type 0
 Res m = (n : ℕ) × T (ltb n m)
 
-abbrev pub eqRes : (m : ℕ) → Res m → Res m → Bool
-eqRes m a b = eqb (a .0) (b .0)
-
 module _ (m : ℕ) (m-pos : 0 < m) where
   -- "A remainder is from 0 to P - 1, also for negative values."
   abbrev pub red : ℕ → Res m
-  red n = (n % m, lt→ltb (n % m) m (NatL.mod-lt n m-pos))
+  red n = (n % m, lt→ltb (n % m) m (mod-lt n m-pos))
 
   abbrev pub addᵐ : Res m → Res m → Res m
   addᵐ a b = red (a .0 + b .0)
@@ -62,39 +56,24 @@ module _ (m : ℕ) (m-pos : 0 < m) where
   pub below : (a : Res m) → a .0 < m
   below a = ltb→lt (a .0) m (a .1)
 
-  -- a remainder within a product
-  pub mul-mod-l : (n k : ℕ) → (n % m * k) % m ≡ (n * k) % m
-  mul-mod-l n k = sym (ap (λ z. z % m) parts ∙ NatL.add-mul-mod-self-right (n % m * k) (n / m * k) m)
-    where
-      parts : n * k ≡ n % m * k + n / m * k * m
-      parts =
-          ap (λ z. z * k) (sym (NatL.mod-add-div' n m)) ∙ NatL.add-mul (n % m) (n / m * m) k
-          ∙ ap (λ z. n % m * k + z) (NatL.mul-assoc (n / m) m k ∙ ap (λ z. n / m * z) (NatL.mul-comm m k) ∙ sym (NatL.mul-assoc (n / m) k m))
-
-  pub mul-mod-r : (n k : ℕ) → (n * (k % m)) % m ≡ (n * k) % m
-  mul-mod-r n k = ap (λ z. z % m) (NatL.mul-comm n (k % m)) ∙ mul-mod-l k n ∙ ap (λ z. z % m) (NatL.mul-comm k n)
-
-  pub whole : (a : Res m) → a .0 + (m - a .0) ≡ m
-  whole a = omega (arith, below a)
-
   abbrev pub mod-ring : Ring (Res m)
   mod-ring = record {
-    add = addᵐ;
+    _⊞_ = addᵐ;
     neg = negᵐ;
-    mul = mulᵐ;
+    _·_ = mulᵐ;
     nil = red 0;
     unit = red 1;
     isNil = λ a. eqb (a .0) 0;
-    add-assoc = λ a b c. res-ext _ _ (NatL.mod-add-mod (a .0 + b .0) m (c .0) ∙ ap (λ z. z % m) (NatL.add-assoc (a .0) (b .0) (c .0)) ∙ sym (NatL.add-mod-mod (a .0) (b .0 + c .0) m));
-    add-comm = λ a b. ap red (NatL.add-comm (a .0) (b .0));
-    add-nil = λ a. res-ext _ _ (NatL.add-mod-mod (a .0) 0 m ∙ ap (λ z. z % m) (NatL.add-zero (a .0)) ∙ NatL.mod-eq-of-lt (below a));
-    add-neg = λ a. res-ext _ _ (NatL.add-mod-mod (a .0) (m - a .0) m ∙ ap (λ z. z % m) (whole a) ∙ NatL.mod-self m ∙ sym (NatL.zero-mod m));
-    mul-assoc = λ a b c. res-ext _ _ (mul-mod-l (a .0 * b .0) (c .0) ∙ ap (λ z. z % m) (NatL.mul-assoc (a .0) (b .0) (c .0)) ∙ sym (mul-mod-r (a .0) (b .0 * c .0)));
-    mul-comm = λ a b. ap red (NatL.mul-comm (a .0) (b .0));
-    mul-unit = λ a. res-ext _ _ (mul-mod-r (a .0) 1 ∙ ap (λ z. z % m) (NatL.mul-one (a .0)) ∙ NatL.mod-eq-of-lt (below a));
-    mul-add = λ a b c. res-ext _ _ (mul-mod-r (a .0) (b .0 + c .0) ∙ ap (λ z. z % m) (NatL.mul-add (a .0) (b .0) (c .0)) ∙ NatL.add-mod (a .0 * b .0) (a .0 * c .0) m);
-    isNil-true = λ a e. res-ext _ _ (eqb→eq (a .0) 0 (subst T (sym e) tt) ∙ sym (NatL.zero-mod m));
-    isNil-nil = ap (λ z. eqb z 0) (NatL.zero-mod m);
+    add-assoc = λ a b c. res-ext _ _ (mod-add-assoc m (a .0) (b .0) (c .0));
+    add-comm = λ a b. ap red (add-comm (a .0) (b .0));
+    add-nil = λ a. res-ext _ _ (mod-add-nil m (a .0) (below a));
+    add-neg = λ a. res-ext _ _ (mod-add-neg m (a .0) (below a));
+    mul-assoc = λ a b c. res-ext _ _ (mod-mul-assoc m (a .0) (b .0) (c .0));
+    mul-comm = λ a b. ap red (mul-comm (a .0) (b .0));
+    mul-unit = λ a. res-ext _ _ (mod-mul-unit m (a .0) (below a));
+    mul-add = λ a b c. res-ext _ _ (mod-mul-add m (a .0) (b .0) (c .0));
+    isNil-true = λ a e. res-ext _ _ (eqb→eq (a .0) 0 (subst T (sym e) tt) ∙ sym (zero-mod m));
+    isNil-nil = ap (λ z. eqb z 0) (zero-mod m);
   }
 
 -- "P is 2,147,483,647, a prime."

@@ -1,6 +1,6 @@
 -- Terms, their values and their normal forms: Definitions 1, 2, 3 and 13.
--- A row V = (v_0 .. v_(n-1)) enters by its length alone: the letter v_i is `var i`, and an alist ((v_0 n_0) .. (v_(n-1) n_(n-1))) of Definition 2 is the list
--- of its values (n_0 .. n_(n-1)).
+-- A row V = (v_0 .. v_(n-1)) enters by its length alone: the letter v_i is `var i`, and an alist ((v_0 n_0) .. (v_(n-1) n_(n-1))) of
+-- Definition 2 is the list of its values (n_0 .. n_(n-1)).
 use mathlib.Core.List.{List}
 use Prim.Native.Nat.{ℕ, _<_}
 use lib.IntN.{ℤ}
@@ -32,16 +32,16 @@ Over n (expt s k) = Over n s
 
 -- over a ring, with ι z in it for the integer z
 module _ {A : Type 0} (R : Ring A) (ι : ℤ → A) where
-  open Ring R using (add, neg, mul)
+  open Ring R using (_⊞_, neg, _·_)
 
   -- Definition 3, clause by clause; (b): "If q is a member of V and A associates q with n, then evalp(q, A) = n"
   abbrev pub evalp : Term → List A → A
   evalp (num z) N = ι z
   evalp (var i) N = hd R (after i N)
   evalp (minus s) N = neg (evalp s N)
-  evalp (plus s t) N = add (evalp s N) (evalp t N)
-  evalp (diff s t) N = add (evalp s N) (neg (evalp t N))
-  evalp (times s t) N = mul (evalp s N) (evalp t N)
+  evalp (plus s t) N = evalp s N ⊞ evalp t N
+  evalp (diff s t) N = evalp s N ⊞ neg (evalp t N)
+  evalp (times s t) N = evalp s N · evalp t N
   evalp (expt s k) N = power R (evalp s N) k
 
   -- Definition 13, clause by clause

@@ -16,26 +16,21 @@ module _ {A : Type 0} where
   after (suc i) N = after i (tl N)
 
 module _ {A : Type 0} (R : Ring A) where
-  open Ring R using (add, mul, nil)
+  open Ring R using (_⊞_, _·_, nil)
 
-  -- Definition 5. "(a) If h is an integer, then evalh(h, N) = h. (b) If h = (POP i p), then evalh(h, N) = evalh(p, N^(i)). (c) If h = (POW i p q) and
-  -- head(N) = n, then evalh(h, N) = n^i evalh(p, N) + evalh(q, N^(1)). (d) If h = (POW i p q) and N = (), then evalh(h, N) = 0."
+  -- Definition 5. "(a) If h is an integer, then evalh(h, N) = h. (b) If h = (POP i p), then evalh(h, N) = evalh(p, N^(i)). (c) If h =
+  -- (POW i p q) and head(N) = n, then evalh(h, N) = n^i evalh(p, N) + evalh(q, N^(1)). (d) If h = (POW i p q) and N = (), then evalh(h,
+  -- N) = 0."
   abbrev pub evalh : Form A → List A → A
   evalh (int c) N = c
   evalh (pop i p) N = evalh p (drop i N)
-  evalh (pow i p q) (a ∷ N) = add (mul (power R a i) (evalh p (a ∷ N))) (evalh q N)
+  evalh (pow i p q) (a ∷ N) = power R a i · evalh p (a ∷ N) ⊞ evalh q N
   evalh (pow i p q) [] = nil
 
-  -- The same, with a missing coordinate read as 0. Its laws hold at every point; at a point as long as the row it is `evalh` (laws/Evalh). At a shorter
-  -- one Lemma 3 is false of `evalh`: (POW 1 1 5) has the value 0 at (), and it is the sum of 5 and (POW 1 1 0).
+  -- the first member; 0 where there is none
   abbrev pub hd : List A → A
   hd [] = nil
   hd (a ∷ N) = a
-
-  abbrev pub val : Form A → List A → A
-  val (int c) N = c
-  val (pop i p) N = val p (after i N)
-  val (pow i p q) N = add (mul (power R (hd N) i) (val p N)) (val q (tl N))
 
   -- a point of natural numbers
   abbrev pub nats : List ℕ → List A

@@ -5,7 +5,8 @@ use Prim.Native.Nat.{ℕ, zero, suc, _+_, _-_, _≤_}
 use native.Mathlib.Nat as NatL
 use native.Mathlib.Omega.{arith}
 use lib.ListN.{length}
-use Rattle.horner.specs.definitions.Form.{Form, int, pop, pow, size, mkpop, lower, isZero, zeroForm, mkpow, addInt, sumF, sum, negate, scale, prodF, prod, raise}
+use Rattle.horner.specs.definitions.Form.{Form, int, pop, pow, size, mkpop, lower, isZero, zeroForm, mkpow, addInt, sumF, sum}
+use Rattle.horner.specs.definitions.Form.{negate, scale, prodF, prod, raise}
 use Rattle.horner.specs.definitions.Measures.{firstOr0, sums, multiples, Bounded}
 use Rattle.horner.specs.definitions.Ring.{Ring}
 use Rattle.horner.specs.definitions.Value.{tl, after}
@@ -33,11 +34,14 @@ module _ {A : Type 0} where
 module _ {A : Type 0} (R : Ring A) where
   open Ring R using (isNil)
 
-  pub bounded-mkpow : (d : ℕ) (ds : List ℕ) (i : ℕ) (p q : Form A) → i ≤ d → Bounded ((d - i) ∷ ds) p → Bounded ds q → Bounded (d ∷ ds) (mkpow R i p q)
-  bounded-mkpow d ds i (int c) q hi hp hq = cond-cases (isNil c) (Bounded (d ∷ ds)) _ _ (λ e. bounded-mkpop (d ∷ ds) 1 q hq) (λ e. (hi, tt, hq))
+  pub bounded-mkpow : (d : ℕ) (ds : List ℕ) (i : ℕ) (p q : Form A) → i ≤ d → Bounded ((d - i) ∷ ds) p → Bounded ds q
+      → Bounded (d ∷ ds) (mkpow R i p q)
+  bounded-mkpow d ds i (int c) q hi hp hq =
+      cond-cases (isNil c) (Bounded (d ∷ ds)) _ _ (λ e. bounded-mkpop (d ∷ ds) 1 q hq) (λ e. (hi, tt, hq))
   bounded-mkpow d ds i (pop j p) q hi hp hq = (hi, hp, hq)
   bounded-mkpow d ds i (pow j r s) q hi hp hq =
-      cond-cases (isZero R s) (Bounded (d ∷ ds)) _ _ (λ e. (omega (arith, hp .0), first ds r (omega arith) (hp .1), hq)) (λ e. (hi, hp, hq))
+      cond-cases (isZero R s) (Bounded (d ∷ ds)) _ _ (λ e. (omega (arith, hp .0), first ds r (omega arith) (hp .1), hq))
+      (λ e. (hi, hp, hq))
 
   -- ---- the sum
   pub bounded-addInt : (ds : List ℕ) (a : A) (y : Form A) → Bounded ds y → Bounded ds (addInt R a y)
@@ -52,7 +56,8 @@ module _ {A : Type 0} (R : Ring A) where
   bounded-sumF (suc k) ds (pop i p) (int b) h hx hy = bounded-addInt ds b (pop i p) hx
   bounded-sumF (suc k) ds (pop i p) (pop j q) h hx hy =
       cmp-cases i j (Bounded ds) _ _ _
-      (λ e. bounded-mkpop ds i (sumF R k p q) (bounded-sumF k (after i ds) p q (omega arith) hx (within q (ap (λ z. after z ds) (sym e)) hy)))
+      (λ e. bounded-mkpop ds i (sumF R k p q)
+      (bounded-sumF k (after i ds) p q (omega arith) hx (within q (ap (λ z. after z ds) (sym e)) hy)))
       (λ d e. bounded-mkpop ds j (sumF R k (pop (suc d) p) q)
       (bounded-sumF k (after j ds) (pop (suc d) p) q (omega arith) (within p (ap (λ z. after z ds) e ∙ after-add j (suc d) ds) hx) hy))
       (λ d e. bounded-mkpop ds i (sumF R k (pop (suc d) q) p)
@@ -70,12 +75,15 @@ module _ {A : Type 0} (R : Ring A) where
   bounded-sumF (suc k) (d ∷ ds) (pow i p q) (pow j r s) h hx hy =
       cmp-cases i j (Bounded (d ∷ ds)) _ _ _
       (λ e. bounded-mkpow d ds i (sumF R k p r) (sumF R k q s) (hx .0)
-      (bounded-sumF k ((d - i) ∷ ds) p r (omega arith) (hx .1) (first ds r (omega arith) (hy .1))) (bounded-sumF k ds q s (omega arith) (hx .2) (hy .2)))
+      (bounded-sumF k ((d - i) ∷ ds) p r (omega arith) (hx .1) (first ds r (omega arith) (hy .1)))
+      (bounded-sumF k ds q s (omega arith) (hx .2) (hy .2)))
       (λ m e. bounded-mkpow d ds j (sumF R k (pow (suc m) p (zeroForm R)) r) (sumF R k q s) (hy .0)
-      (bounded-sumF k ((d - j) ∷ ds) (pow (suc m) p (zeroForm R)) r (omega (arith, size-pos q)) (omega (arith, hx .0), first ds p (omega arith) (hx .1), tt) (hy .1))
+      (bounded-sumF k ((d - j) ∷ ds) (pow (suc m) p (zeroForm R)) r (omega (arith, size-pos q))
+      (omega (arith, hx .0), first ds p (omega arith) (hx .1), tt) (hy .1))
       (bounded-sumF k ds q s (omega arith) (hx .2) (hy .2)))
       (λ m e. bounded-mkpow d ds i (sumF R k (pow (suc m) r (zeroForm R)) p) (sumF R k s q) (hx .0)
-      (bounded-sumF k ((d - i) ∷ ds) (pow (suc m) r (zeroForm R)) p (omega (arith, size-pos s)) (omega (arith, hy .0), first ds r (omega arith) (hy .1), tt) (hx .1))
+      (bounded-sumF k ((d - i) ∷ ds) (pow (suc m) r (zeroForm R)) p (omega (arith, size-pos s))
+      (omega (arith, hy .0), first ds r (omega arith) (hy .1), tt) (hx .1))
       (bounded-sumF k ds s q (omega arith) (hy .2) (hx .2)))
 
   pub bounded-sum : (ds : List ℕ) (x y : Form A) → Bounded ds x → Bounded ds y → Bounded ds (sum R x y)
@@ -91,7 +99,8 @@ module _ {A : Type 0} (R : Ring A) where
   bounded-scale ds a (int b) h = tt
   bounded-scale ds a (pop i p) h = bounded-mkpop ds i (scale R a p) (bounded-scale (after i ds) a p h)
   bounded-scale [] a (pow i p q) h = absurd h
-  bounded-scale (d ∷ ds) a (pow i p q) h = bounded-mkpow d ds i (scale R a p) (scale R a q) (h .0) (bounded-scale ((d - i) ∷ ds) a p (h .1)) (bounded-scale ds a q (h .2))
+  bounded-scale (d ∷ ds) a (pow i p q) h =
+      bounded-mkpow d ds i (scale R a p) (scale R a q) (h .0) (bounded-scale ((d - i) ∷ ds) a p (h .1)) (bounded-scale ds a q (h .2))
 
 -- ---- the product: bounds added up, a missing one as 0
 
@@ -127,24 +136,30 @@ sums-right ds (e ∷ es) = (omega arith, sums-right (tl ds) es)
 
 module _ {A : Type 0} (R : Ring A) where
   -- Definition 11 (4)
-  bounded-tail : (ds : List ℕ) (e : ℕ) (es : List ℕ) (j : ℕ) (t u : Form A) → j ≤ e → Bounded (sums ds ((e - j) ∷ es)) t → Bounded (sums (tl ds) es) u
+  bounded-tail : (ds : List ℕ) (e : ℕ) (es : List ℕ) (j : ℕ) (t u : Form A) → j ≤ e → Bounded (sums ds ((e - j) ∷ es)) t
+      → Bounded (sums (tl ds) es) u
       → Bounded (sums ds (e ∷ es)) (mkpow R j t u)
-  bounded-tail ds e es j t u h ht hu = bounded-mkpow R (firstOr0 ds + e) (sums (tl ds) es) j t u (omega arith) (first (sums (tl ds) es) t (omega arith) ht) hu
+  bounded-tail ds e es j t u h ht hu =
+      bounded-mkpow R (firstOr0 ds + e) (sums (tl ds) es) j t u (omega arith) (first (sums (tl ds) es) t (omega arith) ht) hu
 
-  pub bounded-prodF : (k : ℕ) (ds es : List ℕ) (x y : Form A) → size x + size y ≤ k → Bounded ds x → Bounded es y → Bounded (sums ds es) (prodF R k x y)
+  pub bounded-prodF : (k : ℕ) (ds es : List ℕ) (x y : Form A) → size x + size y ≤ k → Bounded ds x → Bounded es y
+      → Bounded (sums ds es) (prodF R k x y)
   bounded-prodF zero ds es x y h hx hy = bounded-mono x ds (sums ds es) (subst (Below ds) (sums-comm es ds) (sums-right es ds)) hx
   bounded-prodF (suc k) ds es (int a) y h hx hy = bounded-mono (scale R a y) es (sums ds es) (sums-right ds es) (bounded-scale R es a y hy)
   bounded-prodF (suc k) ds es (pop i p) (int b) h hx hy =
-      bounded-mono (scale R b (pop i p)) ds (sums ds es) (subst (Below ds) (sums-comm es ds) (sums-right es ds)) (bounded-scale R ds b (pop i p) hx)
+      bounded-mono (scale R b (pop i p)) ds (sums ds es) (subst (Below ds) (sums-comm es ds) (sums-right es ds))
+      (bounded-scale R ds b (pop i p) hx)
   bounded-prodF (suc k) ds es (pop i p) (pop j q) h hx hy =
       cmp-cases i j (Bounded (sums ds es)) _ _ _
       (λ e. bounded-mkpop (sums ds es) i (prodF R k p q) (within (prodF R k p q) (sym (after-sums i ds es))
       (bounded-prodF k (after i ds) (after i es) p q (omega arith) hx (within q (ap (λ z. after z es) (sym e)) hy))))
       (λ d e. bounded-mkpop (sums ds es) j (prodF R k (pop (suc d) p) q) (within (prodF R k (pop (suc d) p) q) (sym (after-sums j ds es))
-      (bounded-prodF k (after j ds) (after j es) (pop (suc d) p) q (omega arith) (within p (ap (λ z. after z ds) e ∙ after-add j (suc d) ds) hx) hy)))
+      (bounded-prodF k (after j ds) (after j es) (pop (suc d) p) q (omega arith)
+      (within p (ap (λ z. after z ds) e ∙ after-add j (suc d) ds) hx) hy)))
       (λ d e. bounded-mkpop (sums ds es) i (prodF R k (pop (suc d) q) p)
       (within (prodF R k (pop (suc d) q) p) (sums-comm (after i es) (after i ds) ∙ sym (after-sums i ds es))
-      (bounded-prodF k (after i es) (after i ds) (pop (suc d) q) p (omega arith) (within q (ap (λ z. after z es) e ∙ after-add i (suc d) es) hy) hx)))
+      (bounded-prodF k (after i es) (after i ds) (pop (suc d) q) p (omega arith)
+      (within q (ap (λ z. after z es) e ∙ after-add i (suc d) es) hy) hx)))
   bounded-prodF (suc k) ds es (pop zero p) (pow j q r) h hx hy = bounded-prodF k ds es p (pow j q r) (omega arith) hx hy
   bounded-prodF (suc k) ds [] (pop (suc i) p) (pow j q r) h hx hy = absurd hy
   bounded-prodF (suc k) ds (e ∷ es) (pop (suc i) p) (pow j q r) h hx hy =
@@ -152,7 +167,8 @@ module _ {A : Type 0} (R : Ring A) where
       (bounded-prodF k ds ((e - j) ∷ es) (pop (suc i) p) q (omega arith) hx (hy .1))
       (bounded-prodF k (tl ds) es (lower i p) r (lower-fits′ R i p r k (omega arith)) (bounded-lower R i p (tl ds) hx) (hy .2))
   bounded-prodF (suc k) ds es (pow j q r) (int b) h hx hy =
-      bounded-mono (scale R b (pow j q r)) ds (sums ds es) (subst (Below ds) (sums-comm es ds) (sums-right es ds)) (bounded-scale R ds b (pow j q r) hx)
+      bounded-mono (scale R b (pow j q r)) ds (sums ds es) (subst (Below ds) (sums-comm es ds) (sums-right es ds))
+      (bounded-scale R ds b (pow j q r) hx)
   bounded-prodF (suc k) ds es (pow j q r) (pop zero p) h hx hy =
       within (prodF R k p (pow j q r)) (sums-comm es ds) (bounded-prodF k es ds p (pow j q r) (omega arith) hy hx)
   bounded-prodF (suc k) [] es (pow j q r) (pop (suc i) p) h hx hy = absurd hx
@@ -170,11 +186,13 @@ module _ {A : Type 0} (R : Ring A) where
       (bounded-prodF k ds es q s (omega arith) (hx .2) (hy .2)))
       (bounded-mkpow R (d + e) (sums ds es) i ps (zeroForm R) (omega (arith, hx .0))
       (bounded-mono ps ((d - i + 0) ∷ sums ds es) ((d + e - i) ∷ sums ds es) (omega (arith, hx .0), below-refl (sums ds es))
-      (bounded-prodF k ((d - i) ∷ ds) (0 ∷ es) p (mkpop 1 s) (omega (arith, size-mkpop R s)) (hx .1) (bounded-mkpop (0 ∷ es) 1 s (hy .2)))) tt))
+      (bounded-prodF k ((d - i) ∷ ds) (0 ∷ es) p (mkpop 1 s) (omega (arith, size-mkpop R s)) (hx .1)
+      (bounded-mkpop (0 ∷ es) 1 s (hy .2)))) tt))
       (bounded-mkpow R (d + e) (sums ds es) j rq (zeroForm R) (omega (arith, hy .0))
       (bounded-mono rq ((e - j + 0) ∷ sums es ds) ((d + e - j) ∷ sums ds es)
       (omega (arith, hy .0), subst (Below (sums es ds)) (sums-comm es ds) (below-refl (sums es ds)))
-      (bounded-prodF k ((e - j) ∷ es) (0 ∷ ds) r (mkpop 1 q) (omega (arith, size-mkpop R q)) (hy .1) (bounded-mkpop (0 ∷ ds) 1 q (hx .2)))) tt)
+      (bounded-prodF k ((e - j) ∷ es) (0 ∷ ds) r (mkpop 1 q) (omega (arith, size-mkpop R q)) (hy .1)
+      (bounded-mkpop (0 ∷ ds) 1 q (hx .2)))) tt)
     where
       pr : Form A
       pr = prodF R k p r
@@ -205,4 +223,6 @@ module _ {A : Type 0} (R : Ring A) where
 
   pub bounded-raise : (ds : List ℕ) (x : Form A) → Bounded ds x → (k : ℕ) → Bounded (multiples k ds) (raise R x k)
   bounded-raise ds x h zero = tt
-  bounded-raise ds x h (suc k) = subst (λ z. Bounded z (raise R x (suc k))) (sums-multiples k ds) (bounded-prod ds (multiples k ds) x (raise R x k) h (bounded-raise ds x h k))
+  bounded-raise ds x h (suc k) =
+      subst (λ z. Bounded z (raise R x (suc k))) (sums-multiples k ds)
+      (bounded-prod ds (multiples k ds) x (raise R x k) h (bounded-raise ds x h k))

@@ -1,25 +1,25 @@
--- Theorem C: over the integers two normal forms that have one value at every point of natural numbers are the agree form.
+-- Theorem C: over the integers two normal forms that have one value at every point of natural numbers are one form.
 use mathlib.Core.List.{List, [], _∷_}
-use mathlib.Core.Path.{_≡_, refl, sym, _∙_, ap, ap₂, subst}
-use Prim.Native.Nat.{ℕ, zero, suc, _≤_, _*_}
+use mathlib.Core.Path.{_≡_, refl, sym, _∙_, ap, ap₂, subst, _≡⟨_⟩_, _∎}
+use Prim.Native.Nat.{ℕ, zero, suc, _+_, _≤_, _*_}
 use native.Mathlib.Nat as NatL
 use native.Mathlib.Omega.{arith}
 use lib.IntN.{ℤ, pos, negsuc, negℤ, _+ℤ_, _*ℤ_, natAbs}
 use lib.ListN.{length}
 use Rattle.horner.specs.definitions.Form.{Form, sum, negate}
 use Rattle.horner.specs.definitions.Integers.{ℤ-ring}
-use Rattle.horner.specs.definitions.Measures.{total, AllLe, degrees, Bounded}
-use Rattle.horner.specs.definitions.Normal.{Zero, Normal}
+use Rattle.horner.specs.definitions.Measures.{AllLe, degrees, Bounded}
+use Rattle.horner.specs.definitions.Normal.{Normal}
 use Rattle.horner.specs.definitions.Points.{InBox}
 use Rattle.horner.specs.definitions.Ring.{Ring, nat}
-use Rattle.horner.specs.definitions.Value.{val, nats}
+use Rattle.horner.specs.definitions.Value.{nats}
 use Rattle.horner.specs.laws.Bounds.{bounded-sum, bounded-negate}
 use Rattle.horner.specs.laws.Cancel.{difference}
-use Rattle.horner.specs.laws.Degree.{length-degrees, bounded-degrees, all-le-total}
+use Rattle.horner.specs.laws.Degree.{length-degrees, bounded-degrees, all-le-total, total}
 use Rattle.horner.specs.laws.Grid.{Vanishes, grid}
 use Rattle.horner.specs.laws.Normal.{normal-sum, normal-negate}
 use Rattle.horner.specs.laws.Roots.{Regular}
-use Rattle.horner.specs.laws.Value.{val-sum, val-negate}
+use Rattle.horner.specs.laws.Value.{val-sum, val-negate, Zero, val}
 
 -- a point of a box has as many coordinates
 pub length-box : (ds N : List ℕ) → InBox ds N → length N ≡ length ds
@@ -28,46 +28,59 @@ length-box [] (a ∷ N) h = absurd h
 length-box (d ∷ ds) [] h = absurd h
 length-box (d ∷ ds) (a ∷ N) h = ap suc (length-box ds N (h .1))
 
--- two normal forms within bounds, over a ring in which the numbers up to the bounds divide no zero
-module _ {A : Type 0} (R : Ring A) (K : ℕ) (regular : Regular R K) where
-  open Ring R using (add, neg, add-neg)
+module _ {A : Type 0} (R : Ring A) where
+  open Ring R using (_⊞_, neg, nil, add-neg)
 
-  pub canon-box : (ds : List ℕ) → AllLe K ds → (x y : Form A) → Normal R (length ds) x → Normal R (length ds) y → Bounded ds x → Bounded ds y
-      → ((N : List ℕ) → InBox ds N → val R x (nats R N) ≡ val R y (nats R N)) → x ≡ y
-  canon-box ds le x y hx hy bx by agree =
-      difference R (length ds) x y hx (normal-negate R (length ds) y hy)
-      (grid R K regular ds le (sum R x (negate R y)) (normal-sum R (length ds) x (negate R y) hx (normal-negate R (length ds) y hy))
-      (bounded-sum R ds x (negate R y) bx (bounded-negate R ds y by))
-      (λ N m. val-sum R x (negate R y) (nats R N) ∙ ap₂ add (agree N m) (val-negate R y (nats R N)) ∙ add-neg (val R y (nats R N))))
+  -- at a point at which two forms have one value, their difference is 0
+  pub val-difference : (x y : Form A) (N : List A) → val R x N ≡ val R y N → val R (sum R x (negate R y)) N ≡ nil
+  val-difference x y N e =
+      let X = val R x N in
+      let Y = val R y N in
+      val R (sum R x (negate R y)) N ≡⟨ val-sum R x (negate R y) N ⟩
+      X ⊞ val R (negate R y) N ≡⟨ ap₂ _⊞_ e (val-negate R y N) ⟩
+      Y ⊞ neg Y ≡⟨ add-neg Y ⟩
+      nil ∎
+
+  normal-difference : (n : ℕ) (x y : Form A) → Normal R n x → Normal R n y → Normal R n (sum R x (negate R y))
+  normal-difference n x y hx hy = normal-sum R n x (negate R y) hx (normal-negate R n y hy)
+
+  -- normal forms within bounds that have one value at each point of the box are one form, where the numbers up to the bounds divide no
+  -- zero
+  pub canon-box : (K : ℕ) → Regular R K → (ds : List ℕ) → AllLe K ds → (x y : Form A) → Normal R (length ds) x → Normal R (length ds) y
+      → Bounded ds x → Bounded ds y → ((N : List ℕ) → InBox ds N → val R x (nats R N) ≡ val R y (nats R N)) → x ≡ y
+  canon-box K regular ds le x y hx hy bx by agree =
+      let n = length ds in
+      let bounded : Bounded ds (sum R x (negate R y)) = bounded-sum R ds x (negate R y) bx (bounded-negate R ds y by) in
+      let zero : Zero R (sum R x (negate R y)) =
+      grid R K regular ds le (sum R x (negate R y)) (normal-difference n x y hx hy) bounded
+      (λ N m. val-difference x y (nats R N) (agree N m)) in
+      difference R n x y hx (normal-negate R n y hy) zero
 
 -- over any ring in which no number divides zero
 module _ {A : Type 0} (R : Ring A) (regular : (K : ℕ) → Regular R K) where
-  open Ring R using (add, neg, nil, add-neg)
-
   -- a normal form that is 0 over the box of its degrees is 0
   pub zero-of-box : (n : ℕ) (x : Form A) → Normal R n x → Vanishes R (degrees n x) x → Zero R x
   zero-of-box n x hx v =
-      grid R (total ds) (regular (total ds)) ds (all-le-total ds) x (subst (λ z. Normal R z x) (sym (length-degrees R n x hx)) hx) (bounded-degrees R n x hx) v
-    where
-      ds : List ℕ
-      ds = degrees n x
+      let ds = degrees n x in
+      let normal : Normal R (length ds) x = subst (λ z. Normal R z x) (sym (length-degrees R n x hx)) hx in
+      grid R (total ds) (regular (total ds)) ds (all-le-total ds) x normal (bounded-degrees R n x hx) v
 
   pub canon : (n : ℕ) (x y : Form A) → Normal R n x → Normal R n y
       → ((N : List ℕ) → length N ≡ n → val R x (nats R N) ≡ val R y (nats R N)) → x ≡ y
   canon n x y hx hy agree =
-      difference R n x y hx (normal-negate R n y hy)
-      (zero-of-box n (sum R x (negate R y)) hd
-      (λ N m. val-sum R x (negate R y) (nats R N)
-      ∙ ap₂ add (agree N (length-box (degrees n (sum R x (negate R y))) N m ∙ length-degrees R n (sum R x (negate R y)) hd)) (val-negate R y (nats R N))
-      ∙ add-neg (val R y (nats R N))))
-    where
-      hd : Normal R n (sum R x (negate R y))
-      hd = normal-sum R n x (negate R y) hx (normal-negate R n y hy)
+      let z = sum R x (negate R y) in
+      let hz : Normal R n z = normal-difference R n x y hx hy in
+      let vanishes : Vanishes R (degrees n z) z =
+      λ N m. val-difference R x y (nats R N) (agree N (length-box (degrees n z) N m ∙ length-degrees R n z hz)) in
+      difference R n x y hx (normal-negate R n y hy) (zero-of-box n z hz vanishes)
 
 -- ---- the integers
 nat-pos : (k : ℕ) → nat ℤ-ring k ≡ pos k
 nat-pos zero = refl
-nat-pos (suc k) = ap (λ z. lib.IntN._+ℤ_ (pos 1) z) (nat-pos k) ∙ ap pos (omega arith)
+nat-pos (suc k) =
+    pos 1 +ℤ nat ℤ-ring k ≡⟨ ap (λ z. pos 1 +ℤ z) (nat-pos k) ⟩
+    pos (1 + k) ≡⟨ ap pos (omega arith) ⟩
+    pos (suc k) ∎
 
 mul-nil-ℕ : (k m : ℕ) → 1 ≤ k → k * m ≡ 0 → m ≡ 0
 mul-nil-ℕ k m h e = NatL.eq-of-mul-eq-mul-left k h m 0 (e ∙ sym (NatL.mul-zero k))

@@ -25,7 +25,7 @@ box-after (suc i) [] = box-after i []
 box-after (suc i) (d ∷ ds) = omega (arith, box-after i ds, NatL.suc-mul d (box ds))
 
 module _ {A : Type 0} (R : Ring A) where
-  open Ring R using (add, neg, mul, nil, isNil, add-nil, isNil-true, isNil-nil)
+  open Ring R using (_⊞_, neg, _·_, nil, isNil, add-nil, isNil-true, isNil-nil)
 
   one-if-nil : (c : A) → c ≡ nil → one-if R c ≡ 0
   one-if-nil c e = ap (λ b. cond b 0 1) (ap isNil e ∙ isNil-nil)
@@ -33,21 +33,21 @@ module _ {A : Type 0} (R : Ring A) where
   pub one-if-le : (c : A) → one-if R c ≤ 1
   one-if-le c = cond-cases (isNil c) (λ z. z ≤ 1) 0 1 (λ e. omega arith) (λ e. omega arith)
 
-  one-if-add : (a b : A) → one-if R (add a b) ≤ one-if R a + one-if R b
+  one-if-add : (a b : A) → one-if R (a ⊞ b) ≤ one-if R a + one-if R b
   one-if-add a b =
-      cond-cases (isNil a) (λ z. one-if R (add a b) ≤ z + one-if R b) 0 1
-      (λ e. cond-cases (isNil b) (λ z. one-if R (add a b) ≤ 0 + z) 0 1
-      (λ f. omega (arith, one-if-nil (add a b) (ap₂ add (isNil-true a e) (isNil-true b f) ∙ add-nil nil)))
-      (λ f. omega (arith, one-if-le (add a b))))
-      (λ e. omega (arith, one-if-le (add a b)))
+      cond-cases (isNil a) (λ z. one-if R (a ⊞ b) ≤ z + one-if R b) 0 1
+      (λ e. cond-cases (isNil b) (λ z. one-if R (a ⊞ b) ≤ 0 + z) 0 1
+      (λ f. omega (arith, one-if-nil (a ⊞ b) (ap₂ _⊞_ (isNil-true a e) (isNil-true b f) ∙ add-nil nil)))
+      (λ f. omega (arith, one-if-le (a ⊞ b))))
+      (λ e. omega (arith, one-if-le (a ⊞ b)))
 
-  one-if-mul : (a b : A) → one-if R (mul a b) ≤ one-if R a * one-if R b
+  one-if-mul : (a b : A) → one-if R (a · b) ≤ one-if R a * one-if R b
   one-if-mul a b =
-      cond-cases (isNil a) (λ z. one-if R (mul a b) ≤ z * one-if R b) 0 1
-      (λ e. omega (arith, one-if-nil (mul a b) (ap (λ z. mul z b) (isNil-true a e) ∙ nil-mul R b)))
-      (λ e. cond-cases (isNil b) (λ z. one-if R (mul a b) ≤ 1 * z) 0 1
-      (λ f. omega (arith, one-if-nil (mul a b) (ap (mul a) (isNil-true b f) ∙ mul-nil R a)))
-      (λ f. omega (arith, one-if-le (mul a b))))
+      cond-cases (isNil a) (λ z. one-if R (a · b) ≤ z * one-if R b) 0 1
+      (λ e. omega (arith, one-if-nil (a · b) (ap (λ z. z · b) (isNil-true a e) ∙ nil-mul R b)))
+      (λ e. cond-cases (isNil b) (λ z. one-if R (a · b) ≤ 1 * z) 0 1
+      (λ f. omega (arith, one-if-nil (a · b) (ap (_·_ a) (isNil-true b f) ∙ mul-nil R a)))
+      (λ f. omega (arith, one-if-le (a · b))))
 
   one-if-neg : (a : A) → one-if R (neg a) ≡ one-if R a
   one-if-neg a =

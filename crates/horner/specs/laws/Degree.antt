@@ -5,7 +5,7 @@ use Prim.Native.Nat.{ℕ, zero, suc, _+_, _-_, _≤_}
 use native.Mathlib.Omega.{arith}
 use lib.ListN.{length}
 use Rattle.horner.specs.definitions.Form.{Form, int, pop, pow}
-use Rattle.horner.specs.definitions.Measures.{zeros, firstOr0, maxs, total, AllLe, degrees, Bounded}
+use Rattle.horner.specs.definitions.Measures.{zeros, firstOr0, maxs, AllLe, degrees, Bounded}
 use Rattle.horner.specs.definitions.Normal.{Normal}
 use Rattle.horner.specs.definitions.Ring.{Ring}
 use Rattle.horner.specs.definitions.Value.{tl, after}
@@ -36,8 +36,11 @@ module _ {A : Type 0} where
   bounded-mono (pop i p) ds es h b = bounded-mono p (after i ds) (after i es) (below-after i ds es h) b
   bounded-mono (pow i p q) [] es h b = absurd b
   bounded-mono (pow i p q) (d ∷ ds) [] h b = absurd h
-  bounded-mono (pow i p q) (d ∷ ds) (e ∷ es) h b =
-      (omega (arith, h .0, b .0), bounded-mono p ((d - i) ∷ ds) ((e - i) ∷ es) (omega (arith, h .0), h .1) (b .1), bounded-mono q ds es (h .1) (b .2))
+  bounded-mono (pow i p q) (d ∷ ds) (e ∷ es) h b = (
+    omega (arith, h .0, b .0),
+    bounded-mono p ((d - i) ∷ ds) ((e - i) ∷ es) (omega (arith, h .0), h .1) (b .1),
+    bounded-mono q ds es (h .1) (b .2),
+  )
 
 pub length-zeros : (i : ℕ) (ds : List ℕ) → length (zeros i ds) ≡ i + length ds
 length-zeros zero ds = omega arith
@@ -96,7 +99,8 @@ module _ {A : Type 0} (R : Ring A) where
       subst (λ z. Bounded z p) (sym (from-parts (degrees n p) (omega (arith, h .1)))) (bounded-degrees n p (h .2)) in (
         omega arith,
         bounded-mono p (firstOr0 (degrees n p) ∷ tl (degrees n p)) _ (omega arith, maxs-left (tl (degrees n p)) (degrees (n - 1) q)) bp,
-        bounded-mono q (degrees (n - 1) q) _ (maxs-right (tl (degrees n p)) (degrees (n - 1) q) (lq ∙ sym lt)) (bounded-degrees (n - 1) q (h .4)),
+        bounded-mono q (degrees (n - 1) q) _ (maxs-right (tl (degrees n p)) (degrees (n - 1) q) (lq ∙ sym lt))
+            (bounded-degrees (n - 1) q (h .4)),
       )
 
 -- ---- no bounds are lower
@@ -134,10 +138,16 @@ module _ {A : Type 0} (R : Ring A) where
       (degrees-least (n - i) (after i ds) p (h .2) (length-after i ds ∙ ap (λ m. m - i) l) b)
   degrees-least n [] (pow i p q) h l b = absurd b
   degrees-least n (d ∷ ds) (pow i p q) h l b =
-      let r = below-parts (degrees n p) (d - i) ds (degrees-least n ((d - i) ∷ ds) p (h .2) l (b .1)) in
-      (omega (arith, r .0, b .0), below-maxs (tl (degrees n p)) (degrees (n - 1) q) ds (r .1) (degrees-least (n - 1) ds q (h .4) (omega arith) (b .2)))
+      let r = below-parts (degrees n p) (d - i) ds (degrees-least n ((d - i) ∷ ds) p (h .2) l (b .1)) in (
+        omega (arith, r .0, b .0),
+        below-maxs (tl (degrees n p)) (degrees (n - 1) q) ds (r .1) (degrees-least (n - 1) ds q (h .4) (omega arith) (b .2)),
+      )
 
--- ---- all at most one number
+-- ---- all at most one number: their sum is one
+abbrev pub total : List ℕ → ℕ
+total [] = 0
+total (d ∷ ds) = d + total ds
+
 pub all-le-mono : (K L : ℕ) (ds : List ℕ) → K ≤ L → AllLe K ds → AllLe L ds
 all-le-mono K L [] h a = tt
 all-le-mono K L (d ∷ ds) h a = (omega (arith, a .0), all-le-mono K L ds h (a .1))

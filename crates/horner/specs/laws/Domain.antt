@@ -1,83 +1,106 @@
--- Over a ring with no divisors of zero, such as the integers, a product of forms that are not 0 is not 0; so Definition 11 (4) may make its POW without pow.
+-- Over a ring with no divisors of zero, such as the integers, a product of forms that are not 0 is not 0; so Definition 11 (4) may make
+-- its POW without pow.
 use mathlib.Core.Bool.{Bool, true, false, cond, true≢false}
 use mathlib.Core.List.{List, [], _∷_, map}
 use mathlib.Core.Logic.{_⊎_, inl, inr}
-use mathlib.Core.Path.{_≡_, refl, sym, _∙_, ap, ap₂, subst}
-use Prim.Native.Nat.{ℕ, zero, suc, _+_, _-_, _≤_, _*_}
+use mathlib.Core.Path.{_≡_, refl, sym, _∙_, ap, ap₂, subst, _≡⟨_⟩_, _∎}
+use Prim.Native.Nat.{ℕ, zero, suc, _+_, _-_, _≤_, _<_, _*_}
 use native.Mathlib.Omega.{arith}
 use lib.IntN.{ℤ, pos, negsuc, negℤ, _*ℤ_, natAbs}
 use lib.ListN.{length}
 use Rattle.horner.specs.definitions.Coefficients.{coefs}
 use Rattle.horner.specs.definitions.Form.{Form, int, pop, pow, mkpop, lower, isZero, mkpow, scale, prod}
 use Rattle.horner.specs.definitions.Integers.{isZeroℤ, ℤ-ring}
-use Rattle.horner.specs.definitions.Normal.{IsPow, Zero, Lead, Normal}
+use Rattle.horner.specs.definitions.Normal.{Lead, Normal}
 use Rattle.horner.specs.definitions.Ring.{Ring, nat}
-use Rattle.horner.specs.definitions.Value.{val, nats}
+use Rattle.horner.specs.definitions.Value.{nats}
 use Rattle.horner.specs.laws.Canonical.{pos-mul-nil, ℤ-regular}
 use Rattle.horner.specs.laws.Compare.{cmp-cases}
 use Rattle.horner.specs.laws.Equations.{prod-pop-int, prod-pop-pop, prod-pop-pow}
 use Rattle.horner.specs.laws.Grid.{All, vals, val-coefs, normal-coefs, zero-coefs}
-use Rattle.horner.specs.laws.Normal.{normal-lower, lead-not-zero}
+use Rattle.horner.specs.laws.Normal.{normal-lower, lead-not-zero, lower-not-zero}
 use Rattle.horner.specs.laws.Ring.{nil-add, add-left-comm, mul-left-comm, add-mul, mul-nil, nil-mul}
 use Rattle.horner.specs.laws.Roots.{horner, Regular, roots}
 use Rattle.horner.specs.laws.Tests.{cond-cases}
-use Rattle.horner.specs.laws.Value.{isZero-val, val-prod}
+use Rattle.horner.specs.laws.Product.{val-prod}
+use Rattle.horner.specs.laws.Value.{isZero-val, Zero, val}
 
 module _ {A : Type 0} (R : Ring A) where
-  open Ring R using (add, mul, nil, isNil, add-assoc, add-comm, add-nil, mul-assoc, mul-comm, mul-add, isNil-true, isNil-nil)
+  open Ring R using (_⊞_, _·_, nil, isNil, add-assoc, add-comm, add-nil, mul-assoc, mul-comm, mul-add)
 
   -- ---- products of coefficient lists
   abbrev addL : List A → List A → List A
   addL [] ys = ys
   addL (x ∷ xs) [] = x ∷ xs
-  addL (x ∷ xs) (y ∷ ys) = add x y ∷ addL xs ys
+  addL (x ∷ xs) (y ∷ ys) = (x ⊞ y) ∷ addL xs ys
 
   abbrev mulL : List A → List A → List A
   mulL [] gs = []
-  mulL (f ∷ fs) gs = addL (map (mul f) gs) (nil ∷ mulL fs gs)
+  mulL (f ∷ fs) gs = addL (map (_·_ f) gs) (nil ∷ mulL fs gs)
 
-  sum-step : (x y t a b : A) → add (add x y) (mul t (add a b)) ≡ add (add x (mul t a)) (add y (mul t b))
-  sum-step x y t a b = simp (mul-add, add-assoc, add-comm, add-left-comm R)
+  sum-step : (x y t a b : A) → x ⊞ y ⊞ t · (a ⊞ b) ≡ x ⊞ t · a ⊞ (y ⊞ t · b)
+  sum-step x y t a b = simp (mul-add, add-assoc, add-left-comm R)
 
-  horner-addL : (xs ys : List A) (t : A) → horner R (addL xs ys) t ≡ add (horner R xs t) (horner R ys t)
+  horner-addL : (xs ys : List A) (t : A) → horner R (addL xs ys) t ≡ horner R xs t ⊞ horner R ys t
   horner-addL [] ys t = sym (nil-add R (horner R ys t))
-  horner-addL (x ∷ xs) [] t = sym (add-nil (add x (mul t (horner R xs t))))
-  horner-addL (x ∷ xs) (y ∷ ys) t = ap (λ z. add (add x y) (mul t z)) (horner-addL xs ys t) ∙ sum-step x y t (horner R xs t) (horner R ys t)
+  horner-addL (x ∷ xs) [] t = sym (add-nil (x ⊞ t · horner R xs t))
+  horner-addL (x ∷ xs) (y ∷ ys) t =
+      let X = horner R xs t in
+      let Y = horner R ys t in
+      x ⊞ y ⊞ t · horner R (addL xs ys) t ≡⟨ ap (λ z. x ⊞ y ⊞ t · z) (horner-addL xs ys t) ⟩
+      x ⊞ y ⊞ t · (X ⊞ Y) ≡⟨ sum-step x y t X Y ⟩
+      x ⊞ t · X ⊞ (y ⊞ t · Y) ∎
 
-  horner-scale : (f : A) (gs : List A) (t : A) → horner R (map (mul f) gs) t ≡ mul f (horner R gs t)
+  horner-scale : (f : A) (gs : List A) (t : A) → horner R (map (_·_ f) gs) t ≡ f · horner R gs t
   horner-scale f [] t = sym (mul-nil R f)
   horner-scale f (g ∷ gs) t =
-      ap (λ z. add (mul f g) (mul t z)) (horner-scale f gs t) ∙ ap (add (mul f g)) (mul-left-comm R t f (horner R gs t)) ∙ sym (mul-add f g (mul t (horner R gs t)))
+      let G = horner R gs t in
+      f · g ⊞ t · horner R (map (_·_ f) gs) t ≡⟨ ap (λ z. f · g ⊞ t · z) (horner-scale f gs t) ⟩
+      f · g ⊞ t · (f · G) ≡⟨ ap (_⊞_ (f · g)) (mul-left-comm R t f G) ⟩
+      f · g ⊞ f · (t · G) ≡⟨ sym (mul-add f g (t · G)) ⟩
+      f · (g ⊞ t · G) ∎
 
-  horner-mulL : (fs gs : List A) (t : A) → horner R (mulL fs gs) t ≡ mul (horner R fs t) (horner R gs t)
+  horner-mulL : (fs gs : List A) (t : A) → horner R (mulL fs gs) t ≡ horner R fs t · horner R gs t
   horner-mulL [] gs t = sym (nil-mul R (horner R gs t))
   horner-mulL (f ∷ fs) gs t =
-      horner-addL (map (mul f) gs) (nil ∷ mulL fs gs) t
-      ∙ ap₂ add (horner-scale f gs t) (nil-add R (mul t (horner R (mulL fs gs) t)) ∙ ap (mul t) (horner-mulL fs gs t) ∙ sym (mul-assoc t (horner R fs t) (horner R gs t)))
-      ∙ sym (add-mul R f (mul t (horner R fs t)) (horner R gs t))
+      let F = horner R fs t in
+      let G = horner R gs t in
+      let H = horner R (mulL fs gs) t in
+      horner R (mulL (f ∷ fs) gs) t ≡⟨ horner-addL (map (_·_ f) gs) (nil ∷ mulL fs gs) t ⟩
+      horner R (map (_·_ f) gs) t ⊞ (nil ⊞ t · H) ≡⟨ ap₂ _⊞_ (horner-scale f gs t) (nil-add R (t · H)) ⟩
+      f · G ⊞ t · H ≡⟨ ap (λ z. f · G ⊞ t · z) (horner-mulL fs gs t) ⟩
+      f · G ⊞ t · (F · G) ≡⟨ ap (_⊞_ (f · G)) (sym (mul-assoc t F G)) ⟩
+      f · G ⊞ t · F · G ≡⟨ sym (add-mul R f (t · F) G) ⟩
+      (f ⊞ t · F) · G ∎
 
   -- ---- a product of forms that vanishes everywhere
   -- no divisors of zero, by the zero test
   abbrev pub Domain : Type 0
-  Domain = (a b : A) → mul a b ≡ nil → (isNil a ≡ true) ⊎ (isNil b ≡ true)
+  Domain = (a b : A) → a · b ≡ nil → (isNil a ≡ true) ⊎ (isNil b ≡ true)
 
   abbrev Never : Form A → Form A → Type 0
-  Never x y = (N : List ℕ) → mul (val R x (nats R N)) (val R y (nats R N)) ≡ nil
+  Never x y = (N : List ℕ) → val R x (nats R N) · val R y (nats R N) ≡ nil
 
   -- the same of two lists of coefficients, at the numbers from 1 up for the first variable
   abbrev NeverL : List (Form A) → List (Form A) → Type 0
-  NeverL ps qs = (N : List ℕ) (k : ℕ) → 1 ≤ k → mul (horner R (vals R ps (nats R N)) (nat R k)) (horner R (vals R qs (nats R N)) (nat R k)) ≡ nil
+  NeverL ps qs = (N : List ℕ) (k : ℕ) → 1 ≤ k
+      → horner R (vals R ps (nats R N)) (nat R k) · horner R (vals R qs (nats R N)) (nat R k) ≡ nil
 
   module _ (domain : Domain) (regular : (K : ℕ) → Regular R K) where
     -- a first coefficient 0 goes
     first-out : (p : Form A) (ps qs : List (Form A)) → Zero R p → NeverL (p ∷ ps) qs → NeverL ps qs
     first-out p ps qs z h N k lo =
-        regular k k lo (omega arith) _
-        (sym (mul-assoc (nat R k) (horner R (vals R ps (nats R N)) (nat R k)) (horner R (vals R qs (nats R N)) (nat R k)))
-        ∙ ap (λ w. mul w (horner R (vals R qs (nats R N)) (nat R k)))
-        (sym (ap (λ w. add w (mul (nat R k) (horner R (vals R ps (nats R N)) (nat R k)))) (isZero-val R p z (nats R N))
-        ∙ nil-add R (mul (nat R k) (horner R (vals R ps (nats R N)) (nat R k)))))
-        ∙ h N k lo)
+        let M = nats R N in
+        let a = nat R k in
+        let P = horner R (vals R ps M) a in
+        let Q = horner R (vals R qs M) a in
+        let vanish : a · (P · Q) ≡ nil =
+        a · (P · Q) ≡⟨ sym (mul-assoc a P Q) ⟩
+        a · P · Q ≡⟨ ap (λ w. w · Q) (sym (nil-add R (a · P))) ⟩
+        (nil ⊞ a · P) · Q ≡⟨ ap (λ w. (w ⊞ a · P) · Q) (sym (isZero-val R p z M)) ⟩
+        (val R p M ⊞ a · P) · Q ≡⟨ h N k lo ⟩
+        nil ∎ in
+        regular k k lo (omega arith) (P · Q) vanish
 
     swap : (ps qs : List (Form A)) → NeverL ps qs → NeverL qs ps
     swap ps qs h N k lo = mul-comm _ _ ∙ h N k lo
@@ -85,17 +108,24 @@ module _ {A : Type 0} (R : Ring A) where
     -- the first coefficients' product vanishes everywhere
     heads : (p : Form A) (ps : List (Form A)) (q : Form A) (qs : List (Form A)) → NeverL (p ∷ ps) (q ∷ qs) → Never p q
     heads p ps q qs h N =
-        sym (add-nil (mul (val R p (nats R N)) (val R q (nats R N))))
-        ∙ roots R (length cs) (regular (length cs)) (length cs) cs refl (omega arith) 1
-        (λ k g. horner-mulL (vals R (p ∷ ps) (nats R N)) (vals R (q ∷ qs) (nats R N)) (nat R (1 + k)) ∙ h N (1 + k) (omega arith)) .0
+        val R p M · val R q M ≡⟨ sym (add-nil (val R p M · val R q M)) ⟩
+        val R p M · val R q M ⊞ nil ≡⟨ roots R (length cs) (regular (length cs)) (length cs) cs refl (omega arith) 1 root .0 ⟩
+        nil ∎
       where
+        M : List A
+        M = nats R N
+
         cs : List A
-        cs = mulL (vals R (p ∷ ps) (nats R N)) (vals R (q ∷ qs) (nats R N))
+        cs = mulL (vals R (p ∷ ps) M) (vals R (q ∷ qs) M)
+
+        root : (k : ℕ) → k < length cs → horner R cs (nat R (1 + k)) ≡ nil
+        root k g = horner-mulL (vals R (p ∷ ps) M) (vals R (q ∷ qs) M) (nat R (1 + k)) ∙ h N (1 + k) (omega arith)
 
     abbrev One : ℕ → Type 0
     One n = (p q : Form A) → Normal R n p → Normal R n q → Never p q → Zero R p ⊎ Zero R q
 
-    lists : (n : ℕ) → One n → (ps qs : List (Form A)) → All (Normal R n) ps → All (Normal R n) qs → NeverL ps qs → All (Zero R) ps ⊎ All (Zero R) qs
+    lists : (n : ℕ) → One n → (ps qs : List (Form A)) → All (Normal R n) ps → All (Normal R n) qs → NeverL ps qs
+        → All (Zero R) ps ⊎ All (Zero R) qs
     lists n D [] qs hp hq h = inl tt
     lists n D (p ∷ ps) [] hp hq h = inr tt
     lists n D (p ∷ ps) (q ∷ qs) hp hq h =
@@ -104,7 +134,8 @@ module _ {A : Type 0} (R : Ring A) where
         (λ z. lists n D (p ∷ ps) qs hp (hq .1) (swap qs (p ∷ ps) (first-out q qs (p ∷ ps) z (swap (p ∷ ps) (q ∷ qs) h))))
       where
         at : (a : Bool) → isZero R p ≡ a → (b : Bool) → isZero R q ≡ b
-            → (Zero R p → All (Zero R) ps ⊎ All (Zero R) (q ∷ qs)) → (Zero R q → All (Zero R) (p ∷ ps) ⊎ All (Zero R) qs) → All (Zero R) (p ∷ ps) ⊎ All (Zero R) (q ∷ qs)
+            → (Zero R p → All (Zero R) ps ⊎ All (Zero R) (q ∷ qs)) → (Zero R q → All (Zero R) (p ∷ ps) ⊎ All (Zero R) qs)
+            → All (Zero R) (p ∷ ps) ⊎ All (Zero R) (q ∷ qs)
         at true e b f l r = left (l e)
           where
             left : All (Zero R) ps ⊎ All (Zero R) (q ∷ qs) → All (Zero R) (p ∷ ps) ⊎ All (Zero R) (q ∷ qs)
@@ -136,7 +167,8 @@ module _ {A : Type 0} (R : Ring A) where
     never-zero zero p q hp hq h = numbers p q hp hq h
     never-zero (suc n) p q hp hq h =
         both (lists n (never-zero n) (coefs R p) (coefs R q) (down p hp) (down q hq)
-        (λ N k lo. ap₂ mul (sym (val-coefs R (suc n) p hp (nat R k ∷ nats R N))) (sym (val-coefs R (suc n) q hq (nat R k ∷ nats R N))) ∙ h (k ∷ N)))
+        (λ N k lo. ap₂ _·_ (sym (val-coefs R (suc n) p hp (nat R k ∷ nats R N))) (sym (val-coefs R (suc n) q hq (nat R k ∷ nats R N)))
+        ∙ h (k ∷ N)))
       where
         one-less : suc n - 1 ≡ n
         one-less = omega arith
@@ -152,7 +184,8 @@ module _ {A : Type 0} (R : Ring A) where
     pub prod-zero : (n : ℕ) (x y : Form A) → Normal R n x → Normal R n y → Zero R (prod R x y) → Zero R x ⊎ Zero R y
     prod-zero n x y hx hy z = never-zero n x y hx hy (λ N. sym (val-prod R x y (nats R N)) ∙ isZero-val R (prod R x y) z (nats R N))
 
-    pub prod-not-zero : (n : ℕ) (x y : Form A) → Normal R n x → Normal R n y → isZero R x ≡ false → isZero R y ≡ false → isZero R (prod R x y) ≡ false
+    pub prod-not-zero : (n : ℕ) (x y : Form A) → Normal R n x → Normal R n y → isZero R x ≡ false → isZero R y ≡ false
+        → isZero R (prod R x y) ≡ false
     prod-not-zero n x y hx hy ex ey = at (isZero R (prod R x y)) refl
       where
         clash : Zero R x ⊎ Zero R y → ⊥
@@ -170,11 +203,6 @@ module _ {A : Type 0} (R : Ring A) where
     mkpow-lead i (pop j p) q h = refl
     mkpow-lead i (pow j r s) q h = ap (λ b. cond b (pow (i + j) r q) (pow i (pow j r s) q)) h
 
-    lead-mkpop : (i : ℕ) (p : Form A) → isZero R p ≡ false → Lead R (mkpop (suc i) p)
-    lead-mkpop i (int c) h = h
-    lead-mkpop i (pop j p) h = tt
-    lead-mkpop i (pow j p q) h = tt
-
     lead-mkpow : (i : ℕ) (p q : Form A) → isZero R p ≡ false → isZero R q ≡ false → Lead R (mkpow R i p q)
     lead-mkpow i (int c) q hp hq = cond-cases (isNil c) (Lead R) _ _ (λ e. absurd (true≢false (sym e ∙ hp))) (λ e. hq)
     lead-mkpow i (pop j p) q hp hq = hq
@@ -185,27 +213,23 @@ module _ {A : Type 0} (R : Ring A) where
     lead-of-mkpop i (pop j p) h = tt
     lead-of-mkpop i (pow j p q) h = tt
 
-    lower-not-zero : (i : ℕ) (p : Form A) → IsPow p → isZero R (lower i p) ≡ false
-    lower-not-zero zero (int c) h = absurd h
-    lower-not-zero zero (pop j p) h = absurd h
-    lower-not-zero zero (pow j p q) h = refl
-    lower-not-zero (suc i) p h = refl
-
     lead-prod : (n i : ℕ) (p q : Form A) → Normal R n (pop (suc i) p) → Normal R n q → Lead R q → Lead R (prod R (pop (suc i) p) q)
     lead-prod n i p (int c) hx hq l =
         subst (Lead R) (sym (prod-pop-int R (suc i) p c))
-        (lead-of-mkpop i (scale R c p) (ap (isZero R) (sym (prod-pop-int R (suc i) p c)) ∙ prod-not-zero n (pop (suc i) p) (int c) hx hq refl l))
+        (lead-of-mkpop i (scale R c p)
+        (ap (isZero R) (sym (prod-pop-int R (suc i) p c)) ∙ prod-not-zero n (pop (suc i) p) (int c) hx hq refl l))
     lead-prod n i p (pop zero q) hx hq l = absurd (omega (arith, hq .0))
     lead-prod n i p (pop (suc j) q) hx hq l =
         subst (Lead R) (sym (prod-pop-pop R (suc i) (suc j) p q))
         (cmp-cases (suc i) (suc j) (λ z. isZero R z ≡ false → Lead R z) _ _ _
-        (λ e. lead-of-mkpop i (prod R p q)) (λ d e. lead-of-mkpop j (prod R (pop (suc d) p) q)) (λ d e. lead-of-mkpop i (prod R (pop (suc d) q) p))
+        (λ e. lead-of-mkpop i (prod R p q)) (λ d e. lead-of-mkpop j (prod R (pop (suc d) p) q))
+        (λ d e. lead-of-mkpop i (prod R (pop (suc d) q) p))
         (ap (isZero R) (sym (prod-pop-pop R (suc i) (suc j) p q)) ∙ prod-not-zero n (pop (suc i) p) (pop (suc j) q) hx hq refl refl))
     lead-prod n i p (pow j r s) hx hq l =
         subst (Lead R) (sym (prod-pop-pow R i j p r s))
         (lead-mkpow j (prod R (pop (suc i) p) r) (prod R (lower i p) s)
         (prod-not-zero n (pop (suc i) p) r hx (hq .2) refl (lead-not-zero R r (hq .3)))
-        (prod-not-zero (n - 1) (lower i p) s (normal-lower R n i p (hx .1) (hx .2)) (hq .4) (lower-not-zero i p (hx .1)) l))
+        (prod-not-zero (n - 1) (lower i p) s (normal-lower R n i p (hx .1) (hx .2)) (hq .4) (lower-not-zero R i p (hx .1)) l))
 
     -- (4) as the paper has it: (a) at i = 0 here, `lower 0 p` being p, (b) above
     pub prod-4 : (n i j : ℕ) (p q r : Form A) → Normal R n (pop (suc i) p) → Normal R n (pow j q r)

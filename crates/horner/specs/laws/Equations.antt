@@ -1,11 +1,12 @@
--- The defining equations of the sum and the product, Definitions 9 and 11, of `sum` and `prod` themselves: any fuel that is no less than the two sizes
--- gives the same form.
+-- The defining equations of the sum and the product, Definitions 9 and 11, of `sum` and `prod` themselves: any fuel that is no less than
+-- the two sizes gives the same form.
 use mathlib.Core.Path.{_≡_, refl, sym, _∙_, ap, ap₂}
 use Prim.Native.Nat.{ℕ, zero, suc, _+_, _-_, _≤_, _<_}
 use native.Mathlib.Omega.{arith}
-use Rattle.horner.specs.definitions.Form.{Cmp, same, more, less, cmp, caseCmp, Form, int, pop, pow, size, mkpop, lower, zeroForm, mkpow, addInt, sumF, sum, scale, prodF, prod}
+use Rattle.horner.specs.definitions.Form.{Cmp, same, more, less, cmp, caseCmp, Form, int, pop, pow, size, mkpop, lower, zeroForm}
+use Rattle.horner.specs.definitions.Form.{mkpow, addInt, sumF, sum, scale, prodF, prod}
 use Rattle.horner.specs.definitions.Ring.{Ring}
-use Rattle.horner.specs.laws.Value.{size-pos, lower-fits, lower-fits′, size-mkpop}
+use Rattle.horner.specs.laws.Value.{size-pos, no-fuel, lower-fits, lower-fits′, size-mkpop}
 
 -- ---- what cmp computes
 pub cmp-same : (i : ℕ) → cmp i i ≡ same
@@ -14,19 +15,20 @@ cmp-same (suc i) = cmp-same i
 
 pub cmp-more : (j d : ℕ) → cmp (suc (j + d)) j ≡ more d
 cmp-more zero d = ap more (omega arith)
-cmp-more (suc j) d = ap (λ z. cmp z j) (shift j d) ∙ cmp-more j d
+cmp-more (suc j) d = ap (λ z. cmp z j) (one-up j d) ∙ cmp-more j d
   where
-    shift : (j d : ℕ) → suc j + d ≡ suc (j + d)
-    shift j d = omega arith
+    one-up : (j d : ℕ) → suc j + d ≡ suc (j + d)
+    one-up j d = omega arith
 
 pub cmp-less : (i d : ℕ) → cmp i (suc (i + d)) ≡ less d
 cmp-less zero d = ap less (omega arith)
-cmp-less (suc i) d = ap (λ z. cmp i z) (shift i d) ∙ cmp-less i d
+cmp-less (suc i) d = ap (λ z. cmp i z) (one-up i d) ∙ cmp-less i d
   where
-    shift : (j d : ℕ) → suc j + d ≡ suc (j + d)
-    shift j d = omega arith
+    one-up : (j d : ℕ) → suc j + d ≡ suc (j + d)
+    one-up j d = omega arith
 
-case-cong : {B : Type 0} (c : Cmp) (e e′ : Unit {0} → B) (m m′ l l′ : ℕ → B) → e tt ≡ e′ tt → ((d : ℕ) → m d ≡ m′ d) → ((d : ℕ) → l d ≡ l′ d)
+case-cong : {B : Type 0} (c : Cmp) (e e′ : Unit {0} → B) (m m′ l l′ : ℕ → B) → e tt ≡ e′ tt → ((d : ℕ) → m d ≡ m′ d)
+    → ((d : ℕ) → l d ≡ l′ d)
     → caseCmp c e m l ≡ caseCmp c e′ m′ l′
 case-cong same e e′ m m′ l l′ f g h = f
 case-cong (more d) e e′ m m′ l l′ f g h = g d
@@ -35,8 +37,8 @@ case-cong (less d) e e′ m m′ l l′ f g h = h d
 case-at : {B : Type 0} (c c′ : Cmp) (e : Unit {0} → B) (m l : ℕ → B) → c ≡ c′ → caseCmp c e m l ≡ caseCmp c′ e m l
 case-at c c′ e m l h = ap (λ z. caseCmp z e m l) h
 
-gap : (i j : ℕ) → j < i → suc (i - suc j) ≡ i - j
-gap i j h = omega arith
+distance : (i j : ℕ) → j < i → suc (i - suc j) ≡ i - j
+distance i j h = omega arith
 
 cmp-gt : (i j : ℕ) → j < i → cmp i j ≡ more (i - suc j)
 cmp-gt i j h = ap (λ z. cmp z j) whole ∙ cmp-more j (i - suc j)
@@ -51,7 +53,7 @@ cmp-lt i j h = ap (λ z. cmp i z) whole ∙ cmp-less i (j - suc i)
     whole = omega arith
 
 module _ {A : Type 0} (R : Ring A) where
-  open Ring R using (add, mul)
+  open Ring R using (add-comm, mul-comm)
 
   six-cong : (i j : ℕ) {a a′ b b′ c c′ d d′ : Form A} → a ≡ a′ → b ≡ b′ → c ≡ c′ → d ≡ d′
       → sum R (sum R (mkpow R (i + j) a b) (mkpow R i c (zeroForm R))) (mkpow R j d (zeroForm R))
@@ -59,12 +61,9 @@ module _ {A : Type 0} (R : Ring A) where
   six-cong i j e f g h =
       λ t. sum R (sum R (mkpow R (i + j) (e t) (f t)) (mkpow R i (g t) (zeroForm R))) (mkpow R j (h t) (zeroForm R))
 
-  no-fuel : (x y : Form A) → size x + size y ≤ 0 → ⊥
-  no-fuel x y h = omega (arith, size-pos x)
-
   sumF-fuel : (k l : ℕ) (x y : Form A) → size x + size y ≤ k → size x + size y ≤ l → sumF R k x y ≡ sumF R l x y
-  sumF-fuel zero l x y h g = absurd (no-fuel x y h)
-  sumF-fuel (suc k) zero x y h g = absurd (no-fuel x y g)
+  sumF-fuel zero l x y h g = absurd (no-fuel R x y h)
+  sumF-fuel (suc k) zero x y h g = absurd (no-fuel R x y g)
   sumF-fuel (suc k) (suc l) (int a) y h g = refl
   sumF-fuel (suc k) (suc l) (pop i p) (int b) h g = refl
   sumF-fuel (suc k) (suc l) (pop i p) (pop j q) h g =
@@ -101,6 +100,12 @@ module _ {A : Type 0} (R : Ring A) where
   pub sum-pow-int : (i : ℕ) (p q : Form A) (b : A) → sum R (pow i p q) (int b) ≡ addInt R b (pow i p q)
   sum-pow-int i p q b = sym (sum-is (suc (suc (size p + size q))) (pow i p q) (int b) (omega arith))
 
+  -- (2)
+  pub sum-2 : (x : Form A) (b : A) → sum R x (int b) ≡ sum R (int b) x
+  sum-2 (int a) b = ap int (add-comm a b)
+  sum-2 (pop i p) b = sum-pop-int i p b ∙ sym (sum-int b (pop i p))
+  sum-2 (pow i p q) b = sum-pow-int i p q b ∙ sym (sum-int b (pow i p q))
+
   pub sum-pop-pop : (i j : ℕ) (p q : Form A)
       → sum R (pop i p) (pop j q)
       ≡ caseCmp (cmp i j) (λ u. mkpop i (sum R p q)) (λ d. mkpop j (sum R (pop (suc d) p) q)) (λ d. mkpop i (sum R (pop (suc d) q) p))
@@ -115,7 +120,8 @@ module _ {A : Type 0} (R : Ring A) where
   pub sum-pop-pow : (i j : ℕ) (p q r : Form A) → sum R (pop (suc i) p) (pow j q r) ≡ pow j q (sum R r (lower i p))
   sum-pop-pow i j p q r =
       let k : ℕ = suc (size p + size q + size r) in
-      sym (sum-is (suc k) (pop (suc i) p) (pow j q r) (omega arith)) ∙ ap (pow j q) (sum-is k r (lower i p) (lower-fits R i p r k (omega arith)))
+      sym (sum-is (suc k) (pop (suc i) p) (pow j q r) (omega arith))
+      ∙ ap (pow j q) (sum-is k r (lower i p) (lower-fits R i p r k (omega arith)))
 
   pub sum-pow-pop : (i j : ℕ) (p q r : Form A) → sum R (pow j q r) (pop (suc i) p) ≡ sum R (pop (suc i) p) (pow j q r)
   sum-pow-pop i j p q r =
@@ -141,28 +147,34 @@ module _ {A : Type 0} (R : Ring A) where
   sum-3a i p q = sum-pop-pop i i p q ∙ case-at (cmp i i) same _ _ _ (cmp-same i)
 
   pub sum-3b : (i j : ℕ) (p q : Form A) → j < i → sum R (pop i p) (pop j q) ≡ mkpop j (sum R (pop (i - j) p) q)
-  sum-3b i j p q h = sum-pop-pop i j p q ∙ case-at (cmp i j) (more (i - suc j)) _ _ _ (cmp-gt i j h) ∙ ap (λ z. mkpop j (sum R (pop z p) q)) (gap i j h)
+  sum-3b i j p q h =
+      sum-pop-pop i j p q ∙ case-at (cmp i j) (more (i - suc j)) _ _ _ (cmp-gt i j h)
+      ∙ ap (λ z. mkpop j (sum R (pop z p) q)) (distance i j h)
 
   pub sum-3c : (i j : ℕ) (p q : Form A) → i < j → sum R (pop i p) (pop j q) ≡ mkpop i (sum R (pop (j - i) q) p)
-  sum-3c i j p q h = sum-pop-pop i j p q ∙ case-at (cmp i j) (less (j - suc i)) _ _ _ (cmp-lt i j h) ∙ ap (λ z. mkpop i (sum R (pop z q) p)) (gap j i h)
+  sum-3c i j p q h =
+      sum-pop-pop i j p q ∙ case-at (cmp i j) (less (j - suc i)) _ _ _ (cmp-lt i j h)
+      ∙ ap (λ z. mkpop i (sum R (pop z q) p)) (distance j i h)
 
   pub sum-6a : (i : ℕ) (p q r s : Form A) → sum R (pow i p q) (pow i r s) ≡ mkpow R i (sum R p r) (sum R q s)
   sum-6a i p q r s = sum-pow-pow i i p q r s ∙ case-at (cmp i i) same _ _ _ (cmp-same i)
 
-  pub sum-6b : (i j : ℕ) (p q r s : Form A) → j < i → sum R (pow i p q) (pow j r s) ≡ mkpow R j (sum R (pow (i - j) p (zeroForm R)) r) (sum R q s)
+  pub sum-6b : (i j : ℕ) (p q r s : Form A) → j < i
+      → sum R (pow i p q) (pow j r s) ≡ mkpow R j (sum R (pow (i - j) p (zeroForm R)) r) (sum R q s)
   sum-6b i j p q r s h =
       sum-pow-pow i j p q r s ∙ case-at (cmp i j) (more (i - suc j)) _ _ _ (cmp-gt i j h)
-      ∙ ap (λ z. mkpow R j (sum R (pow z p (zeroForm R)) r) (sum R q s)) (gap i j h)
+      ∙ ap (λ z. mkpow R j (sum R (pow z p (zeroForm R)) r) (sum R q s)) (distance i j h)
 
-  pub sum-6c : (i j : ℕ) (p q r s : Form A) → i < j → sum R (pow i p q) (pow j r s) ≡ mkpow R i (sum R (pow (j - i) r (zeroForm R)) p) (sum R s q)
+  pub sum-6c : (i j : ℕ) (p q r s : Form A) → i < j
+      → sum R (pow i p q) (pow j r s) ≡ mkpow R i (sum R (pow (j - i) r (zeroForm R)) p) (sum R s q)
   sum-6c i j p q r s h =
       sum-pow-pow i j p q r s ∙ case-at (cmp i j) (less (j - suc i)) _ _ _ (cmp-lt i j h)
-      ∙ ap (λ z. mkpow R i (sum R (pow z r (zeroForm R)) p) (sum R s q)) (gap j i h)
+      ∙ ap (λ z. mkpow R i (sum R (pow z r (zeroForm R)) p) (sum R s q)) (distance j i h)
 
   -- ---- the product
   prodF-fuel : (k l : ℕ) (x y : Form A) → size x + size y ≤ k → size x + size y ≤ l → prodF R k x y ≡ prodF R l x y
-  prodF-fuel zero l x y h g = absurd (no-fuel x y h)
-  prodF-fuel (suc k) zero x y h g = absurd (no-fuel x y g)
+  prodF-fuel zero l x y h g = absurd (no-fuel R x y h)
+  prodF-fuel (suc k) zero x y h g = absurd (no-fuel R x y g)
   prodF-fuel (suc k) (suc l) (int a) y h g = refl
   prodF-fuel (suc k) (suc l) (pop i p) (int b) h g = refl
   prodF-fuel (suc k) (suc l) (pop i p) (pop j q) h g =
@@ -197,6 +209,12 @@ module _ {A : Type 0} (R : Ring A) where
   pub prod-pow-int : (i : ℕ) (p q : Form A) (b : A) → prod R (pow i p q) (int b) ≡ scale R b (pow i p q)
   prod-pow-int i p q b = sym (prod-is (suc (suc (size p + size q))) (pow i p q) (int b) (omega arith))
 
+  -- (2)
+  pub prod-2 : (x : Form A) (b : A) → prod R x (int b) ≡ prod R (int b) x
+  prod-2 (int a) b = ap int (mul-comm a b)
+  prod-2 (pop i p) b = prod-pop-int i p b ∙ sym (prod-int b (pop i p))
+  prod-2 (pow i p q) b = prod-pow-int i p q b ∙ sym (prod-int b (pow i p q))
+
   pub prod-pop-pop : (i j : ℕ) (p q : Form A)
       → prod R (pop i p) (pop j q)
       ≡ caseCmp (cmp i j) (λ u. mkpop i (prod R p q)) (λ d. mkpop j (prod R (pop (suc d) p) q)) (λ d. mkpop i (prod R (pop (suc d) q) p))
@@ -208,11 +226,13 @@ module _ {A : Type 0} (R : Ring A) where
       (λ d. ap (mkpop j) (prod-is k (pop (suc d) p) q (omega arith)))
       (λ d. ap (mkpop i) (prod-is k (pop (suc d) q) p (omega arith)))
 
-  pub prod-pop-pow : (i j : ℕ) (p q r : Form A) → prod R (pop (suc i) p) (pow j q r) ≡ mkpow R j (prod R (pop (suc i) p) q) (prod R (lower i p) r)
+  pub prod-pop-pow : (i j : ℕ) (p q r : Form A)
+      → prod R (pop (suc i) p) (pow j q r) ≡ mkpow R j (prod R (pop (suc i) p) q) (prod R (lower i p) r)
   prod-pop-pow i j p q r =
       let k : ℕ = suc (size p + size q + size r) in
       sym (prod-is (suc k) (pop (suc i) p) (pow j q r) (omega arith))
-      ∙ ap₂ (mkpow R j) (prod-is k (pop (suc i) p) q (omega (arith, size-pos r))) (prod-is k (lower i p) r (lower-fits′ R i p r k (omega arith)))
+      ∙ ap₂ (mkpow R j) (prod-is k (pop (suc i) p) q (omega (arith, size-pos r)))
+      (prod-is k (lower i p) r (lower-fits′ R i p r k (omega arith)))
 
   pub prod-pow-pop : (i j : ℕ) (p q r : Form A) → prod R (pow j q r) (pop (suc i) p) ≡ prod R (pop (suc i) p) (pow j q r)
   prod-pow-pop i j p q r =
@@ -233,7 +253,11 @@ module _ {A : Type 0} (R : Ring A) where
   prod-3a i p q = prod-pop-pop i i p q ∙ case-at (cmp i i) same _ _ _ (cmp-same i)
 
   pub prod-3b : (i j : ℕ) (p q : Form A) → j < i → prod R (pop i p) (pop j q) ≡ mkpop j (prod R (pop (i - j) p) q)
-  prod-3b i j p q h = prod-pop-pop i j p q ∙ case-at (cmp i j) (more (i - suc j)) _ _ _ (cmp-gt i j h) ∙ ap (λ z. mkpop j (prod R (pop z p) q)) (gap i j h)
+  prod-3b i j p q h =
+      prod-pop-pop i j p q ∙ case-at (cmp i j) (more (i - suc j)) _ _ _ (cmp-gt i j h)
+      ∙ ap (λ z. mkpop j (prod R (pop z p) q)) (distance i j h)
 
   pub prod-3c : (i j : ℕ) (p q : Form A) → i < j → prod R (pop i p) (pop j q) ≡ mkpop i (prod R (pop (j - i) q) p)
-  prod-3c i j p q h = prod-pop-pop i j p q ∙ case-at (cmp i j) (less (j - suc i)) _ _ _ (cmp-lt i j h) ∙ ap (λ z. mkpop i (prod R (pop z q) p)) (gap j i h)
+  prod-3c i j p q h =
+      prod-pop-pop i j p q ∙ case-at (cmp i j) (less (j - suc i)) _ _ _ (cmp-lt i j h)
+      ∙ ap (λ z. mkpop i (prod R (pop z q) p)) (distance j i h)

@@ -1,24 +1,22 @@
--- Theorem G: a normal form whose value is 0 at every point of a box of natural numbers, each side as long as the degree in that variable, is the form 0;
--- over a ring in which the numbers up to the degrees divide no zero.
-use mathlib.Core.Bool.{true, true≢false}
+-- Theorem G: a normal form whose value is 0 at every point of a box of natural numbers, each side as long as the degree in that variable,
+-- is the form 0; over a ring in which the numbers up to the degrees divide no zero.
+use mathlib.Core.Bool.{true≢false}
 use mathlib.Core.List.{List, [], _∷_, map}
-use mathlib.Core.Path.{_≡_, sym, _∙_, ap, subst}
-use Prim.Native.Nat.{ℕ, zero, suc, _+_, _-_, _≤_}
+use mathlib.Core.Path.{_≡_, sym, _∙_, ap, subst, _≡⟨_⟩_, _∎}
+use Prim.Native.Nat.{ℕ, zero, suc, _+_, _-_, _≤_, _<_}
 use native.Mathlib.Omega.{arith}
 use lib.ListN.{length, length-map}
 use Rattle.horner.specs.definitions.Coefficients.{shift, coefs}
-use Rattle.horner.specs.definitions.Form.{same, Form, int, pop, pow, lower, isZero, zeroForm}
+use Rattle.horner.specs.definitions.Form.{Form, int, pop, pow, lower, zeroForm}
 use Rattle.horner.specs.definitions.Measures.{AllLe, Bounded}
-use Rattle.horner.specs.definitions.Normal.{IsPow, Zero, Normal}
+use Rattle.horner.specs.definitions.Normal.{Normal}
 use Rattle.horner.specs.definitions.Points.{InBox}
-use Rattle.horner.specs.definitions.Ring.{Ring, power}
-use Rattle.horner.specs.definitions.Value.{tl, after, hd, val, nats}
-use Rattle.horner.specs.laws.Normal.{normal-lower, lead-not-zero}
+use Rattle.horner.specs.definitions.Ring.{Ring, power, nat}
+use Rattle.horner.specs.definitions.Value.{tl, after, hd, nats}
+use Rattle.horner.specs.laws.Normal.{normal-lower, lead-not-zero, lower-not-zero}
 use Rattle.horner.specs.laws.Ring.{nil-add, unit-mul, mul-nil}
 use Rattle.horner.specs.laws.Roots.{horner, AllNil, Regular, roots}
-use Rattle.horner.specs.laws.Value.{val-lower}
-
--- ---- boxes
+use Rattle.horner.specs.laws.Value.{val-lower, Zero, val}
 
 module _ {A : Type 0} where
   abbrev pub All : (Form A → Type 0) → List (Form A) → Type 0
@@ -26,31 +24,52 @@ module _ {A : Type 0} where
   All P (p ∷ ps) = P p × All P ps
 
 module _ {A : Type 0} (R : Ring A) where
-  open Ring R using (add, mul, nil, unit, isNil, add-comm, add-nil, mul-assoc, isNil-nil)
+  open Ring R using (_⊞_, _·_, nil, isNil, add-comm, add-nil, mul-assoc, isNil-nil)
 
   -- ---- the coefficients in the first variable, lowest first: forms in the others
 
   abbrev pub vals : List (Form A) → List A → List A
   vals ps N = map (λ p. val R p N) ps
 
-  horner-shift : (i : ℕ) (ps : List (Form A)) (N : List A) (x : A) → horner R (vals (shift R i ps) N) x ≡ mul (power R x i) (horner R (vals ps N) x)
+  horner-shift : (i : ℕ) (ps : List (Form A)) (N : List A) (x : A)
+      → horner R (vals (shift R i ps) N) x ≡ power R x i · horner R (vals ps N) x
   horner-shift zero ps N x = sym (unit-mul R (horner R (vals ps N) x))
   horner-shift (suc i) ps N x =
-      nil-add R (mul x (horner R (vals (shift R i ps) N) x)) ∙ ap (mul x) (horner-shift i ps N x) ∙ sym (mul-assoc x (power R x i) (horner R (vals ps N) x))
+      let u = power R x i in
+      let H = horner R (vals ps N) x in
+      let S = horner R (vals (shift R i ps) N) x in
+      nil ⊞ x · S ≡⟨ nil-add R (x · S) ⟩
+      x · S ≡⟨ ap (_·_ x) (horner-shift i ps N x) ⟩
+      x · (u · H) ≡⟨ sym (mul-assoc x u H) ⟩
+      x · u · H ∎
 
-  constant : (c x : A) → c ≡ add c (mul x nil)
-  constant c x = sym (ap (add c) (mul-nil R x) ∙ add-nil c)
+  -- a single coefficient
+  horner-one : (c x : A) → c ≡ c ⊞ x · nil
+  horner-one c x =
+      c ≡⟨ sym (add-nil c) ⟩
+      c ⊞ nil ≡⟨ ap (_⊞_ c) (sym (mul-nil R x)) ⟩
+      c ⊞ x · nil ∎
 
   pub val-coefs : (n : ℕ) (x : Form A) → Normal R n x → (N : List A) → val R x N ≡ horner R (vals (coefs R x) (tl N)) (hd R N)
-  val-coefs n (int c) h N = constant c (hd R N)
+  val-coefs n (int c) h N = horner-one c (hd R N)
   val-coefs n (pop zero p) h N = absurd (omega (arith, h .0))
-  val-coefs n (pop (suc i) p) h N = sym (val-lower R i p (tl N)) ∙ constant (val R (lower i p) (tl N)) (hd R N)
+  val-coefs n (pop (suc i) p) h N =
+      let P = val R (lower i p) (tl N) in
+      val R (pop (suc i) p) N ≡⟨ sym (val-lower R i p (tl N)) ⟩
+      P ≡⟨ horner-one P (hd R N) ⟩
+      P ⊞ hd R N · nil ∎
   val-coefs n (pow zero p q) h N = absurd (omega (arith, h .0))
   val-coefs n (pow (suc i) p q) h N =
-      add-comm (mul (power R (hd R N) (suc i)) (val R p N)) (val R q (tl N))
-      ∙ ap (add (val R q (tl N)))
-      (mul-assoc (hd R N) (power R (hd R N) i) (val R p N)
-      ∙ ap (mul (hd R N)) (ap (mul (power R (hd R N) i)) (val-coefs n p (h .2) N) ∙ sym (horner-shift i (coefs R p) (tl N) (hd R N))))
+      let a = hd R N in
+      let u = power R a i in
+      let P = val R p N in
+      let Q = val R q (tl N) in
+      let ps = coefs R p in
+      a · u · P ⊞ Q ≡⟨ add-comm (a · u · P) Q ⟩
+      Q ⊞ a · u · P ≡⟨ ap (_⊞_ Q) (mul-assoc a u P) ⟩
+      Q ⊞ a · (u · P) ≡⟨ ap (λ z. Q ⊞ a · (u · z)) (val-coefs n p (h .2) N) ⟩
+      Q ⊞ a · (u · horner R (vals ps (tl N)) a) ≡⟨ ap (λ z. Q ⊞ a · z) (sym (horner-shift i ps (tl N) a)) ⟩
+      Q ⊞ a · horner R (vals (shift R i ps) (tl N)) a ∎
 
   -- ---- what holds of a normal form's coefficients
   All-shift : (P : Form A → Type 0) (i : ℕ) (ps : List (Form A)) → P (zeroForm R) → All P ps → All P (shift R i ps)
@@ -90,20 +109,15 @@ module _ {A : Type 0} (R : Ring A) where
   length-coefs d ds (pow zero p q) h = omega arith
   length-coefs d ds (pow (suc i) p q) h = omega (arith, length-shift i (coefs R p), length-coefs (d - suc i) ds p (h .1), h .0)
 
-  pow-lower : (i : ℕ) (p : Form A) → IsPow p → isZero R (lower i p) ≡ true → ⊥
-  pow-lower zero (int c) h e = h
-  pow-lower zero (pop j p) h e = h
-  pow-lower zero (pow j p q) h e = true≢false (sym e)
-  pow-lower (suc i) p h e = true≢false (sym e)
-
   -- no coefficient but 0: the form is 0
   pub zero-coefs : (n : ℕ) (x : Form A) → Normal R n x → All (Zero R) (coefs R x) → Zero R x
   zero-coefs n (int c) h z = z .0
   zero-coefs n (pop zero p) h z = absurd (omega (arith, h .0))
-  zero-coefs n (pop (suc i) p) h z = absurd (pow-lower i p (h .1) (z .0))
+  zero-coefs n (pop (suc i) p) h z = absurd (true≢false (sym (z .0) ∙ lower-not-zero R i p (h .1)))
   zero-coefs n (pow zero p q) h z = absurd (omega (arith, h .0))
   zero-coefs n (pow (suc i) p q) h z =
-      absurd (true≢false (sym (zero-coefs n p (h .2) (All-unshift (Zero R) i (coefs R p) (z .1))) ∙ lead-not-zero R p (h .3)))
+      let zp : Zero R p = zero-coefs n p (h .2) (All-unshift (Zero R) i (coefs R p) (z .1)) in
+      absurd (true≢false (sym zp ∙ lead-not-zero R p (h .3)))
 
   -- ---- the theorem
   -- with no variable left a normal form is a number
@@ -119,7 +133,8 @@ module _ {A : Type 0} (R : Ring A) where
 
   -- the theorem for one variable less, at each of a list of forms
   each : (n : ℕ) (ds : List ℕ) → ((p : Form A) → Normal R n p → Bounded ds p → Vanishes ds p → Zero R p)
-      → (ps : List (Form A)) → All (Normal R n) ps → All (Bounded ds) ps → ((N : List ℕ) → InBox ds N → AllNil R (vals ps (nats R N))) → All (Zero R) ps
+      → (ps : List (Form A)) → All (Normal R n) ps → All (Bounded ds) ps → ((N : List ℕ) → InBox ds N → AllNil R (vals ps (nats R N)))
+      → All (Zero R) ps
   each n ds G [] hn hb v = tt
   each n ds G (p ∷ ps) hn hb v =
       (G p (hn .0) (hb .0) (λ N m. v N m .0), each n ds G ps (hn .1) (hb .1) (λ N m. v N m .1))
@@ -129,19 +144,29 @@ module _ {A : Type 0} (R : Ring A) where
     coefs-vanish : (d : ℕ) (ds : List ℕ) → d ≤ K → (x : Form A) → Normal R (suc (length ds)) x → Bounded (d ∷ ds) x → Vanishes (d ∷ ds) x
         → (N : List ℕ) → InBox ds N → AllNil R (vals (coefs R x) (nats R N))
     coefs-vanish d ds le x hx bx v N m =
-        let short : length (coefs R x) ≤ suc d = length-coefs d ds x bx in
-        let same : length (vals (coefs R x) (nats R N)) ≡ length (coefs R x) = length-map (coefs R x) (λ p. val R p (nats R N)) in
-        roots R K regular (length (coefs R x)) (vals (coefs R x) (nats R N)) same (omega arith) 0
-        (λ k g. sym (val-coefs (suc (length ds)) x hx (nats R ((0 + k) ∷ N))) ∙ v ((0 + k) ∷ N) (omega arith, m))
+        roots R K regular (length ps) (vals ps M) (length-map ps (λ p. val R p M)) (omega (arith, length-coefs d ds x bx)) 0 root
+      where
+        M : List A
+        M = nats R N
+
+        ps : List (Form A)
+        ps = coefs R x
+
+        root : (k : ℕ) → k < length ps → horner R (vals ps M) (nat R (0 + k)) ≡ nil
+        root k g =
+            horner R (vals ps M) (nat R (0 + k)) ≡⟨ sym (val-coefs (suc (length ds)) x hx (nat R (0 + k) ∷ M)) ⟩
+            val R x (nats R ((0 + k) ∷ N)) ≡⟨ v ((0 + k) ∷ N) (omega (arith, length-coefs d ds x bx), m) ⟩
+            nil ∎
 
     pub grid : (ds : List ℕ) → AllLe K ds → (x : Form A) → Normal R (length ds) x → Bounded ds x → Vanishes ds x → Zero R x
     grid [] le x hx bx v = number-zero x hx (v [] tt)
     grid (d ∷ ds) le x hx bx v =
-        zero-coefs (suc (length ds)) x hx
-        (each (length ds) ds (grid ds (le .1)) (coefs R x)
-        (subst (λ z. All (Normal R z) (coefs R x)) one-less (normal-coefs (suc (length ds)) x hx))
-        (bounded-coefs d ds x bx)
-        (coefs-vanish d ds (le .0) x hx bx v))
+        let n = length ds in
+        let ps = coefs R x in
+        let normal : All (Normal R n) ps = subst (λ z. All (Normal R z) ps) one-less (normal-coefs (suc n) x hx) in
+        let bounded : All (Bounded ds) ps = bounded-coefs d ds x bx in
+        let zeros : All (Zero R) ps = each n ds (grid ds (le .1)) ps normal bounded (coefs-vanish d ds (le .0) x hx bx v) in
+        zero-coefs (suc n) x hx zeros
       where
         one-less : suc (length ds) - 1 ≡ length ds
         one-less = omega arith

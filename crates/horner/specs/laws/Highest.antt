@@ -1,4 +1,5 @@
--- "degree the highest power": each of a form's degrees is the highest power of its variable among the monomials whose coefficient is not 0.
+-- "degree the highest power": each of a form's degrees is the highest power of its variable among the monomials whose coefficient is not
+-- 0.
 use mathlib.Core.Bool.{false, true≢false}
 use mathlib.Core.List.{List, [], _∷_}
 use mathlib.Core.Logic.{_⊎_, inl, inr}
@@ -106,7 +107,8 @@ module _ {A : Type 0} (R : Ring A) where
 
   -- from the p: its power of the first variable, and i more
   in-lead : (n i j : ℕ) (p q : Form A) → 1 ≤ n → (r : Reaches n j p)
-      → ((k : ℕ) (ks : List ℕ) → r .powers ≡ k ∷ ks → getD ((suc i + k) ∷ ks) j 0 ≡ getD (degrees n (pow (suc i) p q)) j 0) → Reaches n j (pow (suc i) p q)
+      → ((k : ℕ) (ks : List ℕ) → r .powers ≡ k ∷ ks → getD ((suc i + k) ∷ ks) j 0 ≡ getD (degrees n (pow (suc i) p q)) j 0)
+      → Reaches n j (pow (suc i) p q)
   in-lead n i j p q l r top = at (r .powers) refl
     where
       at : (ps : List ℕ) → r .powers ≡ ps → Reaches n j (pow (suc i) p q)
@@ -120,7 +122,8 @@ module _ {A : Type 0} (R : Ring A) where
           }
 
   -- from the q: the first variable is not in it
-  in-rest : (n i j : ℕ) (p q : Form A) → 1 ≤ n → Reaches (n - 1) j q → getD (degrees (n - 1) q) j 0 ≡ getD (degrees n (pow (suc i) p q)) (suc j) 0
+  in-rest : (n i j : ℕ) (p q : Form A) → 1 ≤ n → Reaches (n - 1) j q
+      → getD (degrees (n - 1) q) j 0 ≡ getD (degrees n (pow (suc i) p q)) (suc j) 0
       → Reaches n (suc j) (pow (suc i) p q)
   in-rest n i j p q l r top =
       record { powers = 0 ∷ r .powers; long = omega (arith, r .long); highest = r .highest ∙ top; counts = r .counts }
@@ -151,7 +154,12 @@ module _ {A : Type 0} (R : Ring A) where
 
   pub reaches : (n j : ℕ) (x : Form A) → j < n → Normal R n x → isZero R x ≡ false → Reaches n j x
   reaches n j (int c) l h z =
-      record { powers = zeros n []; long = length-zeros n [] ∙ omega arith; highest = refl; counts = λ e. not-nil c z (sym (coefAt-int n c) ∙ e) }
+      record {
+        powers = zeros n [];
+        long = length-zeros n [] ∙ omega arith;
+        highest = refl;
+        counts = λ e. not-nil c z (sym (coefAt-int n c) ∙ e);
+      }
   reaches n j (pop zero p) l h z = absurd (omega (arith, h .0))
   reaches n j (pop (suc i) p) l h z =
       let lev : 1 ≤ n - suc i = pow-level R (n - suc i) p (h .1) (h .2) in

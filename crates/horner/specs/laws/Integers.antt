@@ -1,7 +1,8 @@
 -- The integers of lib.IntN are a ring: what lib.IntN lacks (associativity of the product, distributivity), and the instance.
-use mathlib.Core.Path.{_≡_, sym, _∙_, ap}
+use mathlib.Core.Path.{_≡_, sym, _∙_, ap, _≡⟨_⟩_, _∎}
 use Prim.Native.Nat.{zero, suc}
-use lib.IntN.{ℤ, pos, negsuc, negℤ, _+ℤ_, _*ℤ_, sucℤ, predℤ, +ℤ-idl, +ℤ-invr, sucℤ-+ℤ, predℤ-+ℤ, sucℤ-*ℤ, predℤ-*ℤ, zero-*ℤ, one, +ℤ-idr, +ℤ-assoc, +ℤ-comm, *ℤ-comm, *ℤ-one}
+use lib.IntN.{ℤ, pos, negsuc, negℤ, _+ℤ_, _*ℤ_, sucℤ, predℤ, +ℤ-idl, +ℤ-invr, sucℤ-+ℤ, predℤ-+ℤ, sucℤ-*ℤ, predℤ-*ℤ, zero-*ℤ, one, +ℤ-idr}
+use lib.IntN.{+ℤ-assoc, +ℤ-comm, *ℤ-comm, *ℤ-one}
 
 -- induction by successor and predecessor
 pub ℤ-step : (P : ℤ → Type 0) → P (pos zero) → ((k : ℤ) → P k → P (sucℤ k)) → ((k : ℤ) → P k → P (predℤ k)) → (k : ℤ) → P k
@@ -21,10 +22,22 @@ pub +ℤ-*ℤ : (a b c : ℤ) → (a +ℤ b) *ℤ c ≡ (a *ℤ c) +ℤ (b *ℤ 
     base = ap (λ z. z *ℤ c) (+ℤ-idl b) ∙ sym (+ℤ-idl (b *ℤ c)) ∙ ap (λ z. z +ℤ (b *ℤ c)) (sym (zero-*ℤ c))
 
     up : (k : ℤ) → (k +ℤ b) *ℤ c ≡ (k *ℤ c) +ℤ (b *ℤ c) → (sucℤ k +ℤ b) *ℤ c ≡ (sucℤ k *ℤ c) +ℤ (b *ℤ c)
-    up k h = ap (λ z. z *ℤ c) (sucℤ-+ℤ k b) ∙ sucℤ-*ℤ (k +ℤ b) c ∙ ap (λ z. z +ℤ c) h ∙ +ℤ-right-comm (k *ℤ c) (b *ℤ c) c ∙ ap (λ z. z +ℤ (b *ℤ c)) (sym (sucℤ-*ℤ k c))
+    up k h =
+        (sucℤ k +ℤ b) *ℤ c ≡⟨ ap (λ z. z *ℤ c) (sucℤ-+ℤ k b) ⟩
+        sucℤ (k +ℤ b) *ℤ c ≡⟨ sucℤ-*ℤ (k +ℤ b) c ⟩
+        ((k +ℤ b) *ℤ c) +ℤ c ≡⟨ ap (λ z. z +ℤ c) h ⟩
+        ((k *ℤ c) +ℤ (b *ℤ c)) +ℤ c ≡⟨ +ℤ-right-comm (k *ℤ c) (b *ℤ c) c ⟩
+        ((k *ℤ c) +ℤ c) +ℤ (b *ℤ c) ≡⟨ ap (λ z. z +ℤ (b *ℤ c)) (sym (sucℤ-*ℤ k c)) ⟩
+        (sucℤ k *ℤ c) +ℤ (b *ℤ c) ∎
 
     down : (k : ℤ) → (k +ℤ b) *ℤ c ≡ (k *ℤ c) +ℤ (b *ℤ c) → (predℤ k +ℤ b) *ℤ c ≡ (predℤ k *ℤ c) +ℤ (b *ℤ c)
-    down k h = ap (λ z. z *ℤ c) (predℤ-+ℤ k b) ∙ predℤ-*ℤ (k +ℤ b) c ∙ ap (λ z. z +ℤ negℤ c) h ∙ +ℤ-right-comm (k *ℤ c) (b *ℤ c) (negℤ c) ∙ ap (λ z. z +ℤ (b *ℤ c)) (sym (predℤ-*ℤ k c))
+    down k h =
+        (predℤ k +ℤ b) *ℤ c ≡⟨ ap (λ z. z *ℤ c) (predℤ-+ℤ k b) ⟩
+        predℤ (k +ℤ b) *ℤ c ≡⟨ predℤ-*ℤ (k +ℤ b) c ⟩
+        ((k +ℤ b) *ℤ c) +ℤ negℤ c ≡⟨ ap (λ z. z +ℤ negℤ c) h ⟩
+        ((k *ℤ c) +ℤ (b *ℤ c)) +ℤ negℤ c ≡⟨ +ℤ-right-comm (k *ℤ c) (b *ℤ c) (negℤ c) ⟩
+        ((k *ℤ c) +ℤ negℤ c) +ℤ (b *ℤ c) ≡⟨ ap (λ z. z +ℤ (b *ℤ c)) (sym (predℤ-*ℤ k c)) ⟩
+        (predℤ k *ℤ c) +ℤ (b *ℤ c) ∎
 
 pub *ℤ-+ℤ : (a b c : ℤ) → a *ℤ (b +ℤ c) ≡ (a *ℤ b) +ℤ (a *ℤ c)
 *ℤ-+ℤ a b c = *ℤ-comm a (b +ℤ c) ∙ +ℤ-*ℤ b c a ∙ ap (λ z. z +ℤ (c *ℤ a)) (*ℤ-comm b a) ∙ ap (λ z. (a *ℤ b) +ℤ z) (*ℤ-comm c a)

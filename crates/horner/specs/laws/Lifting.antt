@@ -1,8 +1,8 @@
--- Forms over the remainders by a prime stand for forms over the integers: within the limits, the normal form of a term over the remainders is that over
--- the integers with each coefficient's remainder, and the integers come back from it.
-use mathlib.Core.Bool.{cond, true≢false}
+-- Forms over the remainders by a prime stand for forms over the integers: within the limits, the normal form of a term over the
+-- remainders is that over the integers with each coefficient's remainder, and the integers come back from it.
+use mathlib.Core.Bool.{true, cond, true≢false}
 use mathlib.Core.List.{List, [], _∷_}
-use mathlib.Core.Path.{_≡_, refl, sym, _∙_, ap, ap₂, subst, fun-ext}
+use mathlib.Core.Path.{_≡_, refl, sym, _∙_, ap, ap₂, subst, fun-ext, _≡⟨_⟩_, _∎}
 use Prim.Native.Nat.{ℕ, zero, suc, _-_, _≤_, _<_, _*_, _%_}
 use native.Mathlib.Nat as NatL
 use native.Mathlib.Omega.{arith}
@@ -71,21 +71,28 @@ module _ (m : ℕ) (m-pos : 0 < m) where
   pub normal-red : (n : ℕ) (x : Form ℤ) → weight x < m → Normal ℤ-ring n x → Normal (mod-ring m m-pos) n (mapForm (redℤ m m-pos) x)
   normal-red n (int c) h g = tt
   normal-red n (pop i p) h g = (g .0, pow-map (redℤ m m-pos) p (g .1), normal-red (n - i) p h (g .2))
-  normal-red n (pow i p q) h g = (g .0, g .1, normal-red n p (omega arith) (g .2), red-lead p (omega arith) (g .3), normal-red (n - 1) q (omega arith) (g .4))
+  normal-red n (pow i p q) h g =
+      (g .0, g .1, normal-red n p (omega arith) (g .2), red-lead p (omega arith) (g .3), normal-red (n - 1) q (omega arith) (g .4))
 
   -- ---- back: a number below half of m for itself, any other for what it lacks of m, negative
+  abbrev standing : ℕ → ℤ
+  standing w = cond (ltb (w * 2) m) (pos w) (negsuc (m - suc w))
 
   pub lift-red : (z : ℤ) → natAbs z * 2 < m → lift m m-pos (redℤ m m-pos z) ≡ z
   lift-red (pos n) h =
-      ap (λ w. cond (ltb (w * 2) m) (pos w) (negsuc (m - suc w))) (NatL.mod-eq-of-lt (small n h))
-      ∙ cond-cases (ltb (n * 2) m) (λ w. w ≡ pos n) _ _ (λ e. refl) (λ e. absurd (true≢false (sym (is-true (ltb (n * 2) m) (lt→ltb (n * 2) m h)) ∙ e)))
+      lift m m-pos (redℤ m m-pos (pos n)) ≡⟨ ap standing (NatL.mod-eq-of-lt (small n h)) ⟩
+      standing n ≡⟨ cond-cases (ltb (n * 2) m) (λ w. w ≡ pos n) _ _ (λ e. refl) (λ e. absurd (true≢false (sym below ∙ e))) ⟩
+      pos n ∎
     where
       small : (n : ℕ) → n * 2 < m → n < m
       small n h = omega arith
+
+      below : ltb (n * 2) m ≡ true
+      below = is-true (ltb (n * 2) m) (lt→ltb (n * 2) m h)
   lift-red (negsuc n) h =
-      ap (λ w. cond (ltb (w * 2) m) (pos w) (negsuc (m - suc w))) (neg-small n (small n h))
-      ∙ cond-cases (ltb ((m - suc n) * 2) m) (λ w. w ≡ negsuc n) _ _
-      (λ e. absurd (large n h (ltb→lt ((m - suc n) * 2) m (subst T (sym e) tt)))) (λ e. ap negsuc (back n h))
+      lift m m-pos (redℤ m m-pos (negsuc n)) ≡⟨ ap standing (neg-small n (small n h)) ⟩
+      standing (m - suc n) ≡⟨ cond-cases (ltb ((m - suc n) * 2) m) (λ w. w ≡ negsuc n) _ _ (λ e. absurd (above e)) (λ e. back) ⟩
+      negsuc n ∎
     where
       small : (n : ℕ) → suc n * 2 < m → suc n < m
       small n h = omega arith
@@ -93,8 +100,11 @@ module _ (m : ℕ) (m-pos : 0 < m) where
       large : (n : ℕ) → suc n * 2 < m → (m - suc n) * 2 < m → ⊥
       large n h g = omega arith
 
-      back : (n : ℕ) → suc n * 2 < m → m - suc (m - suc n) ≡ n
-      back n h = omega arith
+      above : ltb ((m - suc n) * 2) m ≡ true → ⊥
+      above e = large n h (ltb→lt ((m - suc n) * 2) m (subst T (sym e) tt))
+
+      back : negsuc (m - suc (m - suc n)) ≡ negsuc n
+      back = ap negsuc (omega (arith, h))
 
   pub lift-form : (x : Form ℤ) → weight x * 2 < m → mapForm (lift m m-pos) (mapForm (redℤ m m-pos) x) ≡ x
   lift-form (int c) h = ap int (lift-red c h)
@@ -102,14 +112,15 @@ module _ (m : ℕ) (m-pos : 0 < m) where
   lift-form (pow i p q) h = ap₂ (pow i) (lift-form p (omega arith)) (lift-form q (omega arith))
 
 -- ---- the prime
-
 module _ (n : ℕ) (t : Term) (over : Over n t) (degrees : AllLe 63 (degreesOf n t)) where
   pub residue : weightOf t < prime → normP t ≡ mapForm (redℤ prime prime-pos) (normℤ t)
   residue w =
-      transfer P-ring (redℤ prime prime-pos) (red-hom prime prime-pos) 63 P-regular refl ds degrees t (subst (λ z. Over z t) (sym len) over)
-      (normal-red prime prime-pos (length ds) (normℤ t) (omega (arith, weight-norm t)) (subst (λ z. Normal ℤ-ring z (normℤ t)) (sym len) (normal-norm ℤ-ring (λ z. z) refl n t over)))
-      (bounded-norm P-ring (redℤ prime prime-pos) n t over)
-      (bounded-map (redℤ prime prime-pos) ds (normℤ t) (bounded-norm ℤ-ring (λ z. z) n t over))
+      let ρ = redℤ prime prime-pos in
+      let over′ : Over (length ds) t = subst (λ z. Over z t) (sym len) over in
+      let normal : Normal ℤ-ring (length ds) (normℤ t) = normal-norm ℤ-ring (λ z. z) refl (length ds) t over′ in
+      transfer P-ring ρ (red-hom prime prime-pos) 63 P-regular refl ds degrees t over′
+      (normal-red prime prime-pos (length ds) (normℤ t) (omega (arith, weight-norm t)) normal)
+      (bounded-norm P-ring ρ n t over) (bounded-map ρ ds (normℤ t) (bounded-norm ℤ-ring (λ z. z) n t over))
     where
       ds : List ℕ
       ds = degreesOf n t
@@ -120,4 +131,7 @@ module _ (n : ℕ) (t : Term) (over : Over n t) (degrees : AllLe 63 (degreesOf n
   -- the weight limit: the integers' form comes back
   pub exact : weightOf t ≤ 1073741823 → mapForm (lift prime prime-pos) (normP t) ≡ normℤ t
   exact w =
-      ap (mapForm (lift prime prime-pos)) (residue (omega arith)) ∙ lift-form prime prime-pos (normℤ t) (omega (arith, weight-norm t))
+      let back = mapForm (lift prime prime-pos) in
+      back (normP t) ≡⟨ ap back (residue (omega arith)) ⟩
+      back (mapForm (redℤ prime prime-pos) (normℤ t)) ≡⟨ lift-form prime prime-pos (normℤ t) (omega (arith, weight-norm t)) ⟩
+      normℤ t ∎

@@ -1,11 +1,13 @@
--- The measures of a form that add up over its coefficients, and what they do under the operations: proved once, for any size of a coefficient that a sum
--- does not pass and a product does not pass. The weight is one (abs), the number of terms another (0 for 0, else 1).
+-- The measures of a form that add up over its coefficients, and what they do under the operations: proved once, for any size of a
+-- coefficient that a sum does not pass and a product does not pass. The weight is one (abs), the number of terms another (0 for 0, else
+-- 1).
 use mathlib.Core.Bool.{Bool, true, true≢false}
 use mathlib.Core.Path.{_≡_, refl, sym, _∙_, ap, ap₂}
 use Prim.Native.Nat.{ℕ, zero, suc, _+_, _≤_, _*_, _^_}
 use native.Mathlib.Nat as NatL
 use native.Mathlib.Omega.{arith}
-use Rattle.horner.specs.definitions.Form.{Form, int, pop, pow, size, mkpop, lower, isZero, zeroForm, mkpow, addInt, sumF, sum, negate, scale, prodF, prod, raise}
+use Rattle.horner.specs.definitions.Form.{Form, int, pop, pow, size, mkpop, lower, isZero, zeroForm, mkpow, addInt, sumF, sum}
+use Rattle.horner.specs.definitions.Form.{negate, scale, prodF, prod, raise}
 use Rattle.horner.specs.definitions.Measures.{meas}
 use Rattle.horner.specs.definitions.Ring.{Ring}
 use Rattle.horner.specs.laws.Compare.{cmp-cases}
@@ -26,12 +28,12 @@ module _ {A : Type 0} (ν : A → ℕ) where
 -- what is asked of the size of a coefficient
 pub record Size {A : Type 0} (R : Ring A) (ν : A → ℕ) : Type 0 where
   pub of-nil : ν (R .nil) ≡ 0
-  pub of-add : (a b : A) → ν (R .add a b) ≤ ν a + ν b
-  pub of-mul : (a b : A) → ν (R .mul a b) ≤ ν a * ν b
+  pub of-add : (a b : A) → ν (R ._⊞_ a b) ≤ ν a + ν b
+  pub of-mul : (a b : A) → ν (R ._·_ a b) ≤ ν a * ν b
   pub of-neg : (a : A) → ν (R .neg a) ≡ ν a
 
 module _ {A : Type 0} (R : Ring A) (ν : A → ℕ) (S : Size R ν) where
-  open Ring R using (add, neg, mul, nil, isNil, isNil-true)
+  open Ring R using (isNil, isNil-true)
   open Size S using (of-nil, of-add, of-mul, of-neg)
 
   zero-meas : (p : Form A) → isZero R p ≡ true → meas ν p ≡ 0
@@ -62,10 +64,12 @@ module _ {A : Type 0} (R : Ring A) (ν : A → ℕ) (S : Size R ν) where
       (λ d e. omega (arith, meas-mkpop ν j (sumF R k (pop (suc d) p) q), meas-sumF k (pop (suc d) p) q (omega arith)))
       (λ d e. omega (arith, meas-mkpop ν i (sumF R k (pop (suc d) q) p), meas-sumF k (pop (suc d) q) p (omega arith)))
   meas-sumF (suc k) (pop zero p) (pow j q r) h = meas-sumF k p (pow j q r) (omega arith)
-  meas-sumF (suc k) (pop (suc i) p) (pow j q r) h = omega (arith, meas-sumF k r (lower i p) (lower-fits R i p r k (omega arith)), meas-lower ν i p)
+  meas-sumF (suc k) (pop (suc i) p) (pow j q r) h =
+      omega (arith, meas-sumF k r (lower i p) (lower-fits R i p r k (omega arith)), meas-lower ν i p)
   meas-sumF (suc k) (pow j q r) (int b) h = omega (arith, meas-addInt b r)
   meas-sumF (suc k) (pow j q r) (pop zero p) h = omega (arith, meas-sumF k p (pow j q r) (omega arith))
-  meas-sumF (suc k) (pow j q r) (pop (suc i) p) h = omega (arith, meas-sumF k r (lower i p) (lower-fits R i p r k (omega arith)), meas-lower ν i p)
+  meas-sumF (suc k) (pow j q r) (pop (suc i) p) h =
+      omega (arith, meas-sumF k r (lower i p) (lower-fits R i p r k (omega arith)), meas-lower ν i p)
   meas-sumF (suc k) (pow i p q) (pow j r s) h =
       cmp-cases i j (λ z. meas ν z ≤ meas ν p + meas ν q + (meas ν r + meas ν s)) _ _ _
       (λ e. omega (arith, meas-mkpow i (sumF R k p r) (sumF R k q s), meas-sumF k p r (omega arith), meas-sumF k q s (omega arith)))
@@ -96,7 +100,8 @@ module _ {A : Type 0} (R : Ring A) (ν : A → ℕ) (S : Size R ν) where
   pub meas-scale : (a : A) (y : Form A) → meas ν (scale R a y) ≤ ν a * meas ν y
   meas-scale a (int b) = of-mul a b
   meas-scale a (pop i p) = omega (arith, meas-mkpop ν i (scale R a p), meas-scale a p)
-  meas-scale a (pow i p q) = omega (arith, meas-mkpow i (scale R a p) (scale R a q), meas-scale a p, meas-scale a q, NatL.mul-add (ν a) (meas ν p) (meas ν q))
+  meas-scale a (pow i p q) =
+      omega (arith, meas-mkpow i (scale R a p) (scale R a q), meas-scale a p, meas-scale a q, NatL.mul-add (ν a) (meas ν p) (meas ν q))
 
   four : (p q r s : ℕ) → (p + q) * (r + s) ≡ p * r + q * s + p * s + r * q
   four p q r s =
@@ -110,7 +115,12 @@ module _ {A : Type 0} (R : Ring A) (ν : A → ℕ) (S : Size R ν) where
       cmp-cases i j (λ z. meas ν z ≤ meas ν p * meas ν q) _ _ _
       (λ e. omega (arith, meas-mkpop ν i (prodF R k p q), meas-prodF k p q (omega arith)))
       (λ d e. omega (arith, meas-mkpop ν j (prodF R k (pop (suc d) p) q), meas-prodF k (pop (suc d) p) q (omega arith)))
-      (λ d e. omega (arith, meas-mkpop ν i (prodF R k (pop (suc d) q) p), meas-prodF k (pop (suc d) q) p (omega arith), NatL.mul-comm (meas ν q) (meas ν p)))
+      (λ d e. omega (
+        arith,
+        meas-mkpop ν i (prodF R k (pop (suc d) q) p),
+        meas-prodF k (pop (suc d) q) p (omega arith),
+        NatL.mul-comm (meas ν q) (meas ν p),
+      ))
   meas-prodF (suc k) (pop zero p) (pow j q r) h = meas-prodF k p (pow j q r) (omega arith)
   meas-prodF (suc k) (pop (suc i) p) (pow j q r) h =
       omega (
@@ -122,7 +132,8 @@ module _ {A : Type 0} (R : Ring A) (ν : A → ℕ) (S : Size R ν) where
         NatL.mul-add (meas ν p) (meas ν q) (meas ν r),
       )
   meas-prodF (suc k) (pow j q r) (int b) h = omega (arith, meas-scale b (pow j q r), NatL.mul-comm (ν b) (meas ν q + meas ν r))
-  meas-prodF (suc k) (pow j q r) (pop zero p) h = omega (arith, meas-prodF k p (pow j q r) (omega arith), NatL.mul-comm (meas ν p) (meas ν q + meas ν r))
+  meas-prodF (suc k) (pow j q r) (pop zero p) h =
+      omega (arith, meas-prodF k p (pow j q r) (omega arith), NatL.mul-comm (meas ν p) (meas ν q + meas ν r))
   meas-prodF (suc k) (pow j q r) (pop (suc i) p) h =
       omega (
         arith,
@@ -136,7 +147,8 @@ module _ {A : Type 0} (R : Ring A) (ν : A → ℕ) (S : Size R ν) where
   meas-prodF (suc k) (pow i p q) (pow j r s) h =
       omega (
         arith,
-        meas-sum (sum R (mkpow R (i + j) (prodF R k p r) (prodF R k q s)) (mkpow R i (prodF R k p (mkpop 1 s)) (zeroForm R))) (mkpow R j (prodF R k r (mkpop 1 q)) (zeroForm R)),
+        meas-sum (sum R (mkpow R (i + j) (prodF R k p r) (prodF R k q s)) (mkpow R i (prodF R k p (mkpop 1 s)) (zeroForm R)))
+            (mkpow R j (prodF R k r (mkpop 1 q)) (zeroForm R)),
         meas-sum (mkpow R (i + j) (prodF R k p r) (prodF R k q s)) (mkpow R i (prodF R k p (mkpop 1 s)) (zeroForm R)),
         meas-mkpow (i + j) (prodF R k p r) (prodF R k q s),
         meas-mkpow i (prodF R k p (mkpop 1 s)) (zeroForm R),

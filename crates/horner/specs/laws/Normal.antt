@@ -1,9 +1,11 @@
--- Normal forms (Definition 6 as corrected: the p of a POW is not 0, and a POW stands below the row's length), and theorem N: the operations keep them.
+-- Normal forms (Definition 6 as corrected: the p of a POW is not 0, and a POW stands below the row's length), and theorem N: the
+-- operations keep them.
 use mathlib.Core.Bool.{Bool, true, false, true≢false}
 use mathlib.Core.Path.{_≡_, refl, sym, _∙_, ap, subst}
 use Prim.Native.Nat.{ℕ, zero, suc, _+_, _-_, _≤_}
 use native.Mathlib.Omega.{arith}
-use Rattle.horner.specs.definitions.Form.{Form, int, pop, pow, size, mkpop, lower, isZero, zeroForm, mkpow, addInt, sumF, sum, negate, scale, prodF, prod, raise}
+use Rattle.horner.specs.definitions.Form.{Form, int, pop, pow, size, mkpop, lower, isZero, zeroForm, mkpow, addInt, sumF, sum}
+use Rattle.horner.specs.definitions.Form.{negate, scale, prodF, prod, raise}
 use Rattle.horner.specs.definitions.Normal.{IsPow, Lead, Normal}
 use Rattle.horner.specs.definitions.Ring.{Ring}
 use Rattle.horner.specs.laws.Compare.{cmp-cases}
@@ -12,7 +14,7 @@ use Rattle.horner.specs.laws.Tests.{cond-cases}
 use Rattle.horner.specs.laws.Value.{size-pos, lower-fits, lower-fits′, size-mkpop}
 
 module _ {A : Type 0} (R : Ring A) where
-  open Ring R using (add, neg, mul, nil, unit, isNil, isNil-true, isNil-nil)
+  open Ring R using (neg, nil, isNil, isNil-true, isNil-nil)
 
   -- the number of variables, written another way
   at : {m n : ℕ} (p : Form A) → m ≡ n → Normal R m p → Normal R n p
@@ -46,6 +48,12 @@ module _ {A : Type 0} (R : Ring A) where
   pow-not-zero (pop i p) h = refl
   pow-not-zero (pow i p q) h = refl
 
+  pub lower-not-zero : (i : ℕ) (p : Form A) → IsPow p → isZero R (lower i p) ≡ false
+  lower-not-zero zero (int c) h = absurd h
+  lower-not-zero zero (pop j p) h = absurd h
+  lower-not-zero zero (pow j p q) h = refl
+  lower-not-zero (suc i) p h = refl
+
   -- a POW stands below the row's length
   pub pow-level : (n : ℕ) (p : Form A) → IsPow p → Normal R n p → 1 ≤ n
   pow-level n (int c) w h = absurd w
@@ -75,12 +83,22 @@ module _ {A : Type 0} (R : Ring A) where
       (λ d e. normal-mkpop n i (sumF R k (pop (suc d) q) p)
       (normal-sumF k (n - i) (pop (suc d) q) p (omega arith) (omega arith, hy .1, at q (omega arith) (hy .2)) (hx .2)))
   normal-sumF (suc k) n (pop zero p) (pow j q r) h hx hy = normal-sumF k n p (pow j q r) (omega arith) (at p (omega arith) (hx .2)) hy
-  normal-sumF (suc k) n (pop (suc i) p) (pow j q r) h hx hy =
-      (hy .0, hy .1, hy .2, hy .3, normal-sumF k (n - 1) r (lower i p) (lower-fits R i p r k (omega arith)) (hy .4) (normal-lower n i p (hx .1) (hx .2)))
+  normal-sumF (suc k) n (pop (suc i) p) (pow j q r) h hx hy = (
+    hy .0,
+    hy .1,
+    hy .2,
+    hy .3,
+    normal-sumF k (n - 1) r (lower i p) (lower-fits R i p r k (omega arith)) (hy .4) (normal-lower n i p (hx .1) (hx .2)),
+  )
   normal-sumF (suc k) n (pow j q r) (int b) h hx hy = normal-addInt n b (pow j q r) hx
   normal-sumF (suc k) n (pow j q r) (pop zero p) h hx hy = normal-sumF k n p (pow j q r) (omega arith) (at p (omega arith) (hy .2)) hx
-  normal-sumF (suc k) n (pow j q r) (pop (suc i) p) h hx hy =
-      (hx .0, hx .1, hx .2, hx .3, normal-sumF k (n - 1) r (lower i p) (lower-fits R i p r k (omega arith)) (hx .4) (normal-lower n i p (hy .1) (hy .2)))
+  normal-sumF (suc k) n (pow j q r) (pop (suc i) p) h hx hy = (
+    hx .0,
+    hx .1,
+    hx .2,
+    hx .3,
+    normal-sumF k (n - 1) r (lower i p) (lower-fits R i p r k (omega arith)) (hx .4) (normal-lower n i p (hy .1) (hy .2)),
+  )
   normal-sumF (suc k) n (pow i p q) (pow j r s) h hx hy =
       cmp-cases i j (Normal R n) _ _ _
       (λ e. normal-mkpow n i (sumF R k p r) (sumF R k q s) (hx .0) (hx .1)
@@ -130,7 +148,8 @@ module _ {A : Type 0} (R : Ring A) where
   pub normal-scale : (n : ℕ) (a : A) (y : Form A) → Normal R n y → Normal R n (scale R a y)
   normal-scale n a (int b) h = tt
   normal-scale n a (pop i p) h = normal-mkpop n i (scale R a p) (normal-scale (n - i) a p (h .2))
-  normal-scale n a (pow i p q) h = normal-mkpow n i (scale R a p) (scale R a q) (h .0) (h .1) (normal-scale n a p (h .2)) (normal-scale (n - 1) a q (h .4))
+  normal-scale n a (pow i p q) h =
+      normal-mkpow n i (scale R a p) (scale R a q) (h .0) (h .1) (normal-scale n a p (h .2)) (normal-scale (n - 1) a q (h .4))
 
   pub normal-prodF : (k n : ℕ) (x y : Form A) → size x + size y ≤ k → Normal R n x → Normal R n y → Normal R n (prodF R k x y)
   normal-prodF zero n x y h hx hy = hx
@@ -155,7 +174,8 @@ module _ {A : Type 0} (R : Ring A) where
       (normal-prodF k n (pop (suc i) p) q (omega arith) hy (hx .2))
       (normal-prodF k (n - 1) (lower i p) r (lower-fits′ R i p r k (omega arith)) (normal-lower n i p (hy .1) (hy .2)) (hx .4))
   normal-prodF (suc k) n (pow i p q) (pow j r s) h hx hy =
-      normal-sum n (sum R (mkpow R (i + j) (prodF R k p r) (prodF R k q s)) (mkpow R i (prodF R k p (mkpop 1 s)) (zeroForm R))) (mkpow R j (prodF R k r (mkpop 1 q)) (zeroForm R))
+      normal-sum n (sum R (mkpow R (i + j) (prodF R k p r) (prodF R k q s)) (mkpow R i (prodF R k p (mkpop 1 s)) (zeroForm R)))
+      (mkpow R j (prodF R k r (mkpop 1 q)) (zeroForm R))
       (normal-sum n (mkpow R (i + j) (prodF R k p r) (prodF R k q s)) (mkpow R i (prodF R k p (mkpop 1 s)) (zeroForm R))
       (normal-mkpow n (i + j) (prodF R k p r) (prodF R k q s) (omega arith) (hx .1)
       (normal-prodF k n p r (omega arith) (hx .2) (hy .2)) (normal-prodF k (n - 1) q s (omega arith) (hx .4) (hy .4)))

@@ -1,4 +1,5 @@
--- The prime 2,147,483,647: the numbers 1 to 63 have inverses, so the grid theorem holds for forms over its remainders with degrees up to 63.
+-- The prime 2,147,483,647: the numbers 1 to 63 have inverses, so the grid theorem holds for forms over its remainders with degrees up to
+-- 63.
 use mathlib.Core.Bool.{Bool, true, _&&_}
 use mathlib.Core.List.{List, [], _∷_}
 use mathlib.Core.Logic.{_⊎_, inl, inr}
@@ -48,5 +49,6 @@ pub P-regular : Regular P-ring 63
 P-regular zero lo hi r e = absurd (omega arith)
 P-regular (suc k) lo hi r e =
     unit-regular prime prime-pos (suc k) (getD inverses (suc k) 0)
-    (eqb→eq ((suc k * getD inverses (suc k) 0) % prime) 1 (all-at 63 (λ k. eqb ((suc k * getD inverses (suc k) 0) % prime) 1) inverses-right k (omega arith)))
+    (eqb→eq ((suc k * getD inverses (suc k) 0) % prime) 1
+    (all-at 63 (λ k. eqb ((suc k * getD inverses (suc k) 0) % prime) 1) inverses-right k (omega arith)))
     r (ap (λ z. mulᵐ prime prime-pos z r) (sym (nat-red prime prime-pos (suc k))) ∙ e)

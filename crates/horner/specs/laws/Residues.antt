@@ -1,10 +1,12 @@
--- The numbers below m, with sums and products by remainder, are a ring. A number comes with a computed test that it is below m, which is `tt` at literals.
-use mathlib.Core.Path.{_≡_, refl, sym, _∙_, ap}
+-- The numbers below m, with sums and products by remainder, are a ring. A number comes with a computed test that it is below m, which is
+-- `tt` at literals.
+use mathlib.Core.Path.{_≡_, refl, sym, _∙_, ap, _≡⟨_⟩_, _∎}
 use Prim.Native.Nat.{ℕ, zero, suc, _+_, _<_, _*_, _%_}
 use native.Mathlib.Nat as NatL
 use native.Mathlib.Omega.{arith}
-use Rattle.horner.specs.definitions.Residues.{mulBy, powBy, Res, red, addᵐ, mulᵐ, res-ext, below, mul-mod-l, mul-mod-r, mod-ring}
-use Rattle.horner.specs.definitions.Ring.{Ring, power, nat}
+use Rattle.horner.specs.definitions.Residues.{Res, red, addᵐ, mulᵐ, res-ext, below, mod-ring}
+use Rattle.horner.specs.definitions.Ring.{Ring, nat}
+use Rattle.horner.specs.laws.Modulus.{mul-mod-l, mul-mod-r}
 use Rattle.horner.specs.laws.Ring.{mul-nil}
 
 module _ (m : ℕ) (m-pos : 0 < m) where
@@ -15,7 +17,8 @@ module _ (m : ℕ) (m-pos : 0 < m) where
   red-add a b = res-ext m m-pos (red m m-pos (a + b)) (addᵐ m m-pos (red m m-pos a) (red m m-pos b)) (NatL.add-mod a b m)
 
   pub red-mul : (a b : ℕ) → red m m-pos (a * b) ≡ mulᵐ m m-pos (red m m-pos a) (red m m-pos b)
-  red-mul a b = res-ext m m-pos (red m m-pos (a * b)) (mulᵐ m m-pos (red m m-pos a) (red m m-pos b)) (sym (mul-mod-l m m-pos a (b % m) ∙ mul-mod-r m m-pos a b))
+  red-mul a b =
+      res-ext m m-pos (red m m-pos (a * b)) (mulᵐ m m-pos (red m m-pos a) (red m m-pos b)) (sym (mul-mod-l m a (b % m) ∙ mul-mod-r m a b))
 
   -- the naturals in the ring are the remainders
   pub nat-red : (n : ℕ) → nat (mod-ring m m-pos) n ≡ red m m-pos n
@@ -25,16 +28,21 @@ module _ (m : ℕ) (m-pos : 0 < m) where
       one-more : (n : ℕ) → 1 + n ≡ suc n
       one-more n = omega arith
 
-  -- a power in the ring is the power of the numbers; sums, products and negations are so by definition
-  pub power-powBy : (a : Res m) (n : ℕ) → power (mod-ring m m-pos) a n .0 ≡ powBy m (a .0) n
-  power-powBy a zero = refl
-  power-powBy a (suc n) = ap (mulBy m (a .0)) (power-powBy a n)
-
   -- what has an inverse divides no zero
-  pub unit-regular : (k inv : ℕ) → (k * inv) % m ≡ 1 % m → (r : Res m) → mulᵐ m m-pos (red m m-pos k) r ≡ red m m-pos 0 → r ≡ red m m-pos 0
+  open Ring (mod-ring m m-pos) using (_·_, nil, mul-unit, mul-comm, mul-assoc)
+
+  abbrev ρ : ℕ → Res m
+  ρ n = red m m-pos n
+
+  pub unit-regular : (k inv : ℕ) → (k * inv) % m ≡ 1 % m → (r : Res m) → ρ k · r ≡ nil → r ≡ nil
   unit-regular k inv e r h =
-      sym (L .mul-unit r) ∙ L .mul-comm r (red m m-pos 1) ∙ ap (λ z. mulᵐ m m-pos z r) (res-ext m m-pos (red m m-pos 1) (red m m-pos (inv * k)) (sym e ∙ ap (λ z. z % m) (NatL.mul-comm k inv)) ∙ red-mul inv k)
-      ∙ L .mul-assoc (red m m-pos inv) (red m m-pos k) r ∙ ap (mulᵐ m m-pos (red m m-pos inv)) h ∙ mul-nil L (red m m-pos inv)
+      r ≡⟨ sym (mul-unit r) ⟩
+      r · ρ 1 ≡⟨ mul-comm r (ρ 1) ⟩
+      ρ 1 · r ≡⟨ ap (λ z. z · r) one ⟩
+      ρ inv · ρ k · r ≡⟨ mul-assoc (ρ inv) (ρ k) r ⟩
+      ρ inv · (ρ k · r) ≡⟨ ap (_·_ (ρ inv)) h ⟩
+      ρ inv · nil ≡⟨ mul-nil (mod-ring m m-pos) (ρ inv) ⟩
+      nil ∎
     where
-      L : Ring (Res m)
-      L = (mod-ring m m-pos)
+      one : ρ 1 ≡ ρ inv · ρ k
+      one = res-ext m m-pos (ρ 1) (ρ (inv * k)) (sym e ∙ ap (λ z. z % m) (NatL.mul-comm k inv)) ∙ red-mul inv k

@@ -1,5 +1,5 @@
--- Room: how many words a coded form takes, and how deep it nests. A normal form has at most three nodes for each POW, and 1; its POWs are at most n for each
--- coefficient that is not 0, and fewer than the box.
+-- Room: how many words a coded form takes, and how deep it nests. A normal form has at most three nodes for each POW, and 1; its POWs are
+-- at most n for each coefficient that is not 0, and fewer than the box.
 use mathlib.Core.Bool.{false, cond}
 use mathlib.Core.List.{List, [], _∷_}
 use mathlib.Core.Path.{_≡_, ap}
@@ -9,15 +9,23 @@ use native.Mathlib.Omega.{arith}
 use lib.IntN.{ℤ}
 use lib.ListN.{length}
 use Rattle.horner.specs.definitions.Form.{Form, int, pop, pow, size}
-use Rattle.horner.specs.definitions.Measures.{total, box, AllLe, termsOf, count, Bounded, pows, nest}
+use Rattle.horner.specs.definitions.Measures.{box, AllLe, termsOf, count, Bounded, nest}
 use Rattle.horner.specs.definitions.Normal.{Lead, Normal}
 use Rattle.horner.specs.definitions.Ring.{Ring}
 use Rattle.horner.specs.definitions.Term.{Term, Over, norm}
 use Rattle.horner.specs.definitions.Value.{after}
 use Rattle.horner.specs.laws.Count.{box-pos, box-after, count-pos}
+use Rattle.horner.specs.laws.Degree.{total}
 use Rattle.horner.specs.laws.Limits.{count-norm}
 use Rattle.horner.specs.laws.Normal.{pow-not-zero, pow-level}
 use Rattle.horner.specs.laws.Term.{normal-norm}
+
+module _ {A : Type 0} where
+  -- how many POW
+  abbrev pub pows : Form A → ℕ
+  pows (int c) = 0
+  pows (pop i p) = pows p
+  pows (pow i p q) = suc (pows p + pows q)
 
 module _ {A : Type 0} (R : Ring A) where
   -- ---- nodes by POWs: a leaf more than POWs, and at most one POP for each POW
@@ -36,7 +44,11 @@ module _ {A : Type 0} (R : Ring A) where
   -- a POP: its p is a POW further down
   pop-pows : (n i : ℕ) (p : Form A) → Normal R n (pop i p) → pows p ≤ (n - i) * count R p → pows p + 1 ≤ n * count R p
   pop-pows n i p h e =
-      omega (arith, one-less (n - i) n (count R p) (deeper (h .0) (pow-level R (n - i) p (h .1) (h .2))), count-pos R (n - i) p (h .2) (pow-not-zero R p (h .1)))
+      omega (
+        arith,
+        one-less (n - i) n (count R p) (deeper (h .0) (pow-level R (n - i) p (h .1) (h .2))),
+        count-pos R (n - i) p (h .2) (pow-not-zero R p (h .1)),
+      )
     where
       deeper : 1 ≤ i → 1 ≤ n - i → suc (n - i) ≤ n
       deeper f g = omega arith
@@ -60,7 +72,11 @@ module _ {A : Type 0} (R : Ring A) where
     pows-count-lead n (int c) l h e = omega (arith, ap (λ b. n * cond b 0 1) e)
     pows-count-lead n (pop i p) l h e = pop-pows n i p h (pows-count (n - i) p (h .2))
     pows-count-lead n (pow i p q) l h e =
-        omega (arith, pow-pows n i p q h (pows-count-lead n p (h .1) (h .2) (h .3)) (pows-count (n - 1) q (h .4)), count-pos R (n - 1) q (h .4) e)
+        omega (
+          arith,
+          pow-pows n i p q h (pows-count-lead n p (h .1) (h .2) (h .3)) (pows-count (n - 1) q (h .4)),
+          count-pos R (n - 1) q (h .4) e,
+        )
 
   -- ---- POWs by the box
   pub pows-box : (n : ℕ) (ds : List ℕ) (x : Form A) → Normal R n x → Bounded ds x → pows x + 1 ≤ box ds
@@ -98,7 +114,8 @@ module _ {A : Type 0} (R : Ring A) where
 
   pub nest-total : (n : ℕ) (ds : List ℕ) (x : Form A) → Normal R n x → Bounded ds x → nest x ≤ total ds + (n - 1)
   nest-total n ds (int c) h b = omega arith
-  nest-total n ds (pop i p) h b = omega (arith, nest-total (n - i) (after i ds) p (h .2) b, total-after i ds, h .0, pow-level R (n - i) p (h .1) (h .2))
+  nest-total n ds (pop i p) h b =
+      omega (arith, nest-total (n - i) (after i ds) p (h .2) b, total-after i ds, h .0, pow-level R (n - i) p (h .1) (h .2))
   nest-total n [] (pow i p q) h b = absurd b
   nest-total n (d ∷ ds) (pow i p q) h b =
       omega (arith, nest-total n ((d - i) ∷ ds) p (h .2) (b .1), nest-total (n - 1) ds q (h .4) (b .2), h .0, b .0, h .1)

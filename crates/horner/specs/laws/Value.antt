@@ -1,17 +1,16 @@
--- The value of a form (Definition 5), and that it is a homomorphism: theorem E.
--- `val` reads a missing coordinate as 0, and its laws hold at every point. Definition 5's `evalh` gives 0 to a whole POW at the empty point; the two
--- agree where the point is as long as the form has levels (Points.antt).
+-- The value of what the operations make: pop, pow, the sum and the negation (Lemmas 1 to 4; the product is in Product).
 use mathlib.Core.Bool.{true, true≢false}
 use mathlib.Core.List.{List}
-use mathlib.Core.Path.{_≡_, refl, sym, _∙_, ap, ap₂}
+use mathlib.Core.Path.{_≡_, refl, sym, _∙_, ap, ap₂, _≡⟨_⟩_, _∎}
 use Prim.Native.Nat.{ℕ, zero, suc, _+_, _≤_}
 use native.Mathlib.Nat as NatL
 use native.Mathlib.Omega.{arith}
-use Rattle.horner.specs.definitions.Form.{Form, int, pop, pow, size, mkpop, lower, isZero, zeroForm, mkpow, addInt, sumF, sum, negate, scale, prodF, prod, raise}
+use Rattle.horner.specs.definitions.Form.{Form, int, pop, pow, size, mkpop, lower, isZero, zeroForm, mkpow, addInt, sumF, sum}
+use Rattle.horner.specs.definitions.Form.{negate}
 use Rattle.horner.specs.definitions.Ring.{Ring, power}
-use Rattle.horner.specs.definitions.Value.{tl, after, hd, val}
+use Rattle.horner.specs.definitions.Value.{tl, after, hd}
 use Rattle.horner.specs.laws.Compare.{cmp-cases}
-use Rattle.horner.specs.laws.Ring.{nil-add, add-left-comm, mul-left-comm, add-mul, mul-nil, mul-neg, neg-of-add, power-add}
+use Rattle.horner.specs.laws.Ring.{nil-add, add-left-comm, mul-nil, mul-neg, neg-of-add, power-add}
 use Rattle.horner.specs.laws.Tests.{cond-cases}
 
 module _ {A : Type 0} where
@@ -25,56 +24,18 @@ module _ {A : Type 0} where
   after-add (suc i) j N = rw NatL.suc-add (after-add i j (tl N))
 
 module _ {A : Type 0} (R : Ring A) where
-  open Ring R using (add, neg, mul, nil, unit, isNil, add-assoc, add-comm, add-nil, add-neg, mul-assoc, mul-comm, mul-unit, mul-add, isNil-true)
+  open Ring R using (_⊞_, neg, _·_, nil, isNil, add-assoc, add-comm, add-nil, mul-assoc, mul-add, isNil-true)
 
-  pub val-mkpop : (i : ℕ) (p : Form A) (N : List A) → val R (mkpop i p) N ≡ val R p (after i N)
-  val-mkpop zero p N = refl
-  val-mkpop (suc i) (int c) N = refl
-  val-mkpop (suc i) (pop j q) N = ap (val R q) (after-add (suc i) j N)
-  val-mkpop (suc i) (pow j q r) N = refl
+  -- Definition 5 with a missing coordinate read as 0. Its laws hold at every point; at a point as long as the row it is `evalh`. At a
+  -- shorter one Lemma 3 is false of `evalh`: (POW 1 1 5) has the value 0 at (), and it is the sum of 5 and (POW 1 1 0).
+  abbrev pub val : Form A → List A → A
+  val (int c) N = c
+  val (pop i p) N = val p (after i N)
+  val (pow i p q) N = power R (hd R N) i · val p N ⊞ val q (tl N)
 
-  pub val-lower : (i : ℕ) (p : Form A) (N : List A) → val R (lower i p) N ≡ val R p (after i N)
-  val-lower zero p N = refl
-  val-lower (suc i) p N = refl
-
-  pub isZero-val : (p : Form A) → isZero R p ≡ true → (N : List A) → val R p N ≡ nil
-  isZero-val (int c) h N = isNil-true c h
-  isZero-val (pop i p) h N = absurd (true≢false (sym h))
-  isZero-val (pow i p q) h N = absurd (true≢false (sym h))
-
-  pub val-mkpow : (i : ℕ) (p q : Form A) (N : List A) → val R (mkpow R i p q) N ≡ add (mul (power R (hd R N) i) (val R p N)) (val R q (tl N))
-  val-mkpow i (int c) q N =
-      cond-cases (isNil c) (λ z. val R z N ≡ add (mul (power R (hd R N) i) c) (val R q (tl N))) _ _
-      (λ h. val-mkpop 1 q N ∙ sym (nil-add R (val R q (tl N))) ∙ ap (λ z. add z (val R q (tl N))) (sym (ap (mul (power R (hd R N) i)) (isNil-true c h) ∙ mul-nil R (power R (hd R N) i))))
-      (λ h. refl)
-  val-mkpow i (pop j p) q N = refl
-  val-mkpow i (pow j r s) q N =
-      cond-cases (isZero R s) (λ z. val R z N ≡ add (mul (power R (hd R N) i) (val R (pow j r s) N)) (val R q (tl N))) _ _
-      (λ h. ap (λ z. add z (val R q (tl N))) (merge (isZero-val s h (tl N))))
-      (λ h. refl)
-    where
-      merge : val R s (tl N) ≡ nil → mul (power R (hd R N) (i + j)) (val R r N) ≡ mul (power R (hd R N) i) (val R (pow j r s) N)
-      merge h =
-          ap (λ z. mul z (val R r N)) (power-add R (hd R N) i j) ∙ mul-assoc (power R (hd R N) i) (power R (hd R N) j) (val R r N)
-          ∙ ap (mul (power R (hd R N) i)) (sym (add-nil (mul (power R (hd R N) j) (val R r N))) ∙ ap (add (mul (power R (hd R N) j) (val R r N))) (sym h))
-
-  -- the same, with the values of the two parts known
-  pub val-mkpow-by : (i : ℕ) (p q : Form A) (N : List A) (a b : A) → val R p N ≡ a → val R q (tl N) ≡ b → val R (mkpow R i p q) N ≡ add (mul (power R (hd R N) i) a) b
-  val-mkpow-by i p q N a b e f = val-mkpow i p q N ∙ ap₂ (λ z w. add (mul (power R (hd R N) i) z) w) e f
-
-  -- ---- the sum
-  pub val-addInt : (a : A) (y : Form A) (N : List A) → val R (addInt R a y) N ≡ add a (val R y N)
-  val-addInt a (int b) N = refl
-  val-addInt a (pop i p) N = val-addInt a p (after i N)
-  val-addInt a (pow i p q) N = ap (add (mul (power R (hd R N) i) (val R p N))) (val-addInt a q (tl N)) ∙ add-left-comm R (mul (power R (hd R N) i) (val R p N)) a (val R q (tl N))
-
-  -- u P + Q and u R + S
-  pub sum-same : (u p q r s : A) → add (mul u (add p r)) (add q s) ≡ add (add (mul u p) q) (add (mul u r) s)
-  sum-same u p q r s = simp (mul-add, add-assoc, add-comm, add-left-comm R)
-
-  -- u v P + Q and u R + S
-  pub sum-more : (u v p q r s : A) → add (mul u (add (add (mul v p) nil) r)) (add q s) ≡ add (add (mul (mul u v) p) q) (add (mul u r) s)
-  sum-more u v p q r s = simp (add-nil, mul-add, mul-assoc, add-assoc, add-comm, add-left-comm R)
+  -- ---- sizes, by which the sum and the product go down
+  pub no-fuel : (x y : Form A) → size x + size y ≤ 0 → ⊥
+  no-fuel x y h = omega (arith, size-pos x)
 
   pub lower-fits : (i : ℕ) (p r : Form A) (k : ℕ) → size r + suc (size p) ≤ k → size r + size (lower i p) ≤ k
   lower-fits zero p r k h = omega arith
@@ -84,152 +45,195 @@ module _ {A : Type 0} (R : Ring A) where
   lower-fits′ zero p r k h = omega arith
   lower-fits′ (suc i) p r k h = h
 
-  pub sum-tail : (j : ℕ) (q r : Form A) (i : ℕ) (p t : Form A) (N : List A) → val R t (tl N) ≡ add (val R r (tl N)) (val R (lower i p) (tl N))
-      → val R (pow j q t) N ≡ add (val R (pow j q r) N) (val R p (after i (tl N)))
-  sum-tail j q r i p t N h =
-      ap (add (mul (power R (hd R N) j) (val R q N))) (h ∙ ap (add (val R r (tl N))) (val-lower i p (tl N)))
-      ∙ sym (add-assoc (mul (power R (hd R N) j) (val R q N)) (val R r (tl N)) (val R p (after i (tl N))))
-
-  pub val-sumF : (k : ℕ) (x y : Form A) → size x + size y ≤ k → (N : List A) → val R (sumF R k x y) N ≡ add (val R x N) (val R y N)
-  val-sumF zero x y h N = absurd (none (size-pos x))
-    where
-      none : 1 ≤ size x → ⊥
-      none g = omega arith
-  val-sumF (suc k) (int a) y h N = val-addInt a y N
-  val-sumF (suc k) (pop i p) (int b) h N = val-addInt b p (after i N) ∙ add-comm b (val R p (after i N))
-  val-sumF (suc k) (pop i p) (pop j q) h N =
-      cmp-cases i j (λ z. val R z N ≡ add (val R p (after i N)) (val R q (after j N))) _ _ _
-      (λ e. val-mkpop i (sumF R k p q) N ∙ val-sumF k p q (omega arith) (after i N) ∙ ap (λ z. add (val R p (after i N)) (val R q (after z N))) e)
-      (λ d e. val-mkpop j (sumF R k (pop (suc d) p) q) N ∙ val-sumF k (pop (suc d) p) q (omega arith) (after j N)
-      ∙ ap (λ z. add (val R p z) (val R q (after j N))) (sym (after-add j (suc d) N) ∙ ap (λ z. after z N) (sym e)))
-      (λ d e. val-mkpop i (sumF R k (pop (suc d) q) p) N ∙ val-sumF k (pop (suc d) q) p (omega arith) (after i N)
-      ∙ ap (λ z. add (val R q z) (val R p (after i N))) (sym (after-add i (suc d) N) ∙ ap (λ z. after z N) (sym e))
-      ∙ add-comm (val R q (after j N)) (val R p (after i N)))
-  val-sumF (suc k) (pop zero p) (pow j q r) h N = val-sumF k p (pow j q r) (omega arith) N
-  val-sumF (suc k) (pop (suc i) p) (pow j q r) h N =
-      sum-tail j q r i p (sumF R k r (lower i p)) N (val-sumF k r (lower i p) (lower-fits i p r k (omega arith)) (tl N))
-      ∙ add-comm (val R (pow j q r) N) (val R p (after i (tl N)))
-  val-sumF (suc k) (pow j q r) (int b) h N = val-addInt b (pow j q r) N ∙ add-comm b (val R (pow j q r) N)
-  val-sumF (suc k) (pow j q r) (pop zero p) h N = val-sumF k p (pow j q r) (omega arith) N ∙ add-comm (val R p N) (val R (pow j q r) N)
-  val-sumF (suc k) (pow j q r) (pop (suc i) p) h N =
-      sum-tail j q r i p (sumF R k r (lower i p)) N (val-sumF k r (lower i p) (lower-fits i p r k (omega arith)) (tl N))
-  val-sumF (suc k) (pow i p q) (pow j r s) h N =
-      cmp-cases i j (λ z. val R z N ≡ add (val R (pow i p q) N) (val R (pow j r s) N)) _ _ _
-      (λ e. val-mkpow-by i (sumF R k p r) (sumF R k q s) N _ _ (val-sumF k p r (omega arith) N) (val-sumF k q s (omega arith) (tl N))
-      ∙ sum-same (power R (hd R N) i) (val R p N) (val R q (tl N)) (val R r N) (val R s (tl N))
-      ∙ ap (λ z. add (val R (pow i p q) N) (add (mul (power R (hd R N) z) (val R r N)) (val R s (tl N)))) e)
-      (λ d e. val-mkpow-by j (sumF R k (pow (suc d) p (zeroForm R)) r) (sumF R k q s) N _ _ (val-sumF k (pow (suc d) p (zeroForm R)) r (omega (arith, size-pos q)) N) (val-sumF k q s (omega arith) (tl N))
-      ∙ sum-more (power R (hd R N) j) (power R (hd R N) (suc d)) (val R p N) (val R q (tl N)) (val R r N) (val R s (tl N))
-      ∙ ap (λ z. add (add (mul z (val R p N)) (val R q (tl N))) (val R (pow j r s) N)) (sym (power-add R (hd R N) j (suc d)) ∙ ap (power R (hd R N)) (sym e)))
-      (λ d e. val-mkpow-by i (sumF R k (pow (suc d) r (zeroForm R)) p) (sumF R k s q) N _ _ (val-sumF k (pow (suc d) r (zeroForm R)) p (omega (arith, size-pos s)) N) (val-sumF k s q (omega arith) (tl N))
-      ∙ sum-more (power R (hd R N) i) (power R (hd R N) (suc d)) (val R r N) (val R s (tl N)) (val R p N) (val R q (tl N))
-      ∙ ap (λ z. add (add (mul z (val R r N)) (val R s (tl N))) (val R (pow i p q) N)) (sym (power-add R (hd R N) i (suc d)) ∙ ap (power R (hd R N)) (sym e))
-      ∙ add-comm (val R (pow j r s) N) (val R (pow i p q) N))
-
-  pub val-sum : (x y : Form A) (N : List A) → val R (sum R x y) N ≡ add (val R x N) (val R y N)
-  val-sum x y N = val-sumF (size x + size y) x y (omega arith) N
-
-  -- ---- the negation
-  pub val-negate : (x : Form A) (N : List A) → val R (negate R x) N ≡ neg (val R x N)
-  val-negate (int a) N = refl
-  val-negate (pop i p) N = val-negate p (after i N)
-  val-negate (pow i p q) N =
-      ap₂ (λ z w. add (mul (power R (hd R N) i) z) w) (val-negate p N) (val-negate q (tl N))
-      ∙ ap (λ z. add z (neg (val R q (tl N)))) (mul-neg R (power R (hd R N) i) (val R p N))
-      ∙ sym (neg-of-add R (mul (power R (hd R N) i) (val R p N)) (val R q (tl N)))
-
-  -- ---- the product
-  scale-step : (u a p q : A) → add (mul u (mul a p)) (mul a q) ≡ mul a (add (mul u p) q)
-  scale-step u a p q = simp (mul-add, mul-assoc, mul-comm, mul-left-comm R)
-
-  pub val-scale : (a : A) (y : Form A) (N : List A) → val R (scale R a y) N ≡ mul a (val R y N)
-  val-scale a (int b) N = refl
-  val-scale a (pop i p) N = val-mkpop i (scale R a p) N ∙ val-scale a p (after i N)
-  val-scale a (pow i p q) N = val-mkpow-by i (scale R a p) (scale R a q) N _ _ (val-scale a p N) (val-scale a q (tl N)) ∙ scale-step (power R (hd R N) i) a (val R p N) (val R q (tl N))
-
-  -- (u p + q) (v r + s), as Definition 11 (6) puts it together
-  prod-step : (u v p q r s : A)
-      → add (add (add (mul (mul u v) (mul p r)) (mul q s)) (add (mul u (mul p s)) nil)) (add (mul v (mul r q)) nil) ≡ mul (add (mul u p) q) (add (mul v r) s)
-  prod-step u v p q r s = simp (add-nil, mul-add, add-mul R, mul-assoc, mul-comm, mul-left-comm R, add-assoc, add-comm, add-left-comm R)
-
   -- the size of a form that mkpop made
   pub size-mkpop : (s : Form A) → size (mkpop 1 s) ≤ suc (size s)
   size-mkpop (int c) = omega arith
   size-mkpop (pop i p) = omega arith
   size-mkpop (pow i p q) = omega arith
 
-  -- Definition 11 (4), in either order of the factors
-  prod-tail : (j : ℕ) (q r : Form A) (i : ℕ) (p t u : Form A) (N : List A) → val R t N ≡ mul (val R p (after (suc i) N)) (val R q N)
-      → val R u (tl N) ≡ mul (val R (lower i p) (tl N)) (val R r (tl N))
-      → val R (mkpow R j t u) N ≡ mul (val R p (after (suc i) N)) (val R (pow j q r) N)
-  prod-tail j q r i p t u N e f =
-      val-mkpow-by j t u N _ _ e (f ∙ ap (λ z. mul z (val R r (tl N))) (val-lower i p (tl N)))
-      ∙ scale-step (power R (hd R N) j) (val R p (after (suc i) N)) (val R q N) (val R r (tl N))
+  -- ---- POP and POW
+  -- Lemma 1
+  pub val-mkpop : (i : ℕ) (p : Form A) (N : List A) → val (mkpop i p) N ≡ val p (after i N)
+  val-mkpop zero p N = refl
+  val-mkpop (suc i) (int c) N = refl
+  val-mkpop (suc i) (pop j q) N = ap (val q) (after-add (suc i) j N)
+  val-mkpop (suc i) (pow j q r) N = refl
 
-  -- Definition 11 (6)
-  prod-six : (i j : ℕ) (p q r s pr qs ps rq : Form A) (N : List A)
-      → val R pr N ≡ mul (val R p N) (val R r N) → val R qs (tl N) ≡ mul (val R q (tl N)) (val R s (tl N))
-      → val R ps N ≡ mul (val R p N) (val R (mkpop 1 s) N) → val R rq N ≡ mul (val R r N) (val R (mkpop 1 q) N)
-      → val R (sum R (sum R (mkpow R (i + j) pr qs) (mkpow R i ps (zeroForm R))) (mkpow R j rq (zeroForm R))) N
-      ≡ mul (val R (pow i p q) N) (val R (pow j r s) N)
-  prod-six i j p q r s pr qs ps rq N e₁ e₂ e₃ e₄ =
-      val-sum (sum R one two) three N
-      ∙ ap₂ add (val-sum one two N ∙ ap₂ add one-val two-val) three-val
-      ∙ prod-step (power R (hd R N) i) (power R (hd R N) j) (val R p N) (val R q (tl N)) (val R r N) (val R s (tl N))
+  pub val-lower : (i : ℕ) (p : Form A) (N : List A) → val (lower i p) N ≡ val p (after i N)
+  val-lower zero p N = refl
+  val-lower (suc i) p N = refl
+
+  abbrev pub Zero : Form A → Type 0
+  Zero p = isZero R p ≡ true
+
+  pub isZero-val : (p : Form A) → Zero p → (N : List A) → val p N ≡ nil
+  isZero-val (int c) h N = isNil-true c h
+  isZero-val (pop i p) h N = absurd (true≢false (sym h))
+  isZero-val (pow i p q) h N = absurd (true≢false (sym h))
+
+  -- Lemma 2
+  pub val-mkpow : (i : ℕ) (p q : Form A) (N : List A) → val (mkpow R i p q) N ≡ power R (hd R N) i · val p N ⊞ val q (tl N)
+  val-mkpow i (int c) q N =
+      cond-cases (isNil c) (λ z. val z N ≡ power R (hd R N) i · c ⊞ val q (tl N)) _ _ (λ h. no-lead (isNil-true c h)) (λ h. refl)
     where
-      one : Form A
-      one = mkpow R (i + j) pr qs
-
-      two : Form A
-      two = mkpow R i ps (zeroForm R)
-
-      three : Form A
-      three = mkpow R j rq (zeroForm R)
-
-      one-val : val R one N ≡ add (mul (mul (power R (hd R N) i) (power R (hd R N) j)) (mul (val R p N) (val R r N))) (mul (val R q (tl N)) (val R s (tl N)))
-      one-val =
-          val-mkpow-by (i + j) pr qs N _ _ e₁ e₂
-          ∙ ap (λ z. add (mul z (mul (val R p N) (val R r N))) (mul (val R q (tl N)) (val R s (tl N)))) (power-add R (hd R N) i j)
-
-      two-val : val R two N ≡ add (mul (power R (hd R N) i) (mul (val R p N) (val R s (tl N)))) nil
-      two-val = val-mkpow-by i ps (zeroForm R) N _ _ (e₃ ∙ ap (mul (val R p N)) (val-mkpop 1 s N)) refl
-
-      three-val : val R three N ≡ add (mul (power R (hd R N) j) (mul (val R r N) (val R q (tl N)))) nil
-      three-val = val-mkpow-by j rq (zeroForm R) N _ _ (e₄ ∙ ap (mul (val R r N)) (val-mkpop 1 q N)) refl
-
-  pub val-prodF : (k : ℕ) (x y : Form A) → size x + size y ≤ k → (N : List A) → val R (prodF R k x y) N ≡ mul (val R x N) (val R y N)
-  val-prodF zero x y h N = absurd (none (size-pos x))
+      no-lead : c ≡ nil → val (mkpop 1 q) N ≡ power R (hd R N) i · c ⊞ val q (tl N)
+      no-lead h =
+          let u = power R (hd R N) i in
+          let Q = val q (tl N) in
+          val (mkpop 1 q) N ≡⟨ val-mkpop 1 q N ⟩
+          Q ≡⟨ sym (nil-add R Q) ⟩
+          nil ⊞ Q ≡⟨ ap (λ z. z ⊞ Q) (sym (mul-nil R u)) ⟩
+          u · nil ⊞ Q ≡⟨ ap (λ z. u · z ⊞ Q) (sym h) ⟩
+          u · c ⊞ Q ∎
+  val-mkpow i (pop j p) q N = refl
+  val-mkpow i (pow j r s) q N =
+      cond-cases (isZero R s) (λ z. val z N ≡ power R (hd R N) i · val (pow j r s) N ⊞ val q (tl N)) _ _
+      (λ h. merged (isZero-val s h (tl N))) (λ h. refl)
     where
-      none : 1 ≤ size x → ⊥
-      none g = omega arith
-  val-prodF (suc k) (int a) y h N = val-scale a y N
-  val-prodF (suc k) (pop i p) (int b) h N = val-scale b (pop i p) N ∙ mul-comm b (val R p (after i N))
-  val-prodF (suc k) (pop i p) (pop j q) h N =
-      cmp-cases i j (λ z. val R z N ≡ mul (val R p (after i N)) (val R q (after j N))) _ _ _
-      (λ e. val-mkpop i (prodF R k p q) N ∙ val-prodF k p q (omega arith) (after i N) ∙ ap (λ z. mul (val R p (after i N)) (val R q (after z N))) e)
-      (λ d e. val-mkpop j (prodF R k (pop (suc d) p) q) N ∙ val-prodF k (pop (suc d) p) q (omega arith) (after j N)
-      ∙ ap (λ z. mul (val R p z) (val R q (after j N))) (sym (after-add j (suc d) N) ∙ ap (λ z. after z N) (sym e)))
-      (λ d e. val-mkpop i (prodF R k (pop (suc d) q) p) N ∙ val-prodF k (pop (suc d) q) p (omega arith) (after i N)
-      ∙ ap (λ z. mul (val R q z) (val R p (after i N))) (sym (after-add i (suc d) N) ∙ ap (λ z. after z N) (sym e))
-      ∙ mul-comm (val R q (after j N)) (val R p (after i N)))
-  val-prodF (suc k) (pop zero p) (pow j q r) h N = val-prodF k p (pow j q r) (omega arith) N
-  val-prodF (suc k) (pop (suc i) p) (pow j q r) h N =
-      prod-tail j q r i p (prodF R k (pop (suc i) p) q) (prodF R k (lower i p) r) N
-      (val-prodF k (pop (suc i) p) q (omega arith) N) (val-prodF k (lower i p) r (lower-fits′ i p r k (omega arith)) (tl N))
-  val-prodF (suc k) (pow j q r) (int b) h N = val-scale b (pow j q r) N ∙ mul-comm b (val R (pow j q r) N)
-  val-prodF (suc k) (pow j q r) (pop zero p) h N = val-prodF k p (pow j q r) (omega arith) N ∙ mul-comm (val R p N) (val R (pow j q r) N)
-  val-prodF (suc k) (pow j q r) (pop (suc i) p) h N =
-      prod-tail j q r i p (prodF R k (pop (suc i) p) q) (prodF R k (lower i p) r) N
-      (val-prodF k (pop (suc i) p) q (omega arith) N) (val-prodF k (lower i p) r (lower-fits′ i p r k (omega arith)) (tl N))
-      ∙ mul-comm (val R p (after (suc i) N)) (val R (pow j q r) N)
-  val-prodF (suc k) (pow i p q) (pow j r s) h N =
-      prod-six i j p q r s (prodF R k p r) (prodF R k q s) (prodF R k p (mkpop 1 s)) (prodF R k r (mkpop 1 q)) N
-      (val-prodF k p r (omega arith) N) (val-prodF k q s (omega arith) (tl N))
-      (val-prodF k p (mkpop 1 s) (omega (arith, size-mkpop s)) N) (val-prodF k r (mkpop 1 q) (omega (arith, size-mkpop q)) N)
+      merged : val s (tl N) ≡ nil → val (pow (i + j) r q) N ≡ power R (hd R N) i · val (pow j r s) N ⊞ val q (tl N)
+      merged h =
+          let a = hd R N in
+          let u = power R a i in
+          let v = power R a j in
+          let P = val r N in
+          let Q = val q (tl N) in
+          power R a (i + j) · P ⊞ Q ≡⟨ ap (λ z. z · P ⊞ Q) (power-add R a i j) ⟩
+          u · v · P ⊞ Q ≡⟨ ap (λ z. z ⊞ Q) (mul-assoc u v P) ⟩
+          u · (v · P) ⊞ Q ≡⟨ ap (λ z. u · z ⊞ Q) (sym (add-nil (v · P))) ⟩
+          u · (v · P ⊞ nil) ⊞ Q ≡⟨ ap (λ z. u · (v · P ⊞ z) ⊞ Q) (sym h) ⟩
+          u · (v · P ⊞ val s (tl N)) ⊞ Q ∎
 
-  pub val-prod : (x y : Form A) (N : List A) → val R (prod R x y) N ≡ mul (val R x N) (val R y N)
-  val-prod x y N = val-prodF (size x + size y) x y (omega arith) N
+  -- the same, with the values of the two parts known
+  pub val-mkpow-by : (i : ℕ) (p q : Form A) (N : List A) (a b : A) → val p N ≡ a → val q (tl N) ≡ b
+      → val (mkpow R i p q) N ≡ power R (hd R N) i · a ⊞ b
+  val-mkpow-by i p q N a b e f = val-mkpow i p q N ∙ ap₂ (λ z w. power R (hd R N) i · z ⊞ w) e f
 
-  pub val-raise : (x : Form A) (n : ℕ) (N : List A) → val R (raise R x n) N ≡ power R (val R x N) n
-  val-raise x zero N = refl
-  val-raise x (suc n) N = val-prod x (raise R x n) N ∙ ap (mul (val R x N)) (val-raise x n N)
+  -- ---- two POPs, Definitions 9 (3) and 11 (3): z is the sum or the product of what they hold
+  module _ (_⋆_ : A → A → A) where
+    infixl 60 _⋆_
+    pub pops-same : (i j : ℕ) (p q z : Form A) (N : List A) → i ≡ j → val z (after i N) ≡ val p (after i N) ⋆ val q (after i N)
+        → val (mkpop i z) N ≡ val (pop i p) N ⋆ val (pop j q) N
+    pops-same i j p q z N e h =
+        val (mkpop i z) N ≡⟨ val-mkpop i z N ⟩
+        val z (after i N) ≡⟨ h ⟩
+        val p (after i N) ⋆ val q (after i N) ≡⟨ ap (λ k. val p (after i N) ⋆ val q (after k N)) e ⟩
+        val (pop i p) N ⋆ val (pop j q) N ∎
+
+    pub pops-more : (i j d : ℕ) (p q z : Form A) (N : List A) → i ≡ j + suc d
+        → val z (after j N) ≡ val (pop (suc d) p) (after j N) ⋆ val q (after j N)
+        → val (mkpop j z) N ≡ val (pop i p) N ⋆ val (pop j q) N
+    pops-more i j d p q z N e h =
+        let Q = val q (after j N) in
+        val (mkpop j z) N ≡⟨ val-mkpop j z N ⟩
+        val z (after j N) ≡⟨ h ⟩
+        val p (after (suc d) (after j N)) ⋆ Q ≡⟨ ap (λ M. val p M ⋆ Q) (sym (after-add j (suc d) N)) ⟩
+        val p (after (j + suc d) N) ⋆ Q ≡⟨ ap (λ k. val p (after k N) ⋆ Q) (sym e) ⟩
+        val (pop i p) N ⋆ val (pop j q) N ∎
+
+  -- ---- the sum
+  pub val-addInt : (a : A) (y : Form A) (N : List A) → val (addInt R a y) N ≡ a ⊞ val y N
+  val-addInt a (int b) N = refl
+  val-addInt a (pop i p) N = val-addInt a p (after i N)
+  val-addInt a (pow i p q) N =
+      let L = power R (hd R N) i · val p N in
+      let Q = val q (tl N) in
+      L ⊞ val (addInt R a q) (tl N) ≡⟨ ap (_⊞_ L) (val-addInt a q (tl N)) ⟩
+      L ⊞ (a ⊞ Q) ≡⟨ add-left-comm R L a Q ⟩
+      a ⊞ (L ⊞ Q) ∎
+
+  -- Definition 9 (4): t is the sum of r and what the POP holds
+  sum-tail : (j : ℕ) (q r : Form A) (i : ℕ) (p t : Form A) (N : List A) → val t (tl N) ≡ val r (tl N) ⊞ val (lower i p) (tl N)
+      → val (pow j q t) N ≡ val (pow j q r) N ⊞ val (pop (suc i) p) N
+  sum-tail j q r i p t N h =
+      let L = power R (hd R N) j · val q N in
+      let T = val r (tl N) in
+      L ⊞ val t (tl N) ≡⟨ ap (_⊞_ L) h ⟩
+      L ⊞ (T ⊞ val (lower i p) (tl N)) ≡⟨ ap (λ z. L ⊞ (T ⊞ z)) (val-lower i p (tl N)) ⟩
+      L ⊞ (T ⊞ val (pop (suc i) p) N) ≡⟨ sym (add-assoc L T (val (pop (suc i) p) N)) ⟩
+      L ⊞ T ⊞ val (pop (suc i) p) N ∎
+
+  -- Definition 9 (6): (u P + Q) + (u T + S), and (u v P + Q) + (u T + S)
+  same-powers : (u p q t s : A) → u · (p ⊞ t) ⊞ (q ⊞ s) ≡ u · p ⊞ q ⊞ (u · t ⊞ s)
+  same-powers u p q t s = simp (mul-add, add-assoc, add-comm, add-left-comm R)
+
+  more-powers : (u v p q t s : A) → u · (v · p ⊞ nil ⊞ t) ⊞ (q ⊞ s) ≡ u · v · p ⊞ q ⊞ (u · t ⊞ s)
+  more-powers u v p q t s = simp (add-nil, mul-add, mul-assoc, add-assoc, add-comm, add-left-comm R)
+
+  -- y and z are the sums of the parts
+  sum-same : (i j : ℕ) (p q r s y z : Form A) (N : List A) → i ≡ j → val y N ≡ val p N ⊞ val r N
+      → val z (tl N) ≡ val q (tl N) ⊞ val s (tl N)
+      → val (mkpow R i y z) N ≡ val (pow i p q) N ⊞ val (pow j r s) N
+  sum-same i j p q r s y z N e f g =
+      let u = power R (hd R N) i in
+      let P = val p N in
+      let Q = val q (tl N) in
+      let T = val r N in
+      let S = val s (tl N) in
+      val (mkpow R i y z) N ≡⟨ val-mkpow-by i y z N (P ⊞ T) (Q ⊞ S) f g ⟩
+      u · (P ⊞ T) ⊞ (Q ⊞ S) ≡⟨ same-powers u P Q T S ⟩
+      u · P ⊞ Q ⊞ (u · T ⊞ S) ≡⟨ ap (λ k. u · P ⊞ Q ⊞ (power R (hd R N) k · T ⊞ S)) e ⟩
+      val (pow i p q) N ⊞ val (pow j r s) N ∎
+
+  -- (POW d+1 p 0), as (6) makes it of the difference of two exponents
+  abbrev alone : ℕ → Form A → Form A
+  alone d p = pow (suc d) p (zeroForm R)
+
+  sum-more : (i j d : ℕ) (p q r s y z : Form A) (N : List A) → i ≡ j + suc d → val y N ≡ val (alone d p) N ⊞ val r N
+      → val z (tl N) ≡ val q (tl N) ⊞ val s (tl N) → val (mkpow R j y z) N ≡ val (pow i p q) N ⊞ val (pow j r s) N
+  sum-more i j d p q r s y z N e f g =
+      let a = hd R N in
+      let u = power R a j in
+      let v = power R a (suc d) in
+      let P = val p N in
+      let Q = val q (tl N) in
+      let T = val r N in
+      let S = val s (tl N) in
+      val (mkpow R j y z) N ≡⟨ val-mkpow-by j y z N (v · P ⊞ nil ⊞ T) (Q ⊞ S) f g ⟩
+      u · (v · P ⊞ nil ⊞ T) ⊞ (Q ⊞ S) ≡⟨ more-powers u v P Q T S ⟩
+      u · v · P ⊞ Q ⊞ (u · T ⊞ S) ≡⟨ ap (λ w. w · P ⊞ Q ⊞ (u · T ⊞ S)) (sym (power-add R a j (suc d))) ⟩
+      power R a (j + suc d) · P ⊞ Q ⊞ (u · T ⊞ S) ≡⟨ ap (λ k. power R a k · P ⊞ Q ⊞ (u · T ⊞ S)) (sym e) ⟩
+      val (pow i p q) N ⊞ val (pow j r s) N ∎
+
+  val-sumF : (k : ℕ) (x y : Form A) → size x + size y ≤ k → (N : List A) → val (sumF R k x y) N ≡ val x N ⊞ val y N
+  val-sumF zero x y h N = absurd (no-fuel x y h)
+  val-sumF (suc k) (int a) y h N = val-addInt a y N
+  val-sumF (suc k) (pop i p) (int b) h N = val-addInt b p (after i N) ∙ add-comm b (val p (after i N))
+  val-sumF (suc k) (pop i p) (pop j q) h N =
+      cmp-cases i j (λ z. val z N ≡ val (pop i p) N ⊞ val (pop j q) N) _ _ _
+      (λ e. pops-same _⊞_ i j p q (sumF R k p q) N e (val-sumF k p q (omega arith) (after i N)))
+      (λ d e. pops-more _⊞_ i j d p q (sumF R k (pop (suc d) p) q) N e (val-sumF k (pop (suc d) p) q (omega arith) (after j N)))
+      (λ d e. pops-more _⊞_ j i d q p (sumF R k (pop (suc d) q) p) N e (val-sumF k (pop (suc d) q) p (omega arith) (after i N))
+      ∙ add-comm (val (pop j q) N) (val (pop i p) N))
+  val-sumF (suc k) (pop zero p) (pow j q r) h N = val-sumF k p (pow j q r) (omega arith) N
+  val-sumF (suc k) (pop (suc i) p) (pow j q r) h N =
+      sum-tail j q r i p (sumF R k r (lower i p)) N (val-sumF k r (lower i p) (lower-fits i p r k (omega arith)) (tl N))
+      ∙ add-comm (val (pow j q r) N) (val (pop (suc i) p) N)
+  val-sumF (suc k) (pow j q r) (int b) h N = val-addInt b (pow j q r) N ∙ add-comm b (val (pow j q r) N)
+  val-sumF (suc k) (pow j q r) (pop zero p) h N = val-sumF k p (pow j q r) (omega arith) N ∙ add-comm (val p N) (val (pow j q r) N)
+  val-sumF (suc k) (pow j q r) (pop (suc i) p) h N =
+      sum-tail j q r i p (sumF R k r (lower i p)) N (val-sumF k r (lower i p) (lower-fits i p r k (omega arith)) (tl N))
+  val-sumF (suc k) (pow i p q) (pow j r s) h N =
+      cmp-cases i j (λ z. val z N ≡ val (pow i p q) N ⊞ val (pow j r s) N) _ _ _
+      (λ e. sum-same i j p q r s (sumF R k p r) (sumF R k q s) N e (val-sumF k p r (omega arith) N) (val-sumF k q s (omega arith) (tl N)))
+      (λ d e. sum-more i j d p q r s (sumF R k (alone d p) r) (sumF R k q s) N e
+      (val-sumF k (alone d p) r (omega (arith, size-pos q)) N) (val-sumF k q s (omega arith) (tl N)))
+      (λ d e. sum-more j i d r s p q (sumF R k (alone d r) p) (sumF R k s q) N e
+      (val-sumF k (alone d r) p (omega (arith, size-pos s)) N) (val-sumF k s q (omega arith) (tl N))
+      ∙ add-comm (val (pow j r s) N) (val (pow i p q) N))
+
+  -- Lemma 3
+  pub val-sum : (x y : Form A) (N : List A) → val (sum R x y) N ≡ val x N ⊞ val y N
+  val-sum x y N = val-sumF (size x + size y) x y (omega arith) N
+
+  -- ---- the negation: Lemma 4
+  pub val-negate : (x : Form A) (N : List A) → val (negate R x) N ≡ neg (val x N)
+  val-negate (int a) N = refl
+  val-negate (pop i p) N = val-negate p (after i N)
+  val-negate (pow i p q) N =
+      let u = power R (hd R N) i in
+      let P = val p N in
+      let Q = val q (tl N) in
+      u · val (negate R p) N ⊞ val (negate R q) (tl N) ≡⟨ ap₂ (λ z w. u · z ⊞ w) (val-negate p N) (val-negate q (tl N)) ⟩
+      u · neg P ⊞ neg Q ≡⟨ ap (λ z. z ⊞ neg Q) (mul-neg R u P) ⟩
+      neg (u · P) ⊞ neg Q ≡⟨ sym (neg-of-add R (u · P) Q) ⟩
+      neg (u · P ⊞ Q) ∎

@@ -1,4 +1,5 @@
--- The absolute value is a size of integers: a sum does not pass the sum of the two, a product not their product. So the weight goes under the operations.
+-- The absolute value is a size of integers: a sum does not pass the sum of the two, a product not their product. So the weight goes under
+-- the operations.
 use mathlib.Core.Path.{_≡_, refl, sym, subst}
 use Prim.Native.Nat.{ℕ, zero, suc, _+_, _-_, _≤_, _*_, _^_}
 use native.Mathlib.Nat as NatL
@@ -15,7 +16,8 @@ abs-neg (suc n) = refl
 
 abs-sub : (a b : ℕ) → natAbs (subℕ a b) ≤ a + b
 abs-sub a b =
-    cond-cases (ltb a b) (λ z. natAbs z ≤ a + b) (negsuc (b - suc a)) (pos (a - b)) (λ e. omega (arith, ltb→lt a b (subst T (sym e) tt))) (λ e. omega arith)
+    cond-cases (ltb a b) (λ z. natAbs z ≤ a + b) (negsuc (b - suc a)) (pos (a - b)) (λ e. omega (arith, ltb→lt a b (subst T (sym e) tt)))
+    (λ e. omega arith)
 
 abs-add : (a b : ℤ) → natAbs (a +ℤ b) ≤ natAbs a + natAbs b
 abs-add (pos a) (pos b) = omega arith

@@ -32,12 +32,13 @@ lesser-requires c κs = search needs
 
 returns : tie.Need-returns
 returns c =
-    let larger4 = c .before .before .before .before .before .before .larger4 in
-    let larger3 = c .before .before .before .before .before .before .before .larger3 in
-    let larger2 = c .before .before .before .before .before .before .before .before .larger2 in
-    let larger = c .before .before .before .before .before .before .before .before .before .larger in
-    let start = c .before .before .before .before .before .before .before .before .before .before in
-    made (min (start .args .a .terms + start .args .b .terms)) refl (larger .ensures) (larger2 .ensures) (larger3 .ensures) (larger4 .ensures) (c .before .box-of .ensures) (c .lesser .ensures)
+    let at-larger4 : tie.After-larger4 = c .before .before .before .before .before .before in
+    let at-larger : tie.After-larger = at-larger4 .before .before .before in
+    let s = at-larger .before in
+    let larger3 = at-larger4 .before .larger3 in
+    let larger2 = at-larger4 .before .before .larger2 in
+    made (min (s .args .a .terms + s .args .b .terms)) refl (at-larger .larger .ensures) (larger2 .ensures) (larger3 .ensures)
+    (at-larger4 .larger4 .ensures) (c .before .box-of .ensures) (c .lesser .ensures)
 
 pub add-spec : {M : Type 1} → statement M
 add-spec =

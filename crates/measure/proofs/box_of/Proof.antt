@@ -32,7 +32,8 @@ unfolding boxM
 returns c =
     let a = c .before .before .before .args in
     c .cut-product3 .ensures
-    ∙ ap (λ m. min ((a .a + 1) * m) 16777216) (c .before .cut-product2 .ensures ∙ ap (λ m. min ((a .b + 1) * m) 16777216) (c .before .before .cut-product .ensures))
+    ∙ ap (λ m. min ((a .a + 1) * m) 16777216)
+    (c .before .cut-product2 .ensures ∙ ap (λ m. min ((a .b + 1) * m) 16777216) (c .before .before .cut-product .ensures))
 
 pub box-of-spec : {M : Type 1} → statement M
 box-of-spec =

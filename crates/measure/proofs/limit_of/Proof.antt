@@ -13,37 +13,45 @@ returns-2 c = sym (pick-no _ _ (le-ltb _ _ (c .before .before .if1 .left)) ∙ p
 
 returns-3 : tie.Need-returns-3
 returns-3 c =
-    let if1 = c .before .before .before .before .if1 in
-    sym (pick-no _ _ (le-ltb _ _ (if1 .left)) ∙ pick-no _ _ (le-ltb _ _ (c .before .before .if2 .left)) ∙ pick-yes _ _ (lt-ltb _ _ (c .if3 .taken)))
+    let at-else1 : tie.Else1 = c .before .before .before .before in
+    sym (pick-no _ _ (le-ltb _ _ (at-else1 .if1 .left)) ∙ pick-no _ _ (le-ltb _ _ (c .before .before .if2 .left))
+    ∙ pick-yes _ _ (lt-ltb _ _ (c .if3 .taken)))
 
 returns-4 : tie.Need-returns-4
 returns-4 c =
-    let if2 = c .before .before .before .before .if2 in
-    let if1 = c .before .before .before .before .before .before .if1 in
-    sym (pick-no _ _ (le-ltb _ _ (if1 .left)) ∙ pick-no _ _ (le-ltb _ _ (if2 .left)) ∙ pick-no _ _ (le-ltb _ _ (c .before .before .if3 .left)) ∙ pick-yes _ _ (lt-ltb _ _ (c .if4 .taken)))
+    let at-else2 : tie.Else2 = c .before .before .before .before in
+    let at-else1 = at-else2 .before .before in
+    sym (pick-no _ _ (le-ltb _ _ (at-else1 .if1 .left)) ∙ pick-no _ _ (le-ltb _ _ (at-else2 .if2 .left))
+    ∙ pick-no _ _ (le-ltb _ _ (c .before .before .if3 .left)) ∙ pick-yes _ _ (lt-ltb _ _ (c .if4 .taken)))
 
 returns-5 : tie.Need-returns-5
 returns-5 c =
-    let if3 = c .before .before .before .before .if3 in
-    let if2 = c .before .before .before .before .before .before .if2 in
-    let if1 = c .before .before .before .before .before .before .before .before .if1 in
-    sym (pick-no _ _ (le-ltb _ _ (if1 .left)) ∙ pick-no _ _ (le-ltb _ _ (if2 .left)) ∙ pick-no _ _ (le-ltb _ _ (if3 .left)) ∙ pick-no _ _ (le-ltb _ _ (c .before .before .if4 .left)) ∙ pick-yes _ _ (lt-ltb _ _ (c .if5 .taken)))
+    let at-else3 : tie.Else3 = c .before .before .before .before in
+    let at-else2 = at-else3 .before .before in
+    let if1 = at-else2 .before .before .if1 in
+    sym (pick-no _ _ (le-ltb _ _ (if1 .left)) ∙ pick-no _ _ (le-ltb _ _ (at-else2 .if2 .left))
+    ∙ pick-no _ _ (le-ltb _ _ (at-else3 .if3 .left)) ∙ pick-no _ _ (le-ltb _ _ (c .before .before .if4 .left))
+    ∙ pick-yes _ _ (lt-ltb _ _ (c .if5 .taken)))
 
 returns-6 : tie.Need-returns-6
 returns-6 c =
-    let if4 = c .before .before .before .before .if4 in
-    let if3 = c .before .before .before .before .before .before .if3 in
-    let if2 = c .before .before .before .before .before .before .before .before .if2 in
-    let if1 = c .before .before .before .before .before .before .before .before .before .before .if1 in
-    sym (pick-no _ _ (le-ltb _ _ (if1 .left)) ∙ pick-no _ _ (le-ltb _ _ (if2 .left)) ∙ pick-no _ _ (le-ltb _ _ (if3 .left)) ∙ pick-no _ _ (le-ltb _ _ (if4 .left)) ∙ pick-no _ _ (le-ltb _ _ (c .before .before .if5 .left)) ∙ pick-yes _ _ (lt-ltb _ _ (c .if6 .taken)))
+    let at-else4 : tie.Else4 = c .before .before .before .before in
+    let at-else3 = at-else4 .before .before in
+    let at-else2 = at-else3 .before .before in
+    let at-else1 = at-else2 .before .before in
+    sym (pick-no _ _ (le-ltb _ _ (at-else1 .if1 .left)) ∙ pick-no _ _ (le-ltb _ _ (at-else2 .if2 .left))
+    ∙ pick-no _ _ (le-ltb _ _ (at-else3 .if3 .left)) ∙ pick-no _ _ (le-ltb _ _ (at-else4 .if4 .left))
+    ∙ pick-no _ _ (le-ltb _ _ (c .before .before .if5 .left)) ∙ pick-yes _ _ (lt-ltb _ _ (c .if6 .taken)))
 
 returns-7 : tie.Need-returns-7
 returns-7 c =
-    let if4 = c .before .before .before .before .if4 in
-    let if3 = c .before .before .before .before .before .before .if3 in
-    let if2 = c .before .before .before .before .before .before .before .before .if2 in
-    let if1 = c .before .before .before .before .before .before .before .before .before .before .if1 in
-    sym (pick-no _ _ (le-ltb _ _ (if1 .left)) ∙ pick-no _ _ (le-ltb _ _ (if2 .left)) ∙ pick-no _ _ (le-ltb _ _ (if3 .left)) ∙ pick-no _ _ (le-ltb _ _ (if4 .left)) ∙ pick-no _ _ (le-ltb _ _ (c .before .before .if5 .left)) ∙ pick-no _ _ (le-ltb _ _ (c .if6 .left)))
+    let at-else4 : tie.Else4 = c .before .before .before .before in
+    let at-else3 = at-else4 .before .before in
+    let at-else2 = at-else3 .before .before in
+    let at-else1 = at-else2 .before .before in
+    sym (pick-no _ _ (le-ltb _ _ (at-else1 .if1 .left)) ∙ pick-no _ _ (le-ltb _ _ (at-else2 .if2 .left))
+    ∙ pick-no _ _ (le-ltb _ _ (at-else3 .if3 .left)) ∙ pick-no _ _ (le-ltb _ _ (at-else4 .if4 .left))
+    ∙ pick-no _ _ (le-ltb _ _ (c .before .before .if5 .left)) ∙ pick-no _ _ (le-ltb _ _ (c .if6 .left)))
 
 pub limit-of-spec : {M : Type 1} → statement M
 limit-of-spec =

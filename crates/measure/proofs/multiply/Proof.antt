@@ -23,12 +23,16 @@ add-d3 c = search needs
 cut-product-requires : tie.Need-cut-product-requires
 cut-product-requires c κs = search needs
 
+-- the places that are looked at, each seen from a later one
+abbrev start : tie.After-cut-product → tie.Start
+start c = c .before .before .before .before .before .before .before .before .before
+
 mul-lesser : tie.Need-mul-lesser
 mul-lesser c =
-    let start = c .before .before .before .before .before .before .before .before .before .before .before in
-    let a = start .args .a .terms in
-    let d = start .args .b .terms in
-    let e : a * d ≤ 256 * 256 = mul-le-mul (start .pre .0 .terms-small) (start .pre .1 .terms-small) in
+    let s = start (c .before .before) in
+    let a = s .args .a .terms in
+    let d = s .args .b .terms in
+    let e : a * d ≤ 256 * 256 = mul-le-mul (s .pre .0 .terms-small) (s .pre .1 .terms-small) in
     omega arith
 
 box-of-requires : tie.Need-box-of-requires
@@ -39,9 +43,10 @@ lesser-requires c κs = search needs
 
 returns : tie.Need-returns
 returns c =
-    let cut-product = c .before .before .before .before .cut-product in
-    let start = c .before .before .before .before .before .before .before .before .before .before .before .before .before in
-    made (min (start .args .a .terms * start .args .b .terms)) (cut-product .ensures) refl refl refl refl (c .before .box-of .ensures) (c .lesser .ensures)
+    let at-cut-product : tie.After-cut-product = c .before .before .before .before in
+    let s = start at-cut-product in
+    made (min (s .args .a .terms * s .args .b .terms)) (at-cut-product .cut-product .ensures) refl refl refl refl
+    (c .before .box-of .ensures) (c .lesser .ensures)
 
 pub multiply-spec : {M : Type 1} → statement M
 multiply-spec =

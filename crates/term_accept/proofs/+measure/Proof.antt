@@ -33,7 +33,7 @@ use Rattle.term_accept.proofs.+measure.Tie.{close}
 
 -- what is not done
 stops : (x : Sub) → OneOf (0 ∷ 2 ∷ []) (tagOf the-type x) → Stops x
-stops (Refused e p) k = by-refusal e p
+stops (Refused bad) k = by-refusal bad
 stops (Done m nx) k = absurd (miss (0 ∷ 2 ∷ []) 1 tt k)
 stops Broken k = by-break
 

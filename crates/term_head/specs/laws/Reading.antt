@@ -43,15 +43,6 @@ module _ (s : List ℕ) (at : ℕ) (l : at ≤ length s) where
       let m : from s (nx .at) ≡ ks = cc in
       (q ∙ ap operatorOf j, record { tokens = m; later = omega (arith, o .past .later, o .past .more); inside = o .past .inside })
 
-  pub no-operator-open : (f : ℕ) (nx : Reader) (k n : ℕ) → stepOf (from s at) ≡ Open f nx → Operated s at k n
-  no-operator-open f nx k n e p w ks h = opening-word (sym (told (Open f nx) e .first) ∙ h)
-
-  pub no-operator-close : (f : ℕ) (nx : Reader) (k n : ℕ) → stepOf (from s at) ≡ Close f nx → Operated s at k n
-  no-operator-close f nx k n e p w ks h = word-closing (sym h ∙ told (Close f nx) e .first)
-
-  pub no-operator-end : (k n : ℕ) → stepOf (from s at) ≡ End → Operated s at k n
-  no-operator-end k n e p w ks h = none-some (sym (told End e) ∙ h)
-
   -- ---- the head of a term
   pub head-end : (k f n : ℕ) → stepOf (from s at) ≡ End → Headed s at k f n
   head-end k f n e = at-tree
@@ -158,15 +149,6 @@ module _ (s : List ℕ) (at : ℕ) (l : at ≤ length s) where
     where
       no : NotPlaced (nx .at)
       no x rest h = absurd (omega (arith, head-close 1 0 0 q nx e x rest h .is-kind, head-close 0 0 0 q nx e x rest h .is-kind))
-
-  pub past-open : (q : ℕ) (nx : Reader) → stepOf (from s at) ≡ Open q nx → Passed s at 0
-  past-open q nx e = record { yes = λ c ks h. opening-closing (sym (told (Open q nx) e .first) ∙ h); no = λ x rest h. refl }
-
-  pub past-word : (q : ℕ) (nx : Reader) → stepOf (from s at) ≡ Word q nx → Passed s at 0
-  past-word q nx e = record { yes = λ c ks h. word-closing (sym (told (Word q nx) e .first) ∙ h); no = λ x rest h. refl }
-
-  pub past-end : stepOf (from s at) ≡ End → Passed s at 0
-  past-end e = record { yes = λ c ks h. none-some (sym (told End e) ∙ h); no = λ x rest h. refl }
 
   -- ---- one token passed
   pub turn-word : (f depth : ℕ) (nx : Reader) → stepOf (from s at) ≡ Word f nx → Turned s at depth (nx .at) depth

@@ -14,61 +14,49 @@ use Rattle.term_read.proofs.read_term.Lts as lts
 use Rattle.term_build.proofs.build_term.Reads as build-term-reads
 use Rattle.term_accept.proofs.accept_term.Reads as accept-term-reads
 
--- src/lib.rt:109:9
 accept-term-requires : tie.Need-accept-term-requires
 accept-term-requires c κs =
     let start = c .before .before .before .before .before .before in
     row-length (now (start .args .row)) (start .pre .0) .1
 
--- src/lib.rt:111:25
 enum-known-reading : tie.Need-enum-known-reading
 enum-known-reading c = search needs
 
--- src/lib.rt:116:17
 enum-told : tie.Need-enum-told
 enum-told c = search needs
 
--- src/lib.rt:116:17
 slice-relend-prefix-build-term : tie.Need-slice-relend-prefix-build-term
 slice-relend-prefix-build-term c = search needs
 
--- src/lib.rt:116:17
 slice-aggregate-build-term : tie.Need-slice-aggregate-build-term
 slice-aggregate-build-term c =
     let start = c .before .before .before .before .before .before .before .before .before .before in
     sym (length-take-le 16384 (start .args .a .now) (start .pre .1 .first))
 
--- src/lib.rt:117:17
 slice-relend-prefix-build-term-2 : tie.Need-slice-relend-prefix-build-term-2
 slice-relend-prefix-build-term-2 c = search needs
 
--- src/lib.rt:117:17
 slice-aggregate-build-term-2 : tie.Need-slice-aggregate-build-term-2
 slice-aggregate-build-term-2 c =
     let start = c .before .before .before .before .before .before .before .before .before .before .before in
     sym (length-take-le 16384 (start .args .b .now) (start .pre .1 .second))
 
--- src/lib.rt:118:17
 slice-relend-prefix-build-term-3 : tie.Need-slice-relend-prefix-build-term-3
 slice-relend-prefix-build-term-3 c = search needs
 
--- src/lib.rt:118:17
 slice-aggregate-build-term-3 : tie.Need-slice-aggregate-build-term-3
 slice-aggregate-build-term-3 c =
     let start = c .before .before .before .before .before .before .before .before .before .before .before .before in
     sym (length-take-le 16384 (start .args .c .now) (start .pre .1 .third))
 
--- src/lib.rt:119:17
 slice-relend-prefix-build-term-4 : tie.Need-slice-relend-prefix-build-term-4
 slice-relend-prefix-build-term-4 c = search needs
 
--- src/lib.rt:119:17
 slice-aggregate-build-term-4 : tie.Need-slice-aggregate-build-term-4
 slice-aggregate-build-term-4 c =
     let start = c .before .before .before .before .before .before .before .before .before .before .before .before .before in
     sym (length-take-le 6146 (start .args .d .now) (start .pre .1 .fourth))
 
--- src/lib.rt:113:17
 build-term-requires : tie.Need-build-term-requires
 build-term-requires c κs =
     let at-enum-told = c .before .before .before .before .enum-told in
@@ -76,27 +64,21 @@ build-term-requires c κs =
     let start = c .before .before .before .before .before .before .before .before .before .before .before .before .before in
     (accepted-given _ _ (start .pre .0) (sym (accept-term .ensures) ∙ at-enum-told .given .1), long-lent (length-take-le 16384 (start .args .a .now) (start .pre .1 .first)) (length-take-le 16384 (start .args .b .now) (start .pre .1 .second)) (length-take-le 16384 (start .args .c .now) (start .pre .1 .third)) (length-take-le 6146 (start .args .d .now) (start .pre .1 .fourth)))
 
--- src/lib.rt:97:1
 returns : tie.Need-returns
-returns c = read-refused _ _ _ _ _ (sym (c .before .before .before .accept-term .ensures) ∙ c .before .reading .given .1)
+returns c = read-refused _ _ _ _ (sym (c .before .before .before .accept-term .ensures) ∙ c .before .reading .given .1)
 
--- src/lib.rt:97:1
 same-length : tie.Need-same-length
 same-length c = search needs
 
--- src/lib.rt:97:1
 same-length-2 : tie.Need-same-length-2
 same-length-2 c = search needs
 
--- src/lib.rt:97:1
 same-length-3 : tie.Need-same-length-3
 same-length-3 c = search needs
 
--- src/lib.rt:97:1
 same-length-4 : tie.Need-same-length-4
 same-length-4 c = search needs
 
--- src/lib.rt:97:1
 returns-2 : tie.Need-returns-2
 returns-2 c =
     let build-term = c .before .before .before .before .before .before .before .before .build-term in

@@ -1,10 +1,11 @@
 -- What is read of a term's text, by what the passes before tell.
 use mathlib.Core.Bool.{true}
 use mathlib.Core.List.{List, _++_}
-use mathlib.Core.Path.{_≡_, refl, sym, ap₂, _∙_}
+use mathlib.Core.Path.{_≡_, refl, sym, ap, _∙_}
 use Prim.Native.Nat.{ℕ}
 use native.Mathlib.Omega.{arith}
 use lib.Seq.{take-append-le}
+use Rattle.refusal.specs.declared.Fault.{Fault}
 use Rattle.text.specs.definitions.Answer.{Reading, read, refused}
 use Rattle.text.specs.definitions.Bytes.{isRow}
 use Rattle.text.specs.definitions.Limits.{acceptTerm}
@@ -13,28 +14,28 @@ use Rattle.horner.specs.definitions.Term.{normP}
 use Rattle.code.specs.Coding.{Made, Begins}
 use Rattle.code.proofs.Lists.{begins-le}
 use Rattle.term_syntax.specs.Answer.{syntaxOf}
-use Rattle.term_syntax.specs.declared.Syntax.the-variants as Syn
+use Rattle.term_syntax.specs.declared.TermSyntax.the-variants as Syn
 use Rattle.term_accept.specs.Accepting.{term-refused}
 use Rattle.term_build.specs.Stack.{Given, Lent}
-use Rattle.door.specs.declared.Read.{Read}
-use Rattle.door.specs.declared.Read.the-variants.{Form, Refused}
+use Rattle.term_read.specs.declared.TermReading.{TermReading}
+use Rattle.term_read.specs.declared.TermReading.the-variants.{Form, Refused}
 use Rattle.term_read.specs.Read.{IsTerm, TermRead, refusal, form}
 
 module _ (row s : List ℕ) where
   -- the syntax pass and the measures refuse
-  pub read-refused : (e p : ℕ) (l : List ℕ) → syntaxOf (acceptTerm row s) ≡ Syn.Refused e p → TermRead row s (Refused e p) l
-  read-refused e p l = go (acceptTerm row s) refl
+  pub read-refused : (bad : Fault) (l : List ℕ) → syntaxOf (acceptTerm row s) ≡ Syn.Refused bad → TermRead row s (Refused bad) l
+  read-refused bad l = go (acceptTerm row s) refl
     where
-      go : (x : Reading Tree) → acceptTerm row s ≡ x → syntaxOf x ≡ Syn.Refused e p → TermRead row s (Refused e p) l
+      go : (x : Reading Tree) → acceptTerm row s ≡ x → syntaxOf x ≡ Syn.Refused bad → TermRead row s (Refused bad) l
       go (read t) h k = term-refused row s k
-      go (refused e′ p′) h k = let i : e′ ≡ e = cc in let j : p′ ≡ p = cc in refusal e p (h ∙ ap₂ refused i j) refl
+      go (refused worse) h k = let i : worse ≡ bad = cc in refusal bad (h ∙ ap refused i) refl
 
   pub accepted-given : isRow row ≡ true → syntaxOf (acceptTerm row s) ≡ Syn.Term → Given row s
   accepted-given r = go (acceptTerm row s) refl
     where
       go : (x : Reading Tree) → acceptTerm row s ≡ x → syntaxOf x ≡ Syn.Term → Given row s
       go (read t) h k = record { proper = r; t = t; accepted = h }
-      go (refused e p) h k = term-refused row s (sym k)
+      go (refused bad) h k = term-refused row s (sym k)
 
 -- as much of the tables as a term's building asks
 pub long-lent : {a b c d : ℕ} → a ≡ 16384 → b ≡ 16384 → c ≡ 16384 → d ≡ 6146 → Lent a b c d
@@ -45,16 +46,16 @@ long-lent h i j k =
     }
 
 -- ---- what was read, by the enum
-no-form : {P : Type 0} {n e p : ℕ} → _≡_ {A = Read} (Form n) (Refused e p) → P
+no-form : {P : Type 0} {n : ℕ} {bad : Fault} → _≡_ {A = TermReading} (Form n) (Refused bad) → P
 no-form h = absurd (let z : _≡_ {A = ℕ} 0 1 = cc in omega arith)
 
-pub read-form : {row s : List ℕ} {l : List ℕ} {n : ℕ} {r : Read} → r ≡ Form n → TermRead row s r l → IsTerm row s n l
-read-form h (refusal e p a i) = no-form (sym h ∙ i)
+pub read-form : {row s : List ℕ} {l : List ℕ} {n : ℕ} {r : TermReading} → r ≡ Form n → TermRead row s r l → IsTerm row s n l
+read-form h (refusal bad a i) = no-form (sym h ∙ i)
 read-form {n = n} h (form m t i) = let e : m ≡ n = cc in rw e at t
 
-pub read-refusal : {row s : List ℕ} {l : List ℕ} {e p : ℕ} {r : Read} → r ≡ Refused e p → TermRead row s r l → acceptTerm row s ≡ refused e p
+pub read-refusal : {row s : List ℕ} {l : List ℕ} {bad : Fault} {r : TermReading} → r ≡ Refused bad → TermRead row s r l → acceptTerm row s ≡ refused bad
 read-refusal h (form n t i) = no-form (sym i ∙ h)
-read-refusal {e = e} {p = p} h (refusal e′ p′ a i) = let j : e′ ≡ e = cc in let k : p′ ≡ p = cc in a ∙ ap₂ refused j k
+read-refusal {bad = bad} h (refusal worse a i) = let j : worse ≡ bad = cc in a ∙ ap refused j
 
 -- what stands at the front of a table stands there also where more follows
 begins-front : {r : ℕ} {w : List ℕ} (l k : List ℕ) → Begins r w l → Begins r w (l ++ k)

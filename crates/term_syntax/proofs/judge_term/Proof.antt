@@ -41,7 +41,7 @@ returns-2 : tie.Need-returns-2 Inv-loop μ-loop
 returns-2 c =
     let loop = c .before .before .before .before .loop in
     let start = c .before .before .before .before .before .before .before .before .before in
-    leads (now (start .args .row)) (now (start .args .s)) (loop .reader) (loop .state) (loop .inv) (T.Refused _ _) (sym (c .before .before .before .turn .ensures) ∙ c .before .t .given .1)
+    leads (now (start .args .row)) (now (start .args .s)) (loop .reader) (loop .state) (loop .inv) (T.Refused _) (sym (c .before .before .before .turn .ensures) ∙ c .before .t .given .1)
 
 enum-known-t-2 : tie.Need-enum-known-t-2 Inv-loop μ-loop
 enum-known-t-2 c = search needs

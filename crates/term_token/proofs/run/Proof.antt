@@ -27,7 +27,8 @@ is-plain-requires c κs = search needs
 
 returns : tie.Need-returns Inv-loop μ-loop
 returns c =
-    let l = c .before .before .before .before .loop in
+    let at-loop : tie.At-loop Inv-loop μ-loop = c .before .before .before .before in
+    let l = at-loop .loop in
     (sym (lead-off plain _ (l .i) (omega arith) (sym (c .before .is-plain .ensures) ∙ not-true _ (c .if1 .taken))) ∙ l .inv .1, l .inv .0)
 
 add-i : tie.Need-add-i Inv-loop μ-loop
@@ -38,7 +39,8 @@ loop-less c = omega arith
 
 loop-again : tie.Need-loop-again Inv-loop μ-loop
 loop-again c =
-    let l = c .before .before .before .before .loop in
+    let at-loop : tie.At-loop Inv-loop μ-loop = c .before .before .before .before in
+    let l = at-loop .loop in
     (omega arith, sym (lead-on plain _ (l .i) (omega arith) (sym (c .before .is-plain .ensures) ∙ not-false _ (c .if1 .left))) ∙ l .inv .1)
 
 returns-2 : tie.Need-returns-2 Inv-loop μ-loop

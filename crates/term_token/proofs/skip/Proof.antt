@@ -28,7 +28,8 @@ is-blank-requires c κs = search needs
 
 returns : tie.Need-returns Inv-loop μ-loop
 returns c =
-    let l = c .before .before .before .before .loop in
+    let at-loop : tie.At-loop Inv-loop μ-loop = c .before .before .before .before in
+    let l = at-loop .loop in
     (sym (lead-off blank _ (l .i) (omega arith) (sym (c .before .is-blank .ensures) ∙ not-true _ (c .if1 .taken))) ∙ l .inv .1, l .inv .0)
 
 add-i : tie.Need-add-i Inv-loop μ-loop
@@ -39,7 +40,8 @@ loop-less c = omega (arith)
 
 loop-again : tie.Need-loop-again Inv-loop μ-loop
 loop-again c =
-    let l = c .before .before .before .before .loop in
+    let at-loop : tie.At-loop Inv-loop μ-loop = c .before .before .before .before in
+    let l = at-loop .loop in
     (omega arith, sym (lead-on blank _ (l .i) (omega arith) (sym (c .before .is-blank .ensures) ∙ not-false _ (c .if1 .left))) ∙ l .inv .1)
 
 returns-2 : tie.Need-returns-2 Inv-loop μ-loop

@@ -9,7 +9,7 @@ use Rattle.horner.specs.definitions.Form.{Form, int, pop, pow}
 use Rattle.horner.specs.definitions.Integers.{ℤ-ring}
 use Rattle.horner.specs.definitions.Measures.{weight, degrees, terms}
 use Rattle.horner.specs.definitions.Normal.{isPow, leads}
-use Rattle.text.specs.definitions.Answer.{Reading, read, refused, fine}
+use Rattle.text.specs.definitions.Answer.{Reading, read, refused, refusedAt, fine}
 use Rattle.text.specs.definitions.Bytes.{all}
 use Rattle.text.specs.definitions.FormReading.{readForm}
 use Rattle.text.specs.definitions.FormText.{text, popHead, powHead}
@@ -39,7 +39,7 @@ stands m l (pow i x y) = ltb l m && leb 1 i && leads ℤ-ring x
 -- "For 7 .. the first offending node in order of finishing decides"
 abbrev pub firstWrong : ℕ → Reading (Form ℤ) → List Node → Reading (Form ℤ)
 firstWrong m r [] = r
-firstWrong m r (k ∷ ks) = elim (stands m (k .level) (k .form)) [ true ↦ firstWrong m r ks | false ↦ refused 7 (k .place) ]
+firstWrong m r (k ∷ ks) = elim (stands m (k .level) (k .form)) [ true ↦ firstWrong m r ks | false ↦ refusedAt 7 (k .place) ]
 
 -- "A form's measures are those of the polynomial itself"; the same limits, place "0 for forms"
 abbrev pub passes : ℕ → Form ℤ → ℕ
@@ -50,11 +50,11 @@ passes m f =
     ]
 
 abbrev pub thenMeasured : ℕ → Reading (Form ℤ) → Reading (Form ℤ)
-thenMeasured m (refused e p) = refused e p
+thenMeasured m (refused bad) = refused bad
 thenMeasured m (read f) = fine (passes m f) 0 (λ u. read f)
 
 abbrev pub thenJudged : ℕ → Reading (Form ℤ) → Reading (Form ℤ)
-thenJudged m (refused e p) = refused e p
+thenJudged m (refused bad) = refused bad
 thenJudged m (read f) = thenMeasured m (firstWrong m (read f) (nodes 0 0 f))
 
 -- a form's text, with all its refusals, over a row of m: "then 3; then 4, 5, 6 at the earliest place; then 7; then 8, 9, 10"

@@ -7,7 +7,7 @@ use lib.Dec.{eqb, leb, ltb}
 use lib.IntN.{ℤ}
 use lib.ListN.{length}
 use Rattle.horner.specs.definitions.Form.{Form, int, pop, pow}
-use Rattle.text.specs.definitions.Answer.{Reading, read, refused, fine}
+use Rattle.text.specs.definitions.Answer.{Reading, read, refusedAt, fine}
 use Rattle.text.specs.definitions.Bytes.{bytes, same}
 use Rattle.text.specs.definitions.Numerals.{canonical, readNat, readInt, isSome}
 
@@ -89,7 +89,7 @@ wholeForm (behind f) [] = some f
 wholeForm (behind f) (g ∷ fs) = none
 
 abbrev pub wholeOr : ℕ → Option (Form ℤ) → Reading (Form ℤ)
-wholeOr p none = refused 4 p
+wholeOr p none = refusedAt 4 p
 wholeOr p (some f) = read f
 
 -- over a test for the depths at which a parenthesis may still be opened
@@ -105,9 +105,9 @@ module _ (room : ℕ → Bool) where
   abbrev pub run : ℕ → Spot → List Frame → List ℕ → Reading (Form ℤ)
   run p s fs [] = wholeOr p (wholeForm s fs)
   run p s fs (b ∷ bs) =
-      caseNext (step s fs b) (refused 4 p) (λ s′ fs′. fine (check s (length fs) b) p (λ u. run (suc p) s′ fs′ bs))
+      caseNext (step s fs b) (refusedAt 4 p) (λ s′ fs′. fine (check s (length fs) b) p (λ u. run (suc p) s′ fs′ bs))
 
 -- "form .. over 65,535" bytes; "Forms nest at most 256 deep."
 unfoldable pub readForm : List ℕ → Reading (Form ℤ)
 unfolding readNat readInt
-readForm s = elim (leb (length s) 65535) [ true ↦ run (λ d. ltb d 256) 0 before [] s | false ↦ refused 3 0 ]
+readForm s = elim (leb (length s) 65535) [ true ↦ run (λ d. ltb d 256) 0 before [] s | false ↦ refusedAt 3 0 ]

@@ -55,7 +55,7 @@ unfoldable pub measured : List ℕ → Tree → Reading Tree
 measured row t = firstPast row (read t) (finishing t)
 
 abbrev pub thenMeasured : List ℕ → Reading Tree → Reading Tree
-thenMeasured row (refused e p) = refused e p
+thenMeasured row (refused bad) = refused bad
 thenMeasured row (read t) = measured row t
 
 -- a term's text, with all its refusals: "then 3; then 4, 5, 6 at the earliest place; .. then 8, 9, 10"

@@ -15,23 +15,8 @@ pub record IsTerm (row s : List ℕ) (t : Tree) : Type 0 where
   pub in-row : letters (λ b. capital b && inRow row b) t ≡ true
   pub shallow : nesting t ≤ 16
 
--- the same tokens, wherever they stand
-abbrev pub Alike : List Token → List Token → Type 0
-Alike [] [] = Unit {0}
-Alike [] (l ∷ ls) = ⊥
-Alike (k ∷ ks) [] = ⊥
-Alike (opening p ∷ ks) (opening q ∷ ls) = Alike ks ls
-Alike (opening p ∷ ks) (closing q ∷ ls) = ⊥
-Alike (opening p ∷ ks) (word q v ∷ ls) = ⊥
-Alike (closing p ∷ ks) (opening q ∷ ls) = ⊥
-Alike (closing p ∷ ks) (closing q ∷ ls) = Alike ks ls
-Alike (closing p ∷ ks) (word q v ∷ ls) = ⊥
-Alike (word p w ∷ ks) (opening q ∷ ls) = ⊥
-Alike (word p w ∷ ks) (closing q ∷ ls) = ⊥
-Alike (word p w ∷ ks) (word q v ∷ ls) = (w ≡ v) × Alike ks ls
-
 -- "a term of any size begins with the tokens so far (an unknown capital counts as a letter here)": the tokens, some tokens behind them, are a term's; the
--- places in a tree are any numbers, and it does not matter where the tokens stand (text_laws/Alike, begun-alike)
+-- places in a tree are any numbers
 pub record Begun (ks : List Token) : Type 0 where
   pub term : Tree
   pub rest : List Token

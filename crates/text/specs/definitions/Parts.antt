@@ -2,12 +2,11 @@
 use mathlib.Core.Bool.{true}
 use mathlib.Core.List.{List, [], _∷_, _++_}
 use mathlib.Core.Path.{_≡_}
-use Prim.Native.Nat.{ℕ, _-_, _≤_, _<_}
-use lib.ListN.{length, take, drop}
+use Prim.Native.Nat.{ℕ, _≤_}
+use lib.ListN.{length}
 use Rattle.horner.specs.definitions.Measures.{weightOf, degreesOf, termsOf, AllLe}
 use Rattle.text.specs.definitions.Limits.{exponentFits, finishing, passes}
-use Rattle.text.specs.definitions.Tokens.{tokens}
-use Rattle.text.specs.definitions.Tree.{Sign, Tree, neg, two, power, startOf, endOf, placed, termOf}
+use Rattle.text.specs.definitions.Tree.{Sign, Tree, neg, two, power, startOf, termOf}
 
 -- x is a subterm of the other
 pub data Part (x : Tree) : Tree → Type 0 where
@@ -16,12 +15,6 @@ pub data Part (x : Tree) : Tree → Type 0 where
   in-left : (p o c : ℕ) (g : Sign) (y z : Tree) → Part x y → Part x (two p o c g y z)
   in-right : (p o c : ℕ) (g : Sign) (y z : Tree) → Part x z → Part x (two p o c g y z)
   in-base : (p o c : ℕ) (y : Tree) (q n : ℕ) → Part x y → Part x (power p o c y q n)
-
--- the bytes from the start of x to its end are within the text, and their tokens are those of x
-pub record Spans (s : List ℕ) (x : Tree) : Type 0 where
-  pub some : startOf x < endOf x
-  pub inside : endOf x ≤ length s
-  pub exactly : tokens (startOf x) (take (endOf x - startOf x) (drop (startOf x) s)) ≡ placed x
 
 -- "exponent n and each degree at most 63, weight at most 1,073,741,823, terms at most 256"
 pub record Fits (row : List ℕ) (t : Tree) : Type 0 where

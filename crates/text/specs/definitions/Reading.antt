@@ -8,7 +8,7 @@ use Prim.Native.Nat.{ℕ}
 use lib.Dec.{leb, ltb}
 use lib.IntN.{ℤ}
 use lib.ListN.{length}
-use Rattle.text.specs.definitions.Answer.{Reading, read, refused, fine}
+use Rattle.text.specs.definitions.Answer.{Reading, read, refusedAt, fine}
 use Rattle.text.specs.definitions.Bytes.{bytes, same, capital, inRow}
 use Rattle.text.specs.definitions.Numerals.{readNat, readInt}
 use Rattle.text.specs.definitions.Tokens.{Token, opening, closing, word, placeOf, tokens}
@@ -121,17 +121,17 @@ module _ (known room : ℕ → Bool) where
   -- behind the whole term nothing may stand
   abbrev pub onlyEnd : Tree → List Token → Reading Tree
   onlyEnd t [] = read t
-  onlyEnd t (k ∷ ks) = refused 4 (placeOf k)
+  onlyEnd t (k ∷ ks) = refusedAt 4 (placeOf k)
 
   -- n is the text's length: "or the text's length if it ends early"
   abbrev pub run : ℕ → Spot → List Frame → List Token → Reading Tree
-  run n s fs [] = refused 4 n
+  run n s fs [] = refusedAt 4 n
   run n s fs (k ∷ ks) =
-      caseNext (step s fs k) (refused 4 (placeOf k))
+      caseNext (step s fs k) (refusedAt 4 (placeOf k))
       (λ s′ fs′. fine (check (length fs) k) (placeOf k) (λ u. run n s′ fs′ ks))
       (λ t. fine (check (length fs) k) (placeOf k) (λ u. onlyEnd t ks))
 
 -- "Limits: 4,096 bytes; 16 parentheses open at once." "then 3; then 4, 5, 6 at the earliest place"; at one token 4 comes first
 unfoldable pub readTerm : List ℕ → List ℕ → Reading Tree
 unfolding readNat readInt tokens
-readTerm row s = elim (leb (length s) 4096) [ true ↦ run (inRow row) (λ d. ltb d 16) (length s) operand [] (tokens 0 s) | false ↦ refused 3 0 ]
+readTerm row s = elim (leb (length s) 4096) [ true ↦ run (inRow row) (λ d. ltb d 16) (length s) operand [] (tokens 0 s) | false ↦ refusedAt 3 0 ]

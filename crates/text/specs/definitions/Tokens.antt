@@ -1,9 +1,8 @@
 -- The tokens of a text, each with its place.
-use mathlib.Core.Bool.{Bool, true, false, _&&_, not}
+use mathlib.Core.Bool.{true, false}
 use mathlib.Core.List.{List, [], _∷_}
-use Prim.Native.Nat.{ℕ, suc, _+_}
+use Prim.Native.Nat.{ℕ, suc}
 use lib.Dec.{eqb}
-use lib.ListN.{length, drop}
 use Rattle.text.specs.definitions.Bytes.{blank}
 
 -- "A token is `(`, `)`, or a longest run of bytes that are neither blank nor parenthesis." The number is the place of its first byte.
@@ -17,12 +16,6 @@ abbrev pub placeOf : Token → ℕ
 placeOf (opening p) = p
 placeOf (closing p) = p
 placeOf (word p w) = p
-
--- the byte after the token
-abbrev pub pastOf : Token → ℕ
-pastOf (opening p) = suc p
-pastOf (closing p) = suc p
-pastOf (word p w) = p + length w
 
 pub data Class : Type 0 where
   gap : Class
@@ -50,27 +43,3 @@ put plain p x ts = join p x ts
 unfoldable pub tokens : ℕ → List ℕ → List Token
 tokens p [] = []
 tokens p (x ∷ xs) = put (classOf x) p x (tokens (suc p) xs)
-
--- ---- as a reader goes over a text s, from its place i on (text_laws/Tokens: `here`, `at-end`, `at-opening`, `at-closing`, `at-word`)
-unfoldable pub tokensAt : List ℕ → ℕ → List Token
-unfolding tokens
-tokensAt s i = tokens i (drop i s)
-
--- neither blank nor parenthesis
-abbrev pub inWord : ℕ → Bool
-inWord x = not (blank x) && (not (eqb x 40) && not (eqb x 41))
-
--- how many bytes at the front pass the test
-unfoldable pub lead : (ℕ → Bool) → List ℕ → ℕ
-lead t [] = 0
-lead t (x ∷ xs) = elim (t x) [ true ↦ suc (lead t xs) | false ↦ 0 ]
-
--- the first place at or behind i that has no blank
-unfoldable pub skipTo : List ℕ → ℕ → ℕ
-unfolding lead
-skipTo s i = i + lead blank (drop i s)
-
--- the end of the word that stands at i
-unfoldable pub wordTo : List ℕ → ℕ → ℕ
-unfolding lead
-wordTo s i = i + lead inWord (drop i s)

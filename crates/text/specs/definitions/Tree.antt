@@ -1,9 +1,8 @@
 -- A term as it stands in a text: each of its tokens with its place.
 use mathlib.Core.Bool.{Bool, true, _&&_}
 use mathlib.Core.List.{List, [], _∷_, _++_}
-use Prim.Native.Nat.{ℕ, suc, _+_, max}
+use Prim.Native.Nat.{ℕ, suc, max}
 use lib.IntN.{ℤ}
-use lib.ListN.{length}
 use Rattle.horner.specs.definitions.Term.{Term, num as number, var, minus, plus, diff, times, expt}
 use Rattle.text.specs.definitions.Bytes.{bytes, indexIn}
 use Rattle.text.specs.definitions.Numerals.{dec, writeInt}
@@ -36,13 +35,6 @@ startOf (letter p b) = p
 startOf (neg p o c x) = p
 startOf (two p o c g x y) = p
 startOf (power p o c x q n) = p
-
-abbrev pub endOf : Tree → ℕ
-endOf (num p z) = p + length (writeInt z)
-endOf (letter p b) = suc p
-endOf (neg p o c x) = suc c
-endOf (two p o c g x y) = suc c
-endOf (power p o c x q n) = suc c
 
 -- the tokens of a term, by writing it out
 abbrev pub placed : Tree → List Token

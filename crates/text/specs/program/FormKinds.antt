@@ -4,7 +4,7 @@ use mathlib.Core.List.{List, [], _∷_}
 use Prim.Native.Nat.{ℕ, suc}
 use lib.Dec.{eqb, leb, ltb}
 use lib.ListN.{length}
-use Rattle.text.specs.definitions.Answer.{Reading, read, refused, fine}
+use Rattle.text.specs.definitions.Answer.{Reading, read, refused, refusedAt, fine}
 use Rattle.text.specs.definitions.Bytes.{bytes, same, digit}
 use Rattle.text.specs.definitions.FormReading.{Frame, inPop, inPow, inRest, Kind, popKind, powKind, Spot, before, number, head, index, behind}
 
@@ -131,12 +131,17 @@ module _ (room : ℕ → Bool) where
 
   abbrev pub ended : Bool → ℕ → Reading (Unit {0})
   ended true p = read tt
-  ended false p = refused 4 p
+  ended false p = refusedAt 4 p
 
   abbrev pub walk : ℕ → Stand → List Wait → List ℕ → Reading (Unit {0})
   walk p s ws [] = ended (isWhole s ws) p
-  walk p s ws (b ∷ bs) = caseMove (move s ws b) (refused 4 p) (λ s′ ws′. fine (check s (length ws) b) p (λ u. walk (suc p) s′ ws′ bs))
+  walk p s ws (b ∷ bs) = caseMove (move s ws b) (refusedAt 4 p) (λ s′ ws′. fine (check s (length ws) b) p (λ u. walk (suc p) s′ ws′ bs))
+
+-- the answer without what was read
+abbrev pub verdict : {A : Type 0} → Reading A → Reading (Unit {0})
+verdict (read a) = read tt
+verdict (refused bad) = refused bad
 
 -- the syntax of a form's text (text_laws/FormWalk, syntax-verdict)
 unfoldable pub syntax : List ℕ → Reading (Unit {0})
-syntax s = elim (leb (length s) 65535) [ true ↦ walk (λ d. ltb d 256) 0 start [] s | false ↦ refused 3 0 ]
+syntax s = elim (leb (length s) 65535) [ true ↦ walk (λ d. ltb d 256) 0 start [] s | false ↦ refusedAt 3 0 ]

@@ -4,7 +4,7 @@ use mathlib.Core.Logic.{_↔_}
 use mathlib.Core.Path.{_≡_, refl, sym, ap, _∙_}
 use Prim.Native.Nat.{ℕ, suc}
 use native.Mathlib.Omega.{arith}
-use Rattle.text.specs.definitions.Answer.{Reading, read, refused}
+use Rattle.text.specs.definitions.Answer.{Reading, read, refused, refusedAt}
 use Rattle.text.specs.definitions.Limits.{finishing, firstPast, measured, thenMeasured, acceptTerm}
 use Rattle.text.specs.definitions.Meaning.{IsTerm}
 use Rattle.text.specs.definitions.Parts.{Part, Fits, FirstOver}
@@ -25,14 +25,14 @@ module _ (row : List ℕ) (t : Tree) where
   unfolding measured
   measured-fits = (fits-of (firstPast row (read t) (finishing t)) (past row t (finishing t)), λ h. all-pass row (read t) (finishing t) (fit-parts row t h))
 
-  over-of : (e p : ℕ) (x : Reading Tree) → Past row t (finishing t) x → x ≡ refused e p → FirstOver row t e p
+  over-of : (e p : ℕ) (x : Reading Tree) → Past row t (finishing t) x → x ≡ refusedAt e p → FirstOver row t e p
   over-of e p x (none-over a i) h = no-refusal (sym h ∙ i)
   over-of e p x (one-over us u vs k f a w i) h =
       let q = refusal-parts (suc k) _ e p (sym i ∙ h) in
       record { before = us; node = u; behind = vs; parts = f; pass = a; number = w ∙ sym (q .0); over = omega (arith, q .0); place = q .1 }
 
   -- and refuses at the first one that is not, in order of finishing
-  pub measured-over : (e p : ℕ) → measured row t ≡ refused e p → FirstOver row t e p
+  pub measured-over : (e p : ℕ) → measured row t ≡ refusedAt e p → FirstOver row t e p
   unfolding measured
   measured-over e p = over-of e p (firstPast row (read t) (finishing t)) (past row t (finishing t))
 
@@ -47,18 +47,18 @@ module _ (row : List ℕ) (t : Tree) where
 module _ (row s : List ℕ) where
   -- in document 01's order: 3, 4, 5 or 6; then 8, 9 or 10; or it stands
   pub data Outcome (x : Reading Tree) : Type 0 where
-    not-term : (e p : ℕ) → readTerm row s ≡ refused e p → x ≡ refused e p → Outcome x
-    too-big : (t : Tree) (e p : ℕ) → IsTerm row s t → FirstOver row t e p → x ≡ refused e p → Outcome x
+    not-term : (e p : ℕ) → readTerm row s ≡ refusedAt e p → x ≡ refusedAt e p → Outcome x
+    too-big : (t : Tree) (e p : ℕ) → IsTerm row s t → FirstOver row t e p → x ≡ refusedAt e p → Outcome x
     stands-as : (t : Tree) → IsTerm row s t → ((y : Tree) → Part y t → Fits row y) → x ≡ read t → Outcome x
 
   measured-outcome : (t : Tree) (x : Reading Tree) → IsTerm row s t → measured row t ≡ x → Outcome x
   measured-outcome t (read u) h e =
       let i = measured-same row t u e in
       stands-as t h (measured-fits row t .0 (e ∙ ap read (sym i))) (ap read (sym i))
-  measured-outcome t (refused e p) h i = too-big t e p h (measured-over row t e p i) refl
+  measured-outcome t (refused bad) h i = too-big t (bad .number) (bad .place) h (measured-over row t (bad .number) (bad .place) i) refl
 
   read-outcome : (x : Reading Tree) → readTerm row s ≡ x → Outcome (thenMeasured row x)
-  read-outcome (refused e p) i = not-term e p i refl
+  read-outcome (refused bad) i = not-term (bad .number) (bad .place) i refl
   read-outcome (read t) i = measured-outcome t (measured row t) (reads row s t .0 i) refl
 
   pub outcome : Outcome (acceptTerm row s)

@@ -14,7 +14,7 @@ use Rattle.text.specs.definitions.Tree.{Sign, Tree, num, letter, neg, two, powe
 
 -- the first answer where it refuses, else the second
 abbrev pub andThen : {A B : Type 0} → Reading A → Reading B → Reading B
-andThen (refused e p) r = refused e p
+andThen (refused bad) r = refused bad
 andThen (read a) r = r
 
 fine-then : {A B : Type 0} (c p : ℕ) (r : Unit {0} → Reading A) (s : Reading B) → andThen (fine c p r) s ≡ fine c p (λ u. andThen (r tt) s)

@@ -8,7 +8,7 @@ use Prim.Native.Nat.{ℕ, suc, pred, _+_, _≤_, _<_}
 use native.Mathlib.Omega.{arith}
 use lib.IntN.{ℤ, pos}
 use lib.ListN.{length}
-use Rattle.text.specs.definitions.Answer.{Reading, read, refused}
+use Rattle.text.specs.definitions.Answer.{Reading, read, refused, refusedAt}
 use Rattle.text.specs.definitions.Bytes.{capital, inRow}
 use Rattle.text.specs.definitions.Meaning.{IsTerm, Begun, openAfter, Passes, Clean, EndsEarly, RefusedAs, too-long, no-term-so, ended, unknown-letter, too-deep}
 use Rattle.text.specs.definitions.Numerals.{dec, writeInt, readInt}
@@ -201,9 +201,9 @@ module _ (row s : List ℕ) where
   not-refused t e p m (by-end i h x j) = x .no-term t (capitals-of row t (m .in-row)) (sym (m .tokens-are))
   not-refused t e p m (by-token h x) = no-stop e p (term-begun t m) (term-clean t m) x
 
-  answer : (e p : ℕ) → RefusedAs row s e p → (x : Reading Tree) → readTerm row s ≡ x → readTerm row s ≡ refused e p
+  answer : (e p : ℕ) → RefusedAs row s e p → (x : Reading Tree) → readTerm row s ≡ x → readTerm row s ≡ refusedAt e p
   answer e p a (read t) h = absurd (not-refused t e p (reads row s t .0 h) (reason e p a))
-  answer e p a (refused e′ p′) h = let q = one-refusal e′ p′ e p (why row s e′ p′ h) a in h ∙ ap₂ refused (q .0) (q .1)
+  answer e p a (refused bad) h = let q = one-refusal (bad .number) (bad .place) e p (why row s (bad .number) (bad .place) h) a in h ∙ ap₂ refusedAt (q .0) (q .1)
 
-  pub refused-exactly : (e p : ℕ) → (readTerm row s ≡ refused e p) ↔ RefusedAs row s e p
+  pub refused-exactly : (e p : ℕ) → (readTerm row s ≡ refusedAt e p) ↔ RefusedAs row s e p
   refused-exactly e p = (why row s e p, λ a. answer e p a (readTerm row s) refl)

@@ -13,7 +13,7 @@ use Rattle.horner.specs.definitions.Form.{Form}
 use Rattle.horner.specs.definitions.Integers.{ℤ-ring}
 use Rattle.horner.specs.definitions.Measures.{AllLe, degrees, weight, terms}
 use Rattle.horner.specs.definitions.Normal.{Normal}
-use Rattle.text.specs.definitions.Answer.{Reading, read, refused, fine}
+use Rattle.text.specs.definitions.Answer.{Reading, read, refused, refusedAt, fine}
 use Rattle.text.specs.definitions.Bytes.{all}
 use Rattle.text.specs.definitions.FormJudging.{Node, nodes, stands, firstWrong, passes, thenMeasured, thenJudged, acceptForm}
 use Rattle.text.specs.definitions.FormMeaning.{IsFormText, IsForm, AllStand, WrongNode}
@@ -70,7 +70,7 @@ module _ (m : ℕ) where
 
   pub data Judged (f : Form ℤ) (ks : List Node) (x : Reading (Form ℤ)) : Type 0 where
     upright : AllStand m ks → x ≡ read f → Judged f ks x
-    fallen : (ls : List Node) (k : Node) (js : List Node) → ks ≡ ls ++ (k ∷ js) → AllStand m ls → stands m (k .level) (k .form) ≡ false → x ≡ refused 7 (k .place) → Judged f ks x
+    fallen : (ls : List Node) (k : Node) (js : List Node) → ks ≡ ls ++ (k ∷ js) → AllStand m ls → stands m (k .level) (k .form) ≡ false → x ≡ refusedAt 7 (k .place) → Judged f ks x
 
   later : (f : Form ℤ) (k : Node) (ks : List Node) (x : Reading (Form ℤ)) → stands m (k .level) (k .form) ≡ true → Judged f ks x → Judged f (k ∷ ks) x
   later f k ks x h (upright a e) = upright (h, a) e
@@ -88,9 +88,9 @@ module _ (m : ℕ) where
 module _ (m : ℕ) (s : List ℕ) where
   -- in document 01's order: 3, 4 or 6; then 7; then 8, 9 or 10; or it stands
   pub data Outcome (x : Reading (Form ℤ)) : Type 0 where
-    not-text : (e p : ℕ) → readForm s ≡ refused e p → x ≡ refused e p → Outcome x
-    not-normal : (f : Form ℤ) (p : ℕ) → IsFormText s f → WrongNode m f p → x ≡ refused 7 p → Outcome x
-    too-big : (f : Form ℤ) (e : ℕ) → IsFormText s f → Normal ℤ-ring m f → Measure m f (suc e) → x ≡ refused (suc e) 0 → Outcome x
+    not-text : (e p : ℕ) → readForm s ≡ refusedAt e p → x ≡ refusedAt e p → Outcome x
+    not-normal : (f : Form ℤ) (p : ℕ) → IsFormText s f → WrongNode m f p → x ≡ refusedAt 7 p → Outcome x
+    too-big : (f : Form ℤ) (e : ℕ) → IsFormText s f → Normal ℤ-ring m f → Measure m f (suc e) → x ≡ refusedAt (suc e) 0 → Outcome x
     stands-as : (f : Form ℤ) → IsForm m s f → x ≡ read f → Outcome x
 
   measured-outcome : (f : Form ℤ) (e : ℕ) → passes m f ≡ e → IsFormText s f → Normal ℤ-ring m f → Outcome (fine e 0 (λ u. read f))
@@ -107,7 +107,7 @@ module _ (m : ℕ) (s : List ℕ) where
       rw i (not-normal f (k .place) t (record { before = ls; node = k; behind = js; parts = p; place = refl; stand = a; falls = w }) refl)
 
   read-outcome : (x : Reading (Form ℤ)) → readForm s ≡ x → Outcome (thenJudged m x)
-  read-outcome (refused e p) i = not-text e p i refl
+  read-outcome (refused bad) i = not-text (bad .number) (bad .place) i refl
   read-outcome (read f) i = judged-outcome f (firstWrong m (read f) (nodes 0 0 f)) (reads s f .0 i) (judged m f (nodes 0 0 f))
 
   pub outcome : Outcome (acceptForm m s)

@@ -10,7 +10,7 @@ use lib.IntN.{ℤ, pos, negsuc}
 use lib.ListN.{length}
 use Rattle.horner.specs.definitions.Form.{Form, int, pop, pow}
 use Rattle.horner.specs.definitions.Measures.{nest}
-use Rattle.text.specs.definitions.Answer.{Reading, read, refused}
+use Rattle.text.specs.definitions.Answer.{Reading, read, refused, refusedAt}
 use Rattle.text.specs.definitions.Bytes.{digit, all}
 use Rattle.text.specs.definitions.FormMeaning.{IsFormText, Begun, openAfter, Clean, EndsEarly, RefusedAs, too-long, no-form-so, ended, too-deep}
 use Rattle.text.specs.definitions.FormReading.{readForm}
@@ -169,9 +169,9 @@ module _ (s : List ℕ) where
       no-stop e p (record { form = f; rest = []; is = sym (append-nil s ∙ m .is) })
       (clean-by 0 s (text f ++ []) (m .is ∙ sym (append-nil (text f))) (clean-text f 0 [] (omega (arith, m .shallow)) tt)) x
 
-  answer : (e p : ℕ) → RefusedAs s e p → (x : Reading (Form ℤ)) → readForm s ≡ x → readForm s ≡ refused e p
+  answer : (e p : ℕ) → RefusedAs s e p → (x : Reading (Form ℤ)) → readForm s ≡ x → readForm s ≡ refusedAt e p
   answer e p a (read f) h = absurd (not-refused f e p (reads s f .0 h) (reason e p a))
-  answer e p a (refused e′ p′) h = let q = one-refusal e′ p′ e p (why s e′ p′ h) a in h ∙ ap₂ refused (q .0) (q .1)
+  answer e p a (refused bad) h = let q = one-refusal (bad .number) (bad .place) e p (why s (bad .number) (bad .place) h) a in h ∙ ap₂ refusedAt (q .0) (q .1)
 
-  pub refused-exactly : (e p : ℕ) → (readForm s ≡ refused e p) ↔ RefusedAs s e p
+  pub refused-exactly : (e p : ℕ) → (readForm s ≡ refusedAt e p) ↔ RefusedAs s e p
   refused-exactly e p = (why s e p, λ a. answer e p a (readForm s) refl)

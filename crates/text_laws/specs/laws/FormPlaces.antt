@@ -9,7 +9,7 @@ use lib.Dec.{eqb}
 use lib.IntN.{ℤ}
 use lib.ListN.{length}
 use Rattle.horner.specs.definitions.Form.{Form}
-use Rattle.text.specs.definitions.Answer.{refused, fine}
+use Rattle.text.specs.definitions.Answer.{refusedAt, fine}
 use Rattle.text.specs.definitions.FormMeaning.{openAfter}
 use Rattle.text.specs.definitions.FormReading.{Frame, Spot, before, number, head, index, behind, Next, on, off, step, caseNext, wholeForm, wholeOr, check, run}
 use Rattle.text_laws.specs.laws.FormOpen.{Checks, checks-before}
@@ -74,8 +74,8 @@ module _ (room : ℕ → Bool) where
 
   trace-on : (c p : ℕ) (s : Spot) (fs : List Frame) (b : ℕ) (ts : List ℕ) (e q : ℕ) → SpotOk yes′ (length fs) s → StackOk yes′ fs
       → (s′ : Spot) (fs′ : List Frame) → step s fs b ≡ on s′ fs′ → Held yes′ (on s′ fs′) (soFar s fs ++ (b ∷ [])) → check room s (length fs) b ≡ c
-      → (SpotOk yes′ (length fs′) s′ → StackOk yes′ fs′ → run room (suc p) s′ fs′ ts ≡ refused e q → Refusal (suc p) s′ fs′ ts e q)
-      → fine c p (λ u. run room (suc p) s′ fs′ ts) ≡ refused e q → Refusal p s fs (b ∷ ts) e q
+      → (SpotOk yes′ (length fs′) s′ → StackOk yes′ fs′ → run room (suc p) s′ fs′ ts ≡ refusedAt e q → Refusal (suc p) s′ fs′ ts e q)
+      → fine c p (λ u. run room (suc p) s′ fs′ ts) ≡ refusedAt e q → Refusal p s fs (b ∷ ts) e q
   trace-on zero p s fs b ts e q a h s′ fs′ g w i ih r = later p s fs b s′ fs′ ts e q a g i (w .0) (ih (w .1 .0) (w .1 .1) r)
   trace-on (suc c) p s fs b ts e q a h s′ fs′ g w i ih r =
       let k = refusal-parts (suc c) p e q r in
@@ -83,21 +83,21 @@ module _ (room : ℕ → Bool) where
 
   trace-next : (x : Next) (p : ℕ) (s : Spot) (fs : List Frame) (b : ℕ) (ts : List ℕ) (e q : ℕ) → SpotOk yes′ (length fs) s → StackOk yes′ fs → step s fs b ≡ x
       → Held yes′ x (soFar s fs ++ (b ∷ []))
-      → ((s′ : Spot) (fs′ : List Frame) → SpotOk yes′ (length fs′) s′ → StackOk yes′ fs′ → run room (suc p) s′ fs′ ts ≡ refused e q → Refusal (suc p) s′ fs′ ts e q)
-      → caseNext x (refused 4 p) (λ s′ fs′. fine (check room s (length fs) b) p (λ u. run room (suc p) s′ fs′ ts)) ≡ refused e q → Refusal p s fs (b ∷ ts) e q
+      → ((s′ : Spot) (fs′ : List Frame) → SpotOk yes′ (length fs′) s′ → StackOk yes′ fs′ → run room (suc p) s′ fs′ ts ≡ refusedAt e q → Refusal (suc p) s′ fs′ ts e q)
+      → caseNext x (refusedAt 4 p) (λ s′ fs′. fine (check room s (length fs) b) p (λ u. run room (suc p) s′ fs′ ts)) ≡ refusedAt e q → Refusal p s fs (b ∷ ts) e q
   trace-next off p s fs b ts e q a h g w ih r =
       let k = refusal-parts 4 p e q r in
       bad [] b ts s fs refl (none-yet s fs a h) tt g (k .0) (omega (arith, k .1))
   trace-next (on s′ fs′) p s fs b ts e q a h g w ih r = trace-on (check room s (length fs) b) p s fs b ts e q a h s′ fs′ g w refl (ih s′ fs′) r
 
   trace-end : (x : Option (Form ℤ)) (p : ℕ) (s : Spot) (fs : List Frame) (e q : ℕ) → SpotOk yes′ (length fs) s → StackOk yes′ fs → wholeForm s fs ≡ x
-      → wholeOr p x ≡ refused e q → Refusal p s fs [] e q
+      → wholeOr p x ≡ refusedAt e q → Refusal p s fs [] e q
   trace-end none p s fs e q a h g r =
       let k = refusal-parts 4 p e q r in
       early s fs (none-yet s fs a h) tt g (k .0) (omega (arith, k .1))
   trace-end (some f) p s fs e q a h g r = no-refusal (sym r)
 
-  pub trace : (ts : List ℕ) (p : ℕ) (s : Spot) (fs : List Frame) (e q : ℕ) → SpotOk yes′ (length fs) s → StackOk yes′ fs → run room p s fs ts ≡ refused e q → Refusal p s fs ts e q
+  pub trace : (ts : List ℕ) (p : ℕ) (s : Spot) (fs : List Frame) (e q : ℕ) → SpotOk yes′ (length fs) s → StackOk yes′ fs → run room p s fs ts ≡ refusedAt e q → Refusal p s fs ts e q
   trace [] p s fs e q a h r = trace-end (wholeForm s fs) p s fs e q a h refl r
   trace (b ∷ ts) p s fs e q a h r =
       trace-next (step s fs b) p s fs b ts e q a h refl (held-step yes′ s fs b a h (check-yes s (length fs) b)) (λ s′ fs′ a′ h′. trace ts (suc p) s′ fs′ e q a′ h′) r

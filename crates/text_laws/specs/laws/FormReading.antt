@@ -3,15 +3,15 @@ use mathlib.Core.Bool.{Bool, true, false, _&&_}
 use mathlib.Core.List.{List, []}
 use mathlib.Core.Logic.{_↔_}
 use mathlib.Core.Path.{_≡_, refl, sym, ap, _∙_}
-use Prim.Native.Nat.{ℕ, suc, _+_, _≤_, _<_}
+use Prim.Native.Nat.{ℕ, suc, _+_, _≤_}
 use native.Mathlib.Omega.{arith}
-use borrow.Author.Tests.{ltb-true, lt-ltb, leb-true, le-leb, lt-leb}
+use borrow.Author.Tests.{ltb-true, lt-ltb, leb-true, le-leb}
 use lib.Dec.{leb, ltb}
 use lib.IntN.{ℤ}
 use lib.ListN.{length}
 use Rattle.horner.specs.definitions.Form.{Form, int, pop, pow}
 use Rattle.horner.specs.definitions.Measures.{nest}
-use Rattle.text.specs.definitions.Answer.{read, refused}
+use Rattle.text.specs.definitions.Answer.{read}
 use Rattle.text.specs.definitions.FormMeaning.{IsFormText}
 use Rattle.text.specs.definitions.FormReading.{before, run, readForm}
 use Rattle.text.specs.definitions.FormText.{text}
@@ -70,8 +70,3 @@ module _ (s : List ℕ) (f : Form ℤ) where
 
   pub reads : (readForm s ≡ read f) ↔ IsFormText s f
   reads = (is-text, text-is)
-
--- "form .. over 65,535" bytes, place 0
-pub too-long : (s : List ℕ) → 65535 < length s → readForm s ≡ refused 3 0
-unfolding readForm
-too-long s h = rw (lt-leb (length s) 65535 h, readForm)

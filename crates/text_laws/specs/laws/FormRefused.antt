@@ -1,7 +1,6 @@
 -- What each refusal of a form's text, before its normality is judged, says of the text.
 use mathlib.Core.Bool.{Bool, true, false, cond}
 use mathlib.Core.List.{List, [], _∷_, _++_, append-assoc, append-nil}
-use mathlib.Core.Logic.{_⊎_, inl, inr}
 use mathlib.Core.Option.{none}
 use mathlib.Core.Path.{_≡_, refl, sym, ap, _∙_}
 use Prim.Native.Nat.{ℕ, _+_, _≤_}
@@ -12,7 +11,7 @@ use lib.Dec.{leb, ltb, eqb}
 use lib.IntN.{ℤ}
 use lib.ListN.{length}
 use Rattle.horner.specs.definitions.Form.{Form}
-use Rattle.text.specs.definitions.Answer.{refused}
+use Rattle.text.specs.definitions.Answer.{refusedAt}
 use Rattle.text.specs.definitions.FormMeaning.{Begun, FirstBad, EndsEarly, TooDeep, openAfter, Clean, RefusedAs, too-long, no-form-so, ended, too-deep}
 use Rattle.text.specs.definitions.FormReading.{Frame, Spot, before, number, head, index, behind, on, off, step, wholeForm, wholeOr, check, run, readForm}
 use Rattle.text.specs.definitions.FormText.{text}
@@ -26,7 +25,7 @@ use Rattle.text_laws.specs.laws.Places.{refusal-parts}
 use Rattle.text_laws.specs.laws.Sofar.{no-refusal}
 
 -- a form whose text begins with bytes that lead nowhere
-no-form : (ks ys : List ℕ) (s : Spot) (fs : List Frame) (f : Form ℤ) (e p : ℕ) → Reached before [] ks s fs → text f ≡ ks ++ ys → run yes′ (0 + length ks) s fs ys ≡ refused e p → ⊥
+no-form : (ks ys : List ℕ) (s : Spot) (fs : List Frame) (f : Form ℤ) (e p : ℕ) → Reached before [] ks s fs → text f ≡ ks ++ ys → run yes′ (0 + length ks) s fs ys ≡ refusedAt e p → ⊥
 no-form ks ys s fs f e p r i g = no-refusal {a = f} (sym g ∙ sym (r .goes 0 ys) ∙ ap (run yes′ 0 before []) (sym i) ∙ through-all yes′ f (roomy-yes f 0))
 
 begun-there : (ks : List ℕ) (s : Spot) (fs : List Frame) → Reached before [] ks s fs → Begun ks
@@ -72,23 +71,6 @@ clean d [] h = tt
 clean d (b ∷ ks) h = (λ e. ltb-true d 256 (h .0 e), clean (openAfter d (b ∷ [])) ks (h .1))
 
 module _ (s : List ℕ) where
-  ran : (e p : ℕ) → (e ≡ 3 → ⊥) → readForm s ≡ refused e p → Refusal (λ d. ltb d 256) 0 before [] s e p
-  unfolding readForm
-  ran e p m r = go (leb (length s) 65535) refl
-    where
-      go : (b : Bool) → leb (length s) 65535 ≡ b → Refusal (λ d. ltb d 256) 0 before [] s e p
-      go true k = trace (λ d. ltb d 256) s 0 before [] e p tt tt (rw (k, readForm) at r)
-      go false k = absurd (m (refusal-parts 3 0 e p (rw (k, readForm) at r) .0))
-
-  place-4-of : (p : ℕ) → Refusal (λ d. ltb d 256) 0 before [] s 4 p → FirstBad 256 s p ⊎ (EndsEarly 256 s × (p ≡ length s))
-  place-4-of p (early s′ fs′ q h w i j) = inr (ends-early s s′ fs′ q w (clean 0 s h), j ∙ zero-add (length s))
-  place-4-of p (bad ks b zs s′ fs′ f q h g i j) = inl (first-bad s ks b zs s′ fs′ p f q (clean 0 ks h) g (j ∙ zero-add (length ks)))
-  place-4-of p (past ks b zs s′ fs′ s″ fs″ f q h g i m j) = let c = checked (λ d. ltb d 256) s′ (length fs′) b 4 m i .1 .1 .0 in absurd (omega arith)
-
-  -- "In a form it is the first such byte", or the text's length
-  pub place-4 : (p : ℕ) → readForm s ≡ refused 4 p → FirstBad 256 s p ⊎ (EndsEarly 256 s × (p ≡ length s))
-  place-4 p r = place-4-of p (ran 4 p (omega arith) r)
-
   deep-of : (p : ℕ) (ks : List ℕ) (b : ℕ) (zs : List ℕ) (s′ : Spot) (fs′ : List Frame) (s″ : Spot) (fs″ : List Frame) → s ≡ ks ++ (b ∷ zs) → Reached before [] ks s′ fs′ → Clean 256 0 ks → step s′ fs′ b ≡ on s″ fs″
       → p ≡ length ks → s′ ≡ before → b ≡ 40 → ltb (length fs′) 256 ≡ false → TooDeep 256 s p
   deep-of p ks b zs s′ fs′ s″ fs″ f q y g j e c r =
@@ -106,16 +88,6 @@ module _ (s : List ℕ) where
         begun = rw c at n;
       }
 
-  place-6-of : (p : ℕ) → Refusal (λ d. ltb d 256) 0 before [] s 6 p → TooDeep 256 s p
-  place-6-of p (early s′ fs′ q h w i j) = absurd (omega arith)
-  place-6-of p (bad ks b zs s′ fs′ f q h g i j) = absurd (omega arith)
-  place-6-of p (past ks b zs s′ fs′ s″ fs″ f q h g i m j) =
-      let c = checked (λ d. ltb d 256) s′ (length fs′) b 6 m i in
-      deep-of p ks b zs s′ fs′ s″ fs″ f q (clean 0 ks h) g (j ∙ zero-add (length ks)) (c .0) (c .1 .0) (c .1 .1 .1)
-
-  pub place-6 : (p : ℕ) → readForm s ≡ refused 6 p → TooDeep 256 s p
-  place-6 p r = place-6-of p (ran 6 p (omega arith) r)
-
   why-of : (e p : ℕ) → length s ≤ 65535 → Refusal (λ d. ltb d 256) 0 before [] s e p → RefusedAs s e p
   why-of e p h (early s′ fs′ q c w i j) = ended i h (ends-early s s′ fs′ q w (clean 0 s c)) (j ∙ zero-add (length s))
   why-of e p h (bad ks b zs s′ fs′ f q c g i j) = no-form-so i h (first-bad s ks b zs s′ fs′ p f q (clean 0 ks c) g (j ∙ zero-add (length ks)))
@@ -124,7 +96,7 @@ module _ (s : List ℕ) where
       too-deep (o .1 .1 .0) h (deep-of p ks b zs s′ fs′ s″ fs″ f q (clean 0 ks c) g (j ∙ zero-add (length ks)) (o .0) (o .1 .0) (o .1 .1 .1))
 
   -- each refusal is one that document 01 describes
-  pub why : (e p : ℕ) → readForm s ≡ refused e p → RefusedAs s e p
+  pub why : (e p : ℕ) → readForm s ≡ refusedAt e p → RefusedAs s e p
   unfolding readForm
   why e p r = go (leb (length s) 65535) refl
     where

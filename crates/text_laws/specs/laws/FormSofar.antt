@@ -10,7 +10,7 @@ use lib.Dec.{eqb}
 use lib.IntN.{ℤ}
 use lib.ListN.{length}
 use Rattle.horner.specs.definitions.Form.{Form, int, pop, pow}
-use Rattle.text.specs.definitions.Answer.{Reading, read, refused, fine}
+use Rattle.text.specs.definitions.Answer.{Reading, read, refusedAt, fine}
 use Rattle.text.specs.definitions.Bytes.{bytes, same}
 use Rattle.text.specs.definitions.FormReading.{Frame, inPop, inPow, inRest, Kind, popKind, powKind, Spot, before, number, head, index, behind, Next, on, off, intBegun, headBegun, headWord, follow, followInt, indexed, step, caseNext, intForm, wholeForm, wholeOr, check, run}
 use Rattle.text.specs.definitions.FormText.{text, popHead, powHead}
@@ -173,7 +173,7 @@ module _ (room : ℕ → Bool) where
 
   sound-next : (p b : ℕ) (bs cs : List ℕ) (f : Form ℤ) (c : ℕ) (x : Next) → (c ≡ 0 → Held x (cs ++ (b ∷ [])))
       → ((s : Spot) (fs : List Frame) → SpotOk (length fs) s → StackOk fs → run room (suc p) s fs bs ≡ read f → (text f ≡ soFar s fs ++ bs) × (roomy 0 f ≡ true))
-      → caseNext x (refused 4 p) (λ s′ fs′. fine c p (λ u. run room (suc p) s′ fs′ bs)) ≡ read f → (text f ≡ cs ++ (b ∷ bs)) × (roomy 0 f ≡ true)
+      → caseNext x (refusedAt 4 p) (λ s′ fs′. fine c p (λ u. run room (suc p) s′ fs′ bs)) ≡ read f → (text f ≡ cs ++ (b ∷ bs)) × (roomy 0 f ≡ true)
   sound-next p b bs cs f c off h ih e = no-refusal e
   sound-next p b bs cs f c (on s fs) h ih e =
       let k = fine-zero c p (λ u. run room (suc p) s fs bs) f e in

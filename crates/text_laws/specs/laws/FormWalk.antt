@@ -9,11 +9,10 @@ use lib.Dec.{eqb, leb, ltb}
 use lib.IntN.{ℤ}
 use lib.ListN.{length, length-map}
 use Rattle.horner.specs.definitions.Form.{Form}
-use Rattle.text.specs.definitions.Answer.{Reading, refused, fine}
+use Rattle.text.specs.definitions.Answer.{Reading, refusedAt, fine}
 use Rattle.text.specs.definitions.Bytes.{bytes, same, digit}
-use Rattle.text.specs.program.FormKinds.{Stand, start, sign, zeroInt, digits, open0, openP, openPO, openPOP, openPOW, zero-i, digits-i, Wait, numberStand, headStand, indexStand, standOf, waitOf, Move, moved, pushed, move, isWhole, caseMove, check as checkStand, ended, walk, syntax}
+use Rattle.text.specs.program.FormKinds.{Stand, start, sign, zeroInt, digits, open0, openP, openPO, openPOP, openPOW, zero-i, digits-i, Wait, numberStand, headStand, indexStand, standOf, waitOf, Move, moved, pushed, move, isWhole, caseMove, check as checkStand, ended, walk, verdict, syntax}
 use Rattle.text.specs.definitions.FormReading.{Frame, Kind, popKind, powKind, Spot, before, number, head, index, behind, Next, on, off, headBegun, indexed, step, caseNext, intForm, wholeForm, wholeOr, check, run, readForm}
-use Rattle.text.specs.program.Kinds.{verdict}
 use Rattle.text.specs.definitions.Numerals.{canonical, readNat, readInt, isSome, valueFrom}
 use Rattle.text_laws.specs.laws.Bytes.{and-l, either, same-eq}
 use Rattle.text_laws.specs.laws.FormKinds.{waits, moveOf, follow-move, Natural, is-zero, is-leading, natural, Begun, is-sign, is-natural, is-negative, begun, number-step, before-step, leading-some, leading-stand}
@@ -220,7 +219,7 @@ module _ (room : ℕ → Bool) where
 
   next-verdict : (x : Next) (c p b : ℕ) (bs cs : List ℕ) → (c ≡ 0 → Held room x cs)
       → ((s : Spot) (fs : List Frame) → SpotOk room (length fs) s → StackOk room fs → verdict (run room (suc p) s fs bs) ≡ walk room (suc p) (standOf s) (waits fs) bs)
-      → verdict (caseNext x (refused 4 p) (λ s′ fs′. fine c p (λ u. run room (suc p) s′ fs′ bs))) ≡ caseMove (moveOf x) (refused 4 p) (λ s′ ws′. fine c p (λ u. walk room (suc p) s′ ws′ bs))
+      → verdict (caseNext x (refusedAt 4 p) (λ s′ fs′. fine c p (λ u. run room (suc p) s′ fs′ bs))) ≡ caseMove (moveOf x) (refusedAt 4 p) (λ s′ ws′. fine c p (λ u. walk room (suc p) s′ ws′ bs))
   next-verdict off c p b bs cs h ih = refl
   next-verdict (on s fs) c p b bs cs h ih = fine-verdict c p (λ u. run room (suc p) s fs bs) (λ u. walk room (suc p) (standOf s) (waits fs) bs) (λ e. let g = h e in ih s fs (g .1 .0) (g .1 .1))
 
@@ -228,7 +227,7 @@ module _ (room : ℕ → Bool) where
   walk-verdict [] p s fs a h = whole-verdict (wholeForm s fs) p ∙ ap (λ (b : Bool). ended room b p) (whole-stand room s (length fs) fs a)
   walk-verdict (b ∷ bs) p s fs a h =
       next-verdict (step s fs b) (check room s (length fs) b) p b bs _ (held-step room s fs b a h) (walk-verdict bs (suc p))
-      ∙ ap₂ (λ (x : Move) (c : ℕ). caseMove x (refused 4 p) (λ s′ ws′. fine c p (λ u. walk room (suc p) s′ ws′ bs))) (step-moves room s (length fs) fs b a)
+      ∙ ap₂ (λ (x : Move) (c : ℕ). caseMove x (refusedAt 4 p) (λ s′ ws′. fine c p (λ u. walk room (suc p) s′ ws′ bs))) (step-moves room s (length fs) fs b a)
       (check-stand room s (length fs) (length fs) b a ∙ ap (λ (d : ℕ). checkStand room (standOf s) d b) (sym (length-map fs waitOf)))
 
 pub syntax-verdict : (s : List ℕ) → verdict (readForm s) ≡ syntax s

@@ -8,7 +8,7 @@ use borrow.Author.Tests.{leb-true, leb-false, le-leb}
 use lib.Dec.{leb}
 use lib.ListN.{length}
 use Rattle.horner.specs.definitions.Measures.{weightOf, degreesOf, termsOf, AllLe}
-use Rattle.text.specs.definitions.Answer.{Reading, read, refused, fine}
+use Rattle.text.specs.definitions.Answer.{Reading, read, refusedAt, fine}
 use Rattle.text.specs.definitions.Bytes.{all}
 use Rattle.text.specs.definitions.Limits.{finishing, exponentFits, powersFit, weightFits, termsFit, passes, firstPast}
 use Rattle.text.specs.definitions.Parts.{Part, itself, in-neg, in-left, in-right, in-base, Fits, AllPass}
@@ -113,7 +113,7 @@ module _ (row : List ℕ) where
 
   pub data Past (t : Tree) (ts : List Tree) (x : Reading Tree) : Type 0 where
     none-over : AllPass row ts → x ≡ read t → Past t ts x
-    one-over : (us : List Tree) (u : Tree) (vs : List Tree) (e : ℕ) → ts ≡ us ++ (u ∷ vs) → AllPass row us → passes row u ≡ suc e → x ≡ refused (suc e) (startOf u) → Past t ts x
+    one-over : (us : List Tree) (u : Tree) (vs : List Tree) (e : ℕ) → ts ≡ us ++ (u ∷ vs) → AllPass row us → passes row u ≡ suc e → x ≡ refusedAt (suc e) (startOf u) → Past t ts x
 
   past-later : (t u : Tree) (ts : List Tree) (x : Reading Tree) → passes row u ≡ 0 → Past t ts x → Past t (u ∷ ts) x
   past-later t u ts x h (none-over a e) = none-over (h, a) e

@@ -5,7 +5,9 @@ use mathlib.Core.Path.{_≡_, refl, sym, ap, subst, _∙_}
 use Prim.Native.Nat.{ℕ, zero, suc}
 use native.Mathlib.Omega.{arith}
 use lib.ListN.{length}
-use Rattle.text.specs.definitions.Answer.{Reading, refused, fine}
+use Rattle.refusal.specs.Refusal.{fault}
+use Rattle.refusal.specs.declared.Fault.{Fault}
+use Rattle.text.specs.definitions.Answer.{Reading, refusedAt, fine}
 use Rattle.text.specs.definitions.Meaning.{openAfter}
 use Rattle.text.specs.definitions.Reading.{Frame, Spot, Next, on, whole, off, step, caseNext, check, onlyEnd, run}
 use Rattle.text.specs.definitions.Tokens.{Token, placeOf}
@@ -15,8 +17,10 @@ use Rattle.text_laws.specs.laws.Open.{Checks, checks-before, checks-one}
 use Rattle.text_laws.specs.laws.Sofar.{soFar, StackOk, SpotOk, Held, held-step, no-refusal}
 use Rattle.text_laws.specs.laws.Through.{goOn}
 
-pub refusal-parts : {A : Type 0} (e p e′ p′ : ℕ) → _≡_ {A = Reading A} (refused e p) (refused e′ p′) → (e′ ≡ e) × (p′ ≡ p)
-refusal-parts e p e′ p′ h = ((let i : e′ ≡ e = cc in i), (let i : p′ ≡ p = cc in i))
+pub refusal-parts : {A : Type 0} (e p e′ p′ : ℕ) → _≡_ {A = Reading A} (refusedAt e p) (refusedAt e′ p′) → (e′ ≡ e) × (p′ ≡ p)
+refusal-parts e p e′ p′ h =
+    let same : fault e′ p′ ≡ fault e p = cc in
+    (ap (λ (f : Fault). f .number) same, ap (λ (f : Fault). f .place) same)
 
 module _ (n : ℕ) where
   -- the tokens ks lead from the state to x, whatever comes behind them
@@ -53,7 +57,7 @@ module _ (n : ℕ) where
   pub data Refusal (known room : ℕ → Bool) (s : Spot) (fs : List Frame) (ts : List Token) (e p : ℕ) : Type 0 where
     early : (s′ : Spot) (fs′ : List Frame) → Reached s fs ts (on s′ fs′) → Checks known room (openAfter 0 (soFar s fs)) ts → e ≡ 4 → p ≡ n → Refusal known room s fs ts e p
     bad : (ks : List Token) (k : Token) (zs : List Token) (x : Next) → ts ≡ ks ++ (k ∷ zs) → Reached s fs ks x → Checks known room (openAfter 0 (soFar s fs)) ks
-        → ((ys : List Token) → goOn yes′ yes′ n x (k ∷ ys) ≡ refused 4 (placeOf k)) → e ≡ 4 → p ≡ placeOf k → Refusal known room s fs ts e p
+        → ((ys : List Token) → goOn yes′ yes′ n x (k ∷ ys) ≡ refusedAt 4 (placeOf k)) → e ≡ 4 → p ≡ placeOf k → Refusal known room s fs ts e p
     past : (ks : List Token) (k : Token) (zs : List Token) (s′ : Spot) (fs′ : List Frame) (x : Next) → ts ≡ ks ++ (k ∷ zs) → Reached s fs ks (on s′ fs′)
         → Checks known room (openAfter 0 (soFar s fs)) ks → step s′ fs′ k ≡ x → Live x
         → e ≡ check known room (length fs′) k → (e ≡ 0 → ⊥) → p ≡ placeOf k → Refusal known room s fs ts e p
@@ -71,8 +75,8 @@ module _ (known room : ℕ → Bool) (n : ℕ) where
 
   trace-on : (c : ℕ) (s : Spot) (fs : List Frame) (k : Token) (ts : List Token) (e p : ℕ) → SpotOk yes′ yes′ (length fs) s → StackOk yes′ yes′ fs
       → (s′ : Spot) (fs′ : List Frame) → step s fs k ≡ on s′ fs′ → check known room (length fs) k ≡ c
-      → (SpotOk yes′ yes′ (length fs′) s′ → StackOk yes′ yes′ fs′ → run known room n s′ fs′ ts ≡ refused e p → Refusal n known room s′ fs′ ts e p)
-      → fine c (placeOf k) (λ u. run known room n s′ fs′ ts) ≡ refused e p → Refusal n known room s fs (k ∷ ts) e p
+      → (SpotOk yes′ yes′ (length fs′) s′ → StackOk yes′ yes′ fs′ → run known room n s′ fs′ ts ≡ refusedAt e p → Refusal n known room s′ fs′ ts e p)
+      → fine c (placeOf k) (λ u. run known room n s′ fs′ ts) ≡ refusedAt e p → Refusal n known room s fs (k ∷ ts) e p
   trace-on zero s fs k ts e p a h s′ fs′ g i ih r =
       let o = one-more n s fs k (on s′ fs′) a h g tt in
       later s fs k s′ fs′ ts e p g i o (ih (o .held .1 .0) (o .held .1 .1) r)
@@ -81,7 +85,7 @@ module _ (known room : ℕ → Bool) (n : ℕ) where
       past [] k ts s fs (on s′ fs′) refl (none-yet n s fs a h) tt g tt (q .0 ∙ sym i) (omega arith) (q .1)
 
   trace-end : (t : Tree) (s : Spot) (fs : List Frame) (k : Token) (ts : List Token) (e p : ℕ) → Reached n s fs (k ∷ []) (whole t) → Checks known room (openAfter 0 (soFar s fs)) (k ∷ [])
-      → onlyEnd known room t ts ≡ refused e p → Refusal n known room s fs (k ∷ ts) e p
+      → onlyEnd known room t ts ≡ refusedAt e p → Refusal n known room s fs (k ∷ ts) e p
   trace-end t s fs k [] e p o c r = no-refusal (sym r)
   trace-end t s fs k (l ∷ ts) e p o c r =
       let q = refusal-parts 4 (placeOf l) e p r in
@@ -89,16 +93,16 @@ module _ (known room : ℕ → Bool) (n : ℕ) where
 
   trace-whole : (c : ℕ) (s : Spot) (fs : List Frame) (k : Token) (ts : List Token) (e p : ℕ) → SpotOk yes′ yes′ (length fs) s → StackOk yes′ yes′ fs
       → (t : Tree) → step s fs k ≡ whole t → check known room (length fs) k ≡ c
-      → fine c (placeOf k) (λ u. onlyEnd known room t ts) ≡ refused e p → Refusal n known room s fs (k ∷ ts) e p
+      → fine c (placeOf k) (λ u. onlyEnd known room t ts) ≡ refusedAt e p → Refusal n known room s fs (k ∷ ts) e p
   trace-whole zero s fs k ts e p a h t g i r = trace-end t s fs k ts e p (one-more n s fs k (whole t) a h g tt) (checks-one known room s fs k (whole t) g tt i) r
   trace-whole (suc c) s fs k ts e p a h t g i r =
       let q = refusal-parts (suc c) (placeOf k) e p r in
       past [] k ts s fs (whole t) refl (none-yet n s fs a h) tt g tt (q .0 ∙ sym i) (omega arith) (q .1)
 
   trace-next : (x : Next) (s : Spot) (fs : List Frame) (k : Token) (ts : List Token) (e p : ℕ) → SpotOk yes′ yes′ (length fs) s → StackOk yes′ yes′ fs → step s fs k ≡ x
-      → ((s′ : Spot) (fs′ : List Frame) → SpotOk yes′ yes′ (length fs′) s′ → StackOk yes′ yes′ fs′ → run known room n s′ fs′ ts ≡ refused e p → Refusal n known room s′ fs′ ts e p)
-      → caseNext x (refused 4 (placeOf k)) (λ s′ fs′. fine (check known room (length fs) k) (placeOf k) (λ u. run known room n s′ fs′ ts))
-      (λ t. fine (check known room (length fs) k) (placeOf k) (λ u. onlyEnd known room t ts)) ≡ refused e p
+      → ((s′ : Spot) (fs′ : List Frame) → SpotOk yes′ yes′ (length fs′) s′ → StackOk yes′ yes′ fs′ → run known room n s′ fs′ ts ≡ refusedAt e p → Refusal n known room s′ fs′ ts e p)
+      → caseNext x (refusedAt 4 (placeOf k)) (λ s′ fs′. fine (check known room (length fs) k) (placeOf k) (λ u. run known room n s′ fs′ ts))
+      (λ t. fine (check known room (length fs) k) (placeOf k) (λ u. onlyEnd known room t ts)) ≡ refusedAt e p
       → Refusal n known room s fs (k ∷ ts) e p
   trace-next off s fs k ts e p a h g ih r =
       let q = refusal-parts 4 (placeOf k) e p r in
@@ -106,7 +110,7 @@ module _ (known room : ℕ → Bool) (n : ℕ) where
   trace-next (on s′ fs′) s fs k ts e p a h g ih r = trace-on (check known room (length fs) k) s fs k ts e p a h s′ fs′ g refl (ih s′ fs′) r
   trace-next (whole t) s fs k ts e p a h g ih r = trace-whole (check known room (length fs) k) s fs k ts e p a h t g refl r
 
-  pub trace : (ts : List Token) (s : Spot) (fs : List Frame) (e p : ℕ) → SpotOk yes′ yes′ (length fs) s → StackOk yes′ yes′ fs → run known room n s fs ts ≡ refused e p
+  pub trace : (ts : List Token) (s : Spot) (fs : List Frame) (e p : ℕ) → SpotOk yes′ yes′ (length fs) s → StackOk yes′ yes′ fs → run known room n s fs ts ≡ refusedAt e p
       → Refusal n known room s fs ts e p
   trace [] s fs e p a h r =
       let q = refusal-parts 4 n e p r in

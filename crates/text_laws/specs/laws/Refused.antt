@@ -1,14 +1,13 @@
 -- What each refusal of a term's text says of the text.
 use mathlib.Core.Bool.{Bool, true, false, cond, _&&_, not}
 use mathlib.Core.List.{List, [], _∷_, _++_, append-assoc, append-nil}
-use mathlib.Core.Logic.{_⊎_, inl, inr}
 use mathlib.Core.Path.{_≡_, refl, sym, ap, subst, _∙_}
 use Prim.Native.Nat.{ℕ, _≤_, _<_}
 use native.Mathlib.Omega.{arith}
 use borrow.Author.Tests.{leb-true, leb-false, ltb-true, ltb-false, lt-leb}
 use lib.Dec.{leb, ltb}
 use lib.ListN.{length}
-use Rattle.text.specs.definitions.Answer.{refused}
+use Rattle.text.specs.definitions.Answer.{refusedAt}
 use Rattle.text.specs.definitions.Bytes.{capital, inRow}
 use Rattle.text.specs.definitions.Meaning.{Begun, FirstBad, EndsEarly, Unknown, TooDeep, openAfter, Passes, Clean, RefusedAs, too-long as too-long′, no-term-so, ended, unknown-letter, too-deep}
 use Rattle.text.specs.definitions.Reading.{Frame, Spot, operand, Next, on, step, check, run, readTerm}
@@ -46,7 +45,7 @@ module _ (known room : ℕ → Bool) where
 
 module _ (n : ℕ) where
   -- a term that begins with tokens that lead nowhere
-  no-term : (ks ys : List Token) (x : Next) (t : Tree) (e p : ℕ) → Reached n operand [] ks x → letters capital t ≡ true → placed t ≡ ks ++ ys → goOn yes′ yes′ n x ys ≡ refused e p → ⊥
+  no-term : (ks ys : List Token) (x : Next) (t : Tree) (e p : ℕ) → Reached n operand [] ks x → letters capital t ≡ true → placed t ≡ ks ++ ys → goOn yes′ yes′ n x ys ≡ refusedAt e p → ⊥
   no-term ks ys x t e p r c i g =
       no-refusal {a = t} (sym g ∙ sym (r .goes ys) ∙ ap (run yes′ yes′ n operand []) (sym i) ∙ through-all yes′ yes′ n t (capitals-admits t 0 c))
 
@@ -55,7 +54,7 @@ module _ (n : ℕ) where
       record { clean = c; begun = begun-next (on s fs) ts tt (r .held); no-term = λ t c i. no-term ts [] (on s fs) t 4 n r c (i ∙ sym (append-nil ts)) refl }
 
   pub first-bad : (row : List ℕ) (ts ks : List Token) (k : Token) (zs : List Token) (x : Next) (p : ℕ) → ts ≡ ks ++ (k ∷ zs) → Reached n operand [] ks x → Clean row 16 0 ks
-      → ((ys : List Token) → goOn yes′ yes′ n x (k ∷ ys) ≡ refused 4 (placeOf k)) → p ≡ placeOf k → FirstBad row 16 ts p
+      → ((ys : List Token) → goOn yes′ yes′ n x (k ∷ ys) ≡ refusedAt 4 (placeOf k)) → p ≡ placeOf k → FirstBad row 16 ts p
   first-bad row ts ks k zs x p f r h g j =
       record {
         before = ks;
@@ -75,19 +74,7 @@ module _ (n : ℕ) where
       (subst (λ (y : Next). Held yes′ yes′ y (ks ++ (k ∷ []))) g
       (rw (r .held .0) at (held-step yes′ yes′ s fs k (r .held .1 .0) (r .held .1 .1) (check-yes (length fs) k))))
 
-not-4 : {known room : ℕ → Bool} {d e : ℕ} {k : Token} → Checked known room d e k → e ≡ 4 → ⊥
-not-4 (deep p i r) e = omega arith
-not-4 (unknown p b i c l) e = omega arith
-
 module _ (row s : List ℕ) where
-  ran : (e p : ℕ) → (e ≡ 3 → ⊥) → readTerm row s ≡ refused e p → Refusal (length s) (inRow row) (λ d. ltb d 16) operand [] (tokens 0 s) e p
-  unfolding readTerm
-  ran e p m r = go (leb (length s) 4096) refl
-    where
-      go : (b : Bool) → leb (length s) 4096 ≡ b → Refusal (length s) (inRow row) (λ d. ltb d 16) operand [] (tokens 0 s) e p
-      go true k = trace (inRow row) (λ d. ltb d 16) (length s) (tokens 0 s) operand [] e p tt tt (rw (k, readTerm) at r)
-      go false k = absurd (m (refusal-parts 3 0 e p (rw (k, readTerm) at r) .0))
-
   passes : (d : ℕ) (k : Token) → check (inRow row) (λ d. ltb d 16) d k ≡ 0 → Passes row 16 d k
   passes d (opening q) c = ltb-true d 16 (room-check (inRow row) (λ d. ltb d 16) d c)
   passes d (closing q) c = tt
@@ -99,18 +86,8 @@ module _ (row s : List ℕ) where
   clean d [] h = tt
   clean d (k ∷ ks) h = (passes d k (h .0), clean (openAfter d (k ∷ [])) ks (h .1))
 
-  place-4-of : (p : ℕ) → Refusal (length s) (inRow row) (λ d. ltb d 16) operand [] (tokens 0 s) 4 p → FirstBad row 16 (tokens 0 s) p ⊎ (EndsEarly row 16 (tokens 0 s) × (p ≡ length s))
-  place-4-of p (early s′ fs′ q h i j) = inr (ends-early (length s) row (tokens 0 s) s′ fs′ q (clean 0 (tokens 0 s) h), j)
-  place-4-of p (bad ks k zs x f q h g i j) = inl (first-bad (length s) row (tokens 0 s) ks k zs x p f q (clean 0 ks h) g j)
-  place-4-of p (past ks k zs s′ fs′ x f q h g l i m j) = absurd (not-4 (checked (inRow row) (λ d. ltb d 16) (length fs′) 4 k m i) refl)
-
-  -- "In a term, place 4 is the first token such that no term of any size begins with the tokens so far (an unknown capital counts as a letter here), or the text's
-  -- length if it ends early."
-  pub place-4 : (p : ℕ) → readTerm row s ≡ refused 4 p → FirstBad row 16 (tokens 0 s) p ⊎ (EndsEarly row 16 (tokens 0 s) × (p ≡ length s))
-  place-4 p r = place-4-of p (ran 4 p (omega arith) r)
-
   -- "term over 4,096 bytes", place 0
-  pub too-long : 4096 < length s → readTerm row s ≡ refused 3 0
+  pub too-long : 4096 < length s → readTerm row s ≡ refusedAt 3 0
   unfolding readTerm
   too-long h = rw (lt-leb (length s) 4096 h, readTerm)
 
@@ -133,9 +110,6 @@ module _ (row s : List ℕ) where
             begun = rw j b;
           }
 
-  pub place-5 : (p : ℕ) → readTerm row s ≡ refused 5 p → Unknown row 16 (tokens 0 s) p
-  place-5 p r = place-5-of p (ran 5 p (omega arith) r)
-
   place-6-of : (p : ℕ) → Refusal (length s) (inRow row) (λ d. ltb d 16) operand [] (tokens 0 s) 6 p → TooDeep row 16 (tokens 0 s) p
   place-6-of p (early s′ fs′ q h i j) = absurd (omega arith)
   place-6-of p (bad ks k zs x f q h g i j) = absurd (omega arith)
@@ -154,9 +128,6 @@ module _ (row s : List ℕ) where
           }
       go k f g b (unknown r c e v o) j = absurd (omega arith)
 
-  pub place-6 : (p : ℕ) → readTerm row s ≡ refused 6 p → TooDeep row 16 (tokens 0 s) p
-  place-6 p r = place-6-of p (ran 6 p (omega arith) r)
-
   why-of : (e p : ℕ) → length s ≤ 4096 → Refusal (length s) (inRow row) (λ d. ltb d 16) operand [] (tokens 0 s) e p → RefusedAs row s e p
   why-of e p h (early s′ fs′ q c i j) = ended i h (ends-early (length s) row (tokens 0 s) s′ fs′ q (clean 0 (tokens 0 s) c)) j
   why-of e p h (bad ks k zs x f q c g i j) = no-term-so i h (first-bad (length s) row (tokens 0 s) ks k zs x p f q (clean 0 ks c) g j)
@@ -170,7 +141,7 @@ module _ (row s : List ℕ) where
           unknown-letter o h (place-5-of p (past ks (word r (b ∷ [])) zs s′ fs′ x f q c g l (sym o ∙ i) (omega arith) j))
 
   -- each refusal is one that document 01 describes
-  pub why : (e p : ℕ) → readTerm row s ≡ refused e p → RefusedAs row s e p
+  pub why : (e p : ℕ) → readTerm row s ≡ refusedAt e p → RefusedAs row s e p
   unfolding readTerm
   why e p r = go (leb (length s) 4096) refl
     where

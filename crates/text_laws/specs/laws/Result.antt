@@ -9,10 +9,11 @@ use lib.IntN.{ℤ}
 use lib.ListN.{length}
 use Rattle.horner.specs.definitions.Form.{Form, int, pop, pow, size}
 use Rattle.horner.specs.definitions.Integers.{ℤ-ring}
-use Rattle.horner.specs.definitions.Measures.{AllLe, Bounded, zeros, firstOr0, maxs, total, degrees, degreesOf, weight, count, terms, nest}
+use Rattle.horner.specs.definitions.Measures.{AllLe, Bounded, zeros, firstOr0, maxs, degrees, degreesOf, weight, count, terms, nest}
 use Rattle.horner.specs.definitions.Normal.{Normal}
 use Rattle.horner.specs.definitions.Term.{normℤ}
 use Rattle.horner.specs.definitions.Value.{tl, after}
+use Rattle.horner.specs.laws.Degree.{total}
 use Rattle.horner.specs.laws.Room.{words-3073, nest-total}
 use Rattle.horner.specs.laws.Limits.{weight-norm, length-degreesOf, bounded-norm, count-norm}
 use Rattle.horner.specs.laws.Term.{normal-norm}

@@ -1,12 +1,12 @@
 -- A row's letters, and what an accepted text hands on to the algebra.
 use mathlib.Core.Bool.{Bool, true, false, true≢false, _&&_, _||_}
 use mathlib.Core.List.{List, [], _∷_}
-use mathlib.Core.Path.{_≡_, refl, sym, ap, _∙_}
+use mathlib.Core.Path.{_≡_, refl, sym}
 use Prim.Native.Nat.{ℕ, suc, _≤_, _<_}
 use native.Mathlib.Omega.{arith}
-use borrow.Author.Tests.{eqb-true, leb-true}
+use borrow.Author.Tests.{leb-true}
 use lib.Dec.{eqb, leb}
-use lib.ListN.{length, getD}
+use lib.ListN.{length}
 use Rattle.horner.specs.definitions.Measures.{Within}
 use Rattle.horner.specs.definitions.Term.{Over}
 use Rattle.text.specs.definitions.Answer.{read}
@@ -25,28 +25,6 @@ index-below (c ∷ row) b h = go (eqb b c) refl (index-below row b)
     go : (e : Bool) → eqb b c ≡ e → (inRow row b ≡ true → indexIn row b < length row) → indexIn (c ∷ row) b < suc (length row)
     go true k ih = rw (k, indexIn) (omega arith)
     go false k ih = rw (k, indexIn) (omega (arith, ih (let i : (false || inRow row b) ≡ true = rw k at h in i)))
-
--- the letter at its place
-pub index-letter : (row : List ℕ) (b : ℕ) → inRow row b ≡ true → getD row (indexIn row b) 0 ≡ b
-index-letter [] b h = absurd (true≢false (sym h))
-index-letter (c ∷ row) b h = go (eqb b c) refl (index-letter row b)
-  where
-    go : (e : Bool) → eqb b c ≡ e → (inRow row b ≡ true → getD row (indexIn row b) 0 ≡ b) → getD (c ∷ row) (indexIn (c ∷ row) b) 0 ≡ b
-    go true k ih = rw (k, indexIn) (sym (eqb-true b c k))
-    go false k ih = rw (k, indexIn) (ih (let i : (false || inRow row b) ≡ true = rw k at h in i))
-
-all-in : (t : ℕ → Bool) (row : List ℕ) (b : ℕ) → all t row ≡ true → inRow row b ≡ true → t b ≡ true
-all-in t [] b a h = absurd (true≢false (sym h))
-all-in t (c ∷ row) b a h = go (eqb b c) refl (all-in t row b)
-  where
-    go : (e : Bool) → eqb b c ≡ e → (all t row ≡ true → inRow row b ≡ true → t b ≡ true) → t b ≡ true
-    go true k ih = ap t (eqb-true b c k) ∙ and-l (t c) (all t row) a
-    go false k ih = ih (and-r (t c) (all t row) a) (let i : (false || inRow row b) ≡ true = rw k at h in i)
-
--- a row's letters are capitals
-pub row-capital : (row : List ℕ) (b : ℕ) → isRow row ≡ true → inRow row b ≡ true → capital b ≡ true
-row-capital row b r h =
-    all-in capital row b (and-r (leb 1 (length row) && leb (length row) 4) (all capital row) (and-l (leb 1 (length row) && leb (length row) 4 && all capital row) (distinct row) r)) h
 
 pub row-length : (row : List ℕ) → isRow row ≡ true → (1 ≤ length row) × (length row ≤ 4)
 row-length row r =

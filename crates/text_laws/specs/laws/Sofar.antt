@@ -6,7 +6,7 @@ use mathlib.Core.Path.{_≡_, refl, sym, ap, _∙_}
 use Prim.Native.Nat.{ℕ, zero, suc}
 use native.Mathlib.Omega.{arith}
 use lib.ListN.{length}
-use Rattle.text.specs.definitions.Answer.{Reading, read, refused, fine}
+use Rattle.text.specs.definitions.Answer.{Reading, read, refusedAt, fine}
 use Rattle.text.specs.definitions.Bytes.{bytes, same, capital}
 use Rattle.text.specs.definitions.Numerals.{dec, readNat}
 use Rattle.text.specs.definitions.Reading.{Frame, first, second, base, Spot, operand, operator, exponent, ending, raised, Next, on, whole, off, deliver, leaf, deliverSome, operatorWord, raise, closeShort, step, caseNext, letterCheck, check, onlyEnd, run}
@@ -147,7 +147,7 @@ module _ (known room : ℕ → Bool) where
   held-step (raised p o x q n) fs (word r w) a h c = tt
 
 -- ---- a whole reading
-pub no-refusal : {A : Type 0} {e p : ℕ} {a : A} {P : Type 0} → refused e p ≡ read a → P
+pub no-refusal : {A : Type 0} {e p : ℕ} {a : A} {P : Type 0} → refusedAt e p ≡ read a → P
 no-refusal h = let z : _≡_ {A = ℕ} 0 1 = cc in absurd (omega arith)
 
 module _ (known room : ℕ → Bool) (n : ℕ) where
@@ -161,7 +161,7 @@ module _ (known room : ℕ → Bool) (n : ℕ) where
 
   sound-next : (k : Token) (ks ts : List Token) (t : Tree) (c : ℕ) (x : Next) → (c ≡ 0 → Held known room x (ts ++ (k ∷ [])))
       → ((s : Spot) (fs : List Frame) → SpotOk known room (length fs) s → StackOk known room fs → run known room n s fs ks ≡ read t → (placed t ≡ soFar s fs ++ ks) × (admits known room 0 t ≡ true))
-      → caseNext x (refused 4 (placeOf k)) (λ s′ fs′. fine c (placeOf k) (λ u. run known room n s′ fs′ ks)) (λ t′. fine c (placeOf k) (λ u. onlyEnd known room t′ ks)) ≡ read t
+      → caseNext x (refusedAt 4 (placeOf k)) (λ s′ fs′. fine c (placeOf k) (λ u. run known room n s′ fs′ ks)) (λ t′. fine c (placeOf k) (λ u. onlyEnd known room t′ ks)) ≡ read t
       → (placed t ≡ ts ++ (k ∷ ks)) × (admits known room 0 t ≡ true)
   sound-next k ks ts t c off h ih e = no-refusal e
   sound-next k ks ts t c (on s fs) h ih e =

@@ -6,7 +6,7 @@ use mathlib.Core.Path.{_≡_, refl, sym, ap, _∙_}
 use Prim.Native.Nat.{ℕ, suc}
 use lib.IntN.{pos}
 use lib.ListN.{length}
-use Rattle.text.specs.definitions.Answer.{Reading, read, refused, fine}
+use Rattle.text.specs.definitions.Answer.{Reading, read, refusedAt, fine}
 use Rattle.text.specs.definitions.Bytes.{bytes, capital}
 use Rattle.text.specs.definitions.Numerals.{dec, writeInt}
 use Rattle.text.specs.definitions.Reading.{Frame, first, second, base, operand, exponent, Next, deliver, leaf, caseNext, letterCheck, onlyEnd, run}
@@ -19,11 +19,11 @@ use Rattle.text_laws.specs.laws.Words.{num-leaf, letter-leaf, check-num,
 
 module _ (known room : ℕ → Bool) (n : ℕ) where
   abbrev pub goOn : Next → List Token → Reading Tree
-  goOn x ks = caseNext x (refused 4 n) (λ s fs. run known room n s fs ks) (λ t. onlyEnd known room t ks)
+  goOn x ks = caseNext x (refusedAt 4 n) (λ s fs. run known room n s fs ks) (λ t. onlyEnd known room t ks)
 
   -- one token, let through, that finishes an operand
   arrive : (t : Tree) (fs : List Frame) (p c : ℕ) (ks : List Token) → c ≡ 0
-      → caseNext (deliver t fs) (refused 4 p) (λ s′ fs′. fine c p (λ u. run known room n s′ fs′ ks)) (λ t′. fine c p (λ u. onlyEnd known room t′ ks)) ≡ goOn (deliver t fs) ks
+      → caseNext (deliver t fs) (refusedAt 4 p) (λ s′ fs′. fine c p (λ u. run known room n s′ fs′ ks)) (λ t′. fine c p (λ u. onlyEnd known room t′ ks)) ≡ goOn (deliver t fs) ks
   arrive t [] p c ks e = rw e
   arrive t (first q o g ∷ fs) p c ks e = rw e
   arrive t (second q o g x ∷ fs) p c ks e = rw e

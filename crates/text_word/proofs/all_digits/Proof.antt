@@ -27,8 +27,10 @@ is-digit-requires c κs = search needs
 
 returns : tie.Need-returns Inv-loop μ-loop
 returns c =
-    let l = c .before .before .before .before .loop in
-    sym (l .inv .1 ∙ all-off digit _ (l .i) (c .before .before .before .loop-test .taken) (sym (c .before .is-digit .ensures) ∙ not-true _ (c .if1 .taken)))
+    let in-loop : tie.In-loop Inv-loop μ-loop = c .before .before .before in
+    let at-loop = in-loop .before in
+    let l = at-loop .loop in
+    sym (l .inv .1 ∙ all-off digit _ (l .i) (in-loop .loop-test .taken) (sym (c .before .is-digit .ensures) ∙ not-true _ (c .if1 .taken)))
 
 add-i : tie.Need-add-i Inv-loop μ-loop
 add-i c = omega arith
@@ -38,9 +40,12 @@ loop-less c = omega arith
 
 loop-again : tie.Need-loop-again Inv-loop μ-loop
 loop-again c =
-    let loop = c .before .before .before .before .loop in
-    let l = loop in
-    (omega arith, l .inv .1 ∙ all-on digit _ (l .i) (c .before .before .before .loop-test .taken) (sym (c .before .is-digit .ensures) ∙ not-false _ (c .if1 .left)))
+    let in-loop : tie.In-loop Inv-loop μ-loop = c .before .before .before in
+    let at-loop = in-loop .before in
+    let l = at-loop .loop in (
+      omega arith,
+      l .inv .1 ∙ all-on digit _ (l .i) (in-loop .loop-test .taken) (sym (c .before .is-digit .ensures) ∙ not-false _ (c .if1 .left)),
+    )
 
 returns-2 : tie.Need-returns-2 Inv-loop μ-loop
 returns-2 c =
@@ -49,4 +54,5 @@ returns-2 c =
 
 pub all-digits-spec : {M : Type 1} → statement M
 all-digits-spec =
-    tie.close (tie.spec Inv-loop μ-loop loop-holds shared-slice-read-is-digit is-digit-requires returns add-i loop-less loop-again returns-2)
+    tie.close
+    (tie.spec Inv-loop μ-loop loop-holds shared-slice-read-is-digit is-digit-requires returns add-i loop-less loop-again returns-2)

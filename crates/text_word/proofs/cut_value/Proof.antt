@@ -16,7 +16,8 @@ use Rattle.text_word.proofs.cut_value.Tie as tie
 
 abbrev Inv-loop : tie.InvT-loop
 Inv-loop w limit top value₀ i₀ value i =
-    (i ≤ length w) × ((value ≤ limit) × ((all digit (drop i w) ≡ true) × (min (valueFrom value (drop i w)) limit ≡ min (valueFrom 0 w) limit)))
+    (i ≤ length w)
+    × ((value ≤ limit) × ((all digit (drop i w) ≡ true) × (min (valueFrom value (drop i w)) limit ≡ min (valueFrom 0 w) limit)))
 
 abbrev μ-loop : tie.MeasureT-loop
 μ-loop w limit top value₀ i₀ value i = length w - i
@@ -32,8 +33,13 @@ shared-slice-read-value c = search needs
 
 sub-value : tie.Need-sub-value Inv-loop μ-loop
 sub-value c =
+    let s : tie.Start Inv-loop μ-loop = c .before .before .before in
     let l = c .before .before .loop in
-    omega (arith, digit-range (getD (now (c .before .before .before .args .w)) (l .i) 0) (all-here digit (now (c .before .before .before .args .w)) (l .i) (c .before .loop-test .taken) (l .inv .1 .1 .0)))
+    omega (
+      arith,
+      digit-range (getD (now (s .args .w)) (l .i) 0)
+          (all-here digit (now (s .args .w)) (l .i) (c .before .loop-test .taken) (l .inv .1 .1 .0)),
+    )
 
 cast-value : tie.Need-cast-value Inv-loop μ-loop
 cast-value c = omega (arith, c .shared-slice-known .given (c .before .before .loop .i))
@@ -49,16 +55,21 @@ loop-less c = omega arith
 
 loop-again : tie.Need-loop-again Inv-loop μ-loop
 loop-again c =
-    let start = c .before .before .before .before in
-    let l = c .before .before .before .loop in
-    let w = now (start .args .w) in
-    let L = start .args .limit in
+    let at-loop : tie.At-loop Inv-loop μ-loop = c .before .before .before in
+    let s = at-loop .before in
+    let l = at-loop .loop in
+    let w = now (s .args .w) in
+    let L = s .args .limit in
     let t = c .before .before .loop-test .taken in
-    let e : c .if1 .value ≡ min (l .value * 10 + (getD w (l .i) 0 - 48)) L = ⊎-elim (λ m. omega arith) (λ m. omega arith) (c .if1 .came) in (
+    let e : c .if1 .value ≡ min (l .value * 10 + (getD w (l .i) 0 - 48)) L = ⊎-elim (λ m. omega arith) (λ m. omega arith)
+    (c .if1 .came) in (
       omega arith,
       (
         omega arith,
-        (all-rest digit w (l .i) t (l .inv .1 .1 .0), ap (λ m. min (valueFrom m (drop (l .i + 1) w)) L) e ∙ sym (value-on w (l .i) (l .value) L t) ∙ l .inv .1 .1 .1),
+        (
+          all-rest digit w (l .i) t (l .inv .1 .1 .0),
+          ap (λ m. min (valueFrom m (drop (l .i + 1) w)) L) e ∙ sym (value-on w (l .i) (l .value) L t) ∙ l .inv .1 .1 .1,
+        ),
       ),
     )
 
@@ -76,4 +87,5 @@ returns c =
 pub cut-value-spec : {M : Type 1} → statement M
 cut-value-spec =
     tie.close
-    (tie.spec Inv-loop μ-loop loop-holds mul-value shared-slice-read-value sub-value cast-value add-value add-i loop-less loop-again cast-result returns)
+    (tie.spec Inv-loop μ-loop loop-holds mul-value shared-slice-read-value sub-value cast-value add-value add-i loop-less loop-again
+    cast-result returns)

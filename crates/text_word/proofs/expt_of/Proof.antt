@@ -37,20 +37,25 @@ returns-2 c =
 returns-3 : tie.Need-returns-3
 returns-3 c =
     let a = c .before .before .before .args in
-    fails-3 _ _ _ (eqb (a .d) 84) (eq-eqb (a .a) 69 (c .before .before .if1 .left)) (eq-eqb (a .b) 88 (c .before .if2 .left)) (ne-eqb (a .c) 80 (c .if3 .taken))
+    fails-3 _ _ _ (eqb (a .d) 84) (eq-eqb (a .a) 69 (c .before .before .if1 .left)) (eq-eqb (a .b) 88 (c .before .if2 .left))
+    (ne-eqb (a .c) 80 (c .if3 .taken))
 
 returns-4 : tie.Need-returns-4
 returns-4 c =
-    let start = c .before .before .before .before in
-    let a = start .args in
-    fails-4 _ _ _ _ (eq-eqb (a .a) 69 (c .before .before .before .if1 .left)) (eq-eqb (a .b) 88 (c .before .before .if2 .left)) (eq-eqb (a .c) 80 (c .before .if3 .left))
+    let at-else1 : tie.Else1 = c .before .before .before in
+    let s = at-else1 .before in
+    let a = s .args in
+    fails-4 _ _ _ _ (eq-eqb (a .a) 69 (at-else1 .if1 .left)) (eq-eqb (a .b) 88 (c .before .before .if2 .left))
+    (eq-eqb (a .c) 80 (c .before .if3 .left))
     (ne-eqb (a .d) 84 (c .if4 .taken))
 
 returns-5 : tie.Need-returns-5
 returns-5 c =
-    let start = c .before .before .before .before in
-    let a = start .args in
-    holds _ _ _ _ (eq-eqb (a .a) 69 (c .before .before .before .if1 .left)) (eq-eqb (a .b) 88 (c .before .before .if2 .left)) (eq-eqb (a .c) 80 (c .before .if3 .left))
+    let at-else1 : tie.Else1 = c .before .before .before in
+    let s = at-else1 .before in
+    let a = s .args in
+    holds _ _ _ _ (eq-eqb (a .a) 69 (at-else1 .if1 .left)) (eq-eqb (a .b) 88 (c .before .before .if2 .left))
+    (eq-eqb (a .c) 80 (c .before .if3 .left))
     (eq-eqb (a .d) 84 (c .if4 .left))
 
 pub expt-of-spec : {M : Type 1} → statement M

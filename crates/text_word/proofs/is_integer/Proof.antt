@@ -35,7 +35,8 @@ is-positive-requires c κs = search needs
 
 returns-2 : tie.Need-returns-2
 returns-2 c =
-    let w = now (c .before .before .before .before .before .before .args .w) in
+    let s : tie.Start = c .before .before .before .before .before .before in
+    let w = now (s .args .w) in
     let some : 0 < length w = omega arith in
     c .is-positive .ensures ∙ ap isPositive (rest-part w) ∙ sym (integer-below w some (c .before .before .if2 .taken))
 
@@ -44,7 +45,8 @@ is-natural-requires c κs = search needs
 
 returns-3 : tie.Need-returns-3
 returns-3 c =
-    let w = now (c .before .before .before .before .before .args .w) in
+    let s : tie.Start = c .before .before .before .before .before in
+    let w = now (s .args .w) in
     let some : 0 < length w = omega arith in
     c .is-natural .ensures ∙ sym (integer-natural w some (c .before .if2 .left))
 

@@ -16,14 +16,17 @@ shared-slice-read-if2 : tie.Need-shared-slice-read-if2
 shared-slice-read-if2 c = search needs
 
 returns-2 : tie.Need-returns-2
-returns-2 c = sym (natural-zero (now (c .before .before .before .before .args .w)) (omega arith) (c .if2 .taken))
+returns-2 c =
+    let s : tie.Start = c .before .before .before .before in
+    sym (natural-zero (now (s .args .w)) (omega arith) (c .if2 .taken))
 
 all-digits-requires : tie.Need-all-digits-requires
 all-digits-requires c κs = search needs
 
 returns-3 : tie.Need-returns-3
 returns-3 c =
-    let w = now (c .before .before .before .before .before .args .w) in
+    let s : tie.Start = c .before .before .before .before .before in
+    let w = now (s .args .w) in
     let some : 0 < length w = omega arith in
     c .all-digits .ensures ∙ sym (natural-digits w some (c .before .if2 .left))
 

@@ -1,5 +1,5 @@
 -- `text_word::operator_of` meets its contract, by the word's length and then byte by byte.
-use mathlib.Core.Path.{_≡_, sym, ap, _∙_}
+use mathlib.Core.Path.{_≡_, sym, _∙_}
 use mathlib.Core.Bool.{Bool, true, false}
 use mathlib.Core.List.{List}
 use Prim.Native.Nat.{ℕ}
@@ -30,9 +30,6 @@ is-0 a b c e f g = simp (e, f, g)
 
 -- a word of one byte
 module _ (w : List ℕ) (one : length w ≡ 1) where
-  x : ℕ
-  x = getD w 0 0
-
   short : {n : ℕ} → n ≡ operatorShort (getD w 0 0) → n ≡ operatorOf w
   short e = e ∙ sym (operator-one w one)
 
@@ -52,23 +49,25 @@ shared-slice-read-b : tie.Need-shared-slice-read-b
 shared-slice-read-b c = search needs
 
 returns : tie.Need-returns
-returns c = plus (now (c .before .before .before .before .args .w)) (c .before .before .if1 .taken) (c .if2 .taken)
+returns c =
+    let s : tie.Start = c .before .before .before .before in
+    plus (now (s .args .w)) (c .before .before .if1 .taken) (c .if2 .taken)
 
 returns-2 : tie.Need-returns-2
-returns-2 c = minus (now (c .before .before .before .before .before .args .w)) (c .before .before .before .if1 .taken) (c .before .if2 .left) (c .if3 .taken)
+returns-2 c =
+    let at-then1 : tie.Then1 = c .before .before .before in
+    minus (now (at-then1 .before .before .args .w)) (at-then1 .if1 .taken) (c .before .if2 .left) (c .if3 .taken)
 
 returns-3 : tie.Need-returns-3
 returns-3 c =
-    let if1 = c .before .before .before .before .if1 in
-    let start = c .before .before .before .before .before .before in
-    times (now (start .args .w)) (if1 .taken) (c .before .before .if2 .left) (c .before .if3 .left)
+    let at-then1 : tie.Then1 = c .before .before .before .before in
+    times (now (at-then1 .before .before .args .w)) (at-then1 .if1 .taken) (c .before .before .if2 .left) (c .before .if3 .left)
     (c .if4 .taken)
 
 returns-4 : tie.Need-returns-4
 returns-4 c =
-    let if1 = c .before .before .before .before .if1 in
-    let start = c .before .before .before .before .before .before in
-    other (now (start .args .w)) (if1 .taken) (c .before .before .if2 .left) (c .before .if3 .left)
+    let at-then1 : tie.Then1 = c .before .before .before .before in
+    other (now (at-then1 .before .before .args .w)) (at-then1 .if1 .taken) (c .before .before .if2 .left) (c .before .if3 .left)
     (c .if4 .left)
 
 shared-slice-read-expt-of : tie.Need-shared-slice-read-expt-of
@@ -88,8 +87,10 @@ expt-of-requires c κs = search needs
 
 returns-5 : tie.Need-returns-5
 returns-5 c =
-    let w = now (c .before .before .before .before .before .before .before .before .args .w) in
-    c .expt-of .ensures ∙ sym (operator-four w (c .before .before .before .before .before .if5 .taken))
+    let at-then5 : tie.Then5 = c .before .before .before .before .before in
+    let s : tie.Start = at-then5 .before .before .before in
+    let w = now (s .args .w) in
+    c .expt-of .ensures ∙ sym (operator-four w (at-then5 .if5 .taken))
 
 returns-6 : tie.Need-returns-6
 returns-6 c = sym (operator-none (now (c .before .before .before .args .w)) (c .before .if1 .left) (c .if5 .left))

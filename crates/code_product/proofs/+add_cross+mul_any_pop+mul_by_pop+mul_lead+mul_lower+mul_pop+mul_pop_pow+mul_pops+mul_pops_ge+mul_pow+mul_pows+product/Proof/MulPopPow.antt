@@ -16,107 +16,161 @@ use Rattle.code_room.specs.Tables.{PopSpace}
 use Rattle.code_room.specs.laws.Fit.{fit-x, fit-prod}
 use Rattle.code_room.specs.laws.Tables.{space-at, pop-space-at, pop-space-pow, space-lower}
 use Rattle.code_cross.proofs.Products.{pow-sizes, pow-of-word, pop-times}
+use borrow.Fn.Kinds.{In, Out}
 use Rattle.code_product.proofs.mul_lower.Reads as mul-lower
 use Rattle.code_product.proofs.mul_pop.Reads as mul-pop
 use Rattle.code_product.proofs.mul_pop_pow.Reads as mul-pop-pow
-use Rattle.code_product.proofs.+add_cross+mul_any_pop+mul_by_pop+mul_lead+mul_lower+mul_pop+mul_pop_pow+mul_pops+mul_pops_ge+mul_pow+mul_pows+product.Lts-mul_pop_pow as mul-pop-pow-lts
+use Rattle.code_product.proofs.mul_pop_pow.Kinds as mul-pop-pow-kinds
+use Rattle.code_product.proofs.+add_cross+mul_any_pop+mul_by_pop+mul_lead+mul_lower+mul_pop+mul_pop_pow+mul_pops+mul_pops_ge+mul_pow+mul_pows+product.Lts-mul_pop_pow as lts
 use Rattle.code.proofs.make_pow.Reads as make-pow-reads
 use Rattle.code_product.proofs.+add_cross+mul_any_pop+mul_by_pop+mul_lead+mul_lower+mul_pop+mul_pop_pow+mul_pops+mul_pops_ge+mul_pow+mul_pows+product.Proof.Measures.{mul-lower-below, mul-pop-below, mul-pop-pow-at}
 
-abbrev Start·mul-pop-pow : ℕ → Type 0
-Start·mul-pop-pow t = mul-pop-pow-lts.Start (mul-pop-below t, mul-pop.Post, mul-lower-below t, mul-lower.Post, make-pow-reads.Asked, make-pow-reads.Learnt) (mul-pop-pow-at t) mul-pop-pow.Post
+-- what its calls ask and give; and its place P, where the measure is t
+abbrev calls : ℕ → lts.Claims
+calls t = (mul-pop-below t, mul-pop.Post, mul-lower-below t, mul-lower.Post, make-pow-reads.Asked, make-pow-reads.Learnt)
 
-is-pow·mul-pop-pow : (t : ℕ) (c : Start·mul-pop-pow t) → PowAt (c .args .width) (c .args .y .now)
+abbrev At : (lts.Claims → In 5 mul-pop-pow-kinds.ps → Out 5 mul-pop-pow-kinds.ps mul-pop-pow-kinds.r → Type 0) → ℕ → Type 0
+At P t = P (calls t) (mul-pop-pow-at t) mul-pop-pow.Post
+
+-- the places that are looked at, each seen from a later one
+abbrev start : {t : ℕ} → At lts.After-shared-slice-known3 t → At lts.Start t
+start c = c .before .before .before .before .before .before
+
+abbrev start-from-mul-pop : {t : ℕ} → At lts.After-mul-pop t → At lts.Start t
+start-from-mul-pop c = start (c .before .before .before .before .before)
+
+abbrev after-out : {t : ℕ} → At lts.After-u t → At lts.After-out t
+after-out c = c .before .before .before .before
+
+abbrev after-mul-pop : {t : ℕ} → At lts.After-u t → At lts.After-mul-pop t
+after-mul-pop c = after-out c .before
+
+abbrev start-from-u : {t : ℕ} → At lts.After-u t → At lts.Start t
+start-from-u c = start-from-mul-pop (after-mul-pop c)
+
+abbrev after-u : {t : ℕ} → At lts.After-mul-lower t → At lts.After-u t
+after-u c = c .before .before .before .before .before .before
+
+abbrev after-out2 : {t : ℕ} → At lts.After-u2 t → At lts.After-out2 t
+after-out2 c = c .before .before .before .before
+
+abbrev after-u2 : {t : ℕ} → At lts.After-slice-known10 t → At lts.After-u2 t
+after-u2 c = c .before .before .before .before .before
+
+is-pow·mul-pop-pow : (t : ℕ) (c : At lts.Start t) → PowAt (c .args .width) (c .args .y .now)
 is-pow·mul-pop-pow t c = pow-of-word (c .pre .1 .0 .1) (c .pre .1 .1 .1)
 
-space-pow·mul-pop-pow : (t : ℕ) (c : Start·mul-pop-pow t) →
+space-pow·mul-pop-pow : (t : ℕ) (c : At lts.Start t) →
     PopSpace (c .args .width) (pop (c .args .i) (dec (c .args .width) (c .args .p .now)))
-    (pow ((getD (c .args .y .now) 0 0) % 64) (dec (c .args .width) (first (c .args .y .now))) (dec (c .args .width) (rest (c .args .y .now))))
+    (pow ((getD (c .args .y .now) 0 0) % 64) (dec (c .args .width) (first (c .args .y .now)))
+    (dec (c .args .width) (rest (c .args .y .now))))
     (length (c .args .out .now)) (length (c .args .t .now)) (length (c .args .u .now))
 space-pow·mul-pop-pow t c =
     subst
-    (λ h. PopSpace (c .args .width) (pop (c .args .i) (dec (c .args .width) (c .args .p .now))) h (length (c .args .out .now)) (length (c .args .t .now)) (length (c .args .u .now)))
+    (λ h. PopSpace (c .args .width) (pop (c .args .i) (dec (c .args .width) (c .args .p .now))) h (length (c .args .out .now))
+    (length (c .args .t .now)) (length (c .args .u .now)))
     ((is-pow·mul-pop-pow t c) .is) (c .pre .1 .1 .0)
 
-abbrev After-u·mul-pop-pow : ℕ → Type 0
-After-u·mul-pop-pow t = mul-pop-pow-lts.After-u (mul-pop-below t, mul-pop.Post, mul-lower-below t, mul-lower.Post, make-pow-reads.Asked, make-pow-reads.Learnt) (mul-pop-pow-at t) mul-pop-pow.Post
-
-few-a·mul-pop-pow : (t : ℕ) (c : After-u·mul-pop-pow t) → (c .before .before .before .before .before .mul-pop .result) ≤ 3073
+few-a·mul-pop-pow : (t : ℕ) (c : At lts.After-u t) → (after-mul-pop c .mul-pop .result) ≤ 3073
 few-a·mul-pop-pow t c =
-    let s = c .before .before .before .before .before .before .before .before .before .before .before .before .before .before .before .before in
-    omega (arith, c .before .before .before .before .before .mul-pop .ensures .size, fit-prod ((pop-space-pow (s .args .i) ((getD (s .args .y .now) 0 0) % 64) (dec (s .args .width) (s .args .p .now)) (dec (s .args .width) (first (s .args .y .now))) (dec (s .args .width) (rest (s .args .y .now))) (space-pow·mul-pop-pow t s)) .fit) .words)
+    let s = start-from-u c in
+    omega (
+      arith,
+      after-mul-pop c .mul-pop .ensures .size,
+      fit-prod ((pop-space-pow (s .args .i) ((getD (s .args .y .now) 0 0) % 64) (dec (s .args .width) (s .args .p .now))
+          (dec (s .args .width) (first (s .args .y .now))) (dec (s .args .width) (rest (s .args .y .now)))
+          (space-pow·mul-pop-pow t s)) .fit) .words,
+    )
 
-a-size·mul-pop-pow : (t : ℕ) (c : After-u·mul-pop-pow t) →
-    let s = c .before .before .before .before .before in
-    (1 + (s .mul-pop .result)) ≤ length
-    (one-put (c .before .before .before .before .before .before .before .before .before .before .before .before .before .before .before .before .args .out .now) (s .mul-pop .last .1 .1 .1 .1 .0))
+a-size·mul-pop-pow : (t : ℕ) (c : At lts.After-u t) →
+    let at-mul-pop = after-mul-pop c in
+    (1 + (at-mul-pop .mul-pop .result)) ≤ length
+    (one-put (start-from-mul-pop at-mul-pop .args .out .now) (at-mul-pop .mul-pop .last .1 .1 .1 .1 .0))
 a-size·mul-pop-pow t c =
-    omega (arith, few-a·mul-pop-pow t c, c .before .before .before .before .out .given .1, c .before .before .before .before .before .before .before .before .before .before .before .before .before .before .before .before .pre .1 .1 .0 .tables)
+    omega (arith, few-a·mul-pop-pow t c, after-out c .out .given .1, start-from-u c .pre .1 .1 .0 .tables)
 
-behind·mul-pop-pow : (t : ℕ) (c : After-u·mul-pop-pow t) →
-    let s = c .before .before .before .before .before .before .before .before .before .before .before .before .before .before .before .before in
-    let b = c .before .before .before .before .before in
-    length (s .args .out .now) - (1 + (b .mul-pop .result)) ≡ length
-    (take (length (one-put (s .args .out .now) (b .mul-pop .last .1 .1 .1 .1 .0)) - (1 + (b .mul-pop .result))) (drop (1 + (b .mul-pop .result)) (one-put (s .args .out .now) (b .mul-pop .last .1 .1 .1 .1 .0))))
+behind·mul-pop-pow : (t : ℕ) (c : At lts.After-u t) →
+    let at-mul-pop = after-mul-pop c in
+    let s = start-from-mul-pop at-mul-pop in
+    length (s .args .out .now) - (1 + (at-mul-pop .mul-pop .result)) ≡ length
+    (take (length (one-put (s .args .out .now) (at-mul-pop .mul-pop .last .1 .1 .1 .1 .0)) - (1 + (at-mul-pop .mul-pop .result)))
+    (drop (1 + (at-mul-pop .mul-pop .result)) (one-put (s .args .out .now) (at-mul-pop .mul-pop .last .1 .1 .1 .1 .0))))
 behind·mul-pop-pow t c =
-    let s = c .before .before .before .before .before in
-    omega (arith, length-tail-part (1 + (s .mul-pop .result)) (one-put (c .before .before .before .before .before .before .before .before .before .before .before .before .before .before .before .before .args .out .now) (s .mul-pop .last .1 .1 .1 .1 .0)), c .before .before .before .before .out .given .1)
+    let at-mul-pop = after-mul-pop c in
+    omega (
+      arith,
+      length-tail-part (1 + (at-mul-pop .mul-pop .result))
+          (one-put (start-from-mul-pop at-mul-pop .args .out .now) (at-mul-pop .mul-pop .last .1 .1 .1 .1 .0)),
+      after-out c .out .given .1,
+    )
 
-abbrev After-u2·mul-pop-pow : ℕ → Type 0
-After-u2·mul-pop-pow t = mul-pop-pow-lts.After-u2 (mul-pop-below t, mul-pop.Post, mul-lower-below t, mul-lower.Post, make-pow-reads.Asked, make-pow-reads.Learnt) (mul-pop-pow-at t) mul-pop-pow.Post
-
-made·mul-pop-pow : (t : ℕ) (c : After-u2·mul-pop-pow t) →
-    let s = c .before .before .before .before .before .before .before .before .before .before .before .before .before .before .before .before .before .before .before .before .before .before .before .before .before .before .before in
-    let b = c .before .before .before .before .before .before .before .before .before .before .before .before .before .before .before .before in
-    let d = c .before .before .before .before .before in
+made·mul-pop-pow : (t : ℕ) (c : At lts.After-u2 t) →
+    let at-mul-lower = after-out2 c .before in
+    let at-mul-pop = after-mul-pop (after-u at-mul-lower) in
+    let s = start-from-mul-pop at-mul-pop in
     Codes (s .args .width)
     (prodOf (s .args .width) (pop (s .args .i) (dec (s .args .width) (s .args .p .now))) (dec (s .args .width) (first (s .args .y .now))))
-    (take (b .mul-pop .result) (drop 1 (two-put (s .args .out .now) (b .mul-pop .last .1 .1 .1 .1 .0) (d .mul-lower .last .1 .1 .1 .1 .0) (b .mul-pop .result))))
+    (take (at-mul-pop .mul-pop .result) (drop 1 (two-put (s .args .out .now) (at-mul-pop .mul-pop .last .1 .1 .1 .1 .0)
+    (at-mul-lower .mul-lower .last .1 .1 .1 .1 .0) (at-mul-pop .mul-pop .result))))
     × Codes (s .args .width)
-    (prodOf (s .args .width) (lower ((s .args .i) - 1) (dec (s .args .width) (s .args .p .now))) (dec (s .args .width) (rest (s .args .y .now))))
-    (take (d .mul-lower .result) (drop (1 + (b .mul-pop .result)) (two-put (s .args .out .now) (b .mul-pop .last .1 .1 .1 .1 .0) (d .mul-lower .last .1 .1 .1 .1 .0) (b .mul-pop .result))))
+    (prodOf (s .args .width) (lower ((s .args .i) - 1) (dec (s .args .width) (s .args .p .now)))
+    (dec (s .args .width) (rest (s .args .y .now))))
+    (take (at-mul-lower .mul-lower .result) (drop (1 + (at-mul-pop .mul-pop .result)) (two-put (s .args .out .now)
+    (at-mul-pop .mul-pop .last .1 .1 .1 .1 .0) (at-mul-lower .mul-lower .last .1 .1 .1 .1 .0) (at-mul-pop .mul-pop .result))))
 made·mul-pop-pow t c =
-    let s = c .before .before .before .before .before .before .before .before .before .before .before .before .before .before .before .before .before .before .before .before .before .before .before .before .before .before .before in
-    let b = c .before .before .before .before .before .before .before .before .before .before .before .before .before .before .before .before in
-    let d = c .before .before .before .before .before .before .before .before .before .before .before in
-    let u = c .before .before .before .before .before in
-    two-made (s .args .out .now) (b .mul-pop .last .1 .1 .1 .1 .0) (u .mul-lower .last .1 .1 .1 .1 .0) (b .mul-pop .result) (u .mul-lower .result)
-    (omega (arith, s .pre .1 .1 .0 .tables)) (a-size·mul-pop-pow t d) (b .mul-pop .ensures)
-    (fit-prod ((pop-space-pow (s .args .i) ((getD (s .args .y .now) 0 0) % 64) (dec (s .args .width) (s .args .p .now)) (dec (s .args .width) (first (s .args .y .now))) (dec (s .args .width) (rest (s .args .y .now))) (space-pow·mul-pop-pow t s)) .fit) .good)
-    (u .mul-lower .ensures)
-    (fit-prod ((space-lower (s .args .i) ((getD (s .args .y .now) 0 0) % 64) (dec (s .args .width) (s .args .p .now)) (dec (s .args .width) (first (s .args .y .now))) (dec (s .args .width) (rest (s .args .y .now))) (space-pow·mul-pop-pow t s) (b .mul-pop .result) (few-a·mul-pop-pow t d)) .fit) .good)
+    let at-mul-lower = after-out2 c .before in
+    let at-u = after-u at-mul-lower in
+    let at-mul-pop = after-mul-pop at-u in
+    let s = start-from-mul-pop at-mul-pop in
+    two-made (s .args .out .now) (at-mul-pop .mul-pop .last .1 .1 .1 .1 .0) (at-mul-lower .mul-lower .last .1 .1 .1 .1 .0)
+    (at-mul-pop .mul-pop .result) (at-mul-lower .mul-lower .result)
+    (omega (arith, s .pre .1 .1 .0 .tables)) (a-size·mul-pop-pow t at-u) (at-mul-pop .mul-pop .ensures)
+    (fit-prod ((pop-space-pow (s .args .i) ((getD (s .args .y .now) 0 0) % 64) (dec (s .args .width) (s .args .p .now))
+    (dec (s .args .width) (first (s .args .y .now))) (dec (s .args .width) (rest (s .args .y .now)))
+    (space-pow·mul-pop-pow t s)) .fit) .good)
+    (at-mul-lower .mul-lower .ensures)
+    (fit-prod ((space-lower (s .args .i) ((getD (s .args .y .now) 0 0) % 64) (dec (s .args .width) (s .args .p .now))
+    (dec (s .args .width) (first (s .args .y .now))) (dec (s .args .width) (rest (s .args .y .now))) (space-pow·mul-pop-pow t s)
+    (at-mul-pop .mul-pop .result) (few-a·mul-pop-pow t at-u)) .fit) .good)
 
 pub mul-pop-pow-meets : {M : Type 1} (t : ℕ) →
-    mul-pop-pow-lts.Closed (mul-pop-below t, mul-pop.Post, mul-lower-below t, mul-lower.Post, make-pow-reads.Asked, make-pow-reads.Learnt) (mul-pop-pow-at t) mul-pop-pow.Post M
+    lts.Closed (calls t) (mul-pop-pow-at t) mul-pop-pow.Post M
 mul-pop-pow-meets t =
-    mul-pop-pow-lts.spec (mul-pop-below t, mul-pop.Post, mul-lower-below t, mul-lower.Post, make-pow-reads.Asked, make-pow-reads.Learnt) (mul-pop-pow-at t) mul-pop-pow.Post
-    (λ c. omega (arith, some (c .before .before .before .before .before .before .pre .1 .0 .1)))
-    (λ c. omega (arith, c .before .before .before .before .before .before .pre .1 .1 .1))
+    lts.spec (calls t) (mul-pop-pow-at t) mul-pop-pow.Post
+    (λ c. omega (arith, some (start c .pre .1 .0 .1)))
+    (λ c. omega (arith, start c .pre .1 .1 .1))
     (λ c. omega (arith, c .shared-slice-known3 .given 0))
-    (λ c. omega (arith, pow-sizes (is-pow·mul-pop-pow t (c .before .before .before .before .before .before))))
+    (λ c. omega (arith, pow-sizes (is-pow·mul-pop-pow t (start c))))
     (λ c. omega arith)
     (λ c. omega arith)
-    (λ c. omega (arith, pow-sizes (is-pow·mul-pop-pow t (c .before .before .before .before .before .before))))
-    (λ c. omega (arith, c .before .before .before .before .before .before .before .pre .1 .1 .0 .tables))
-    (λ c. omega (arith, c .before .before .before .before .before .before .before .pre .1 .1 .0 .tables))
+    (λ c. omega (arith, pow-sizes (is-pow·mul-pop-pow t (start c))))
+    (λ c. omega (arith, start (c .before) .pre .1 .1 .0 .tables))
+    (λ c. omega (arith, start (c .before) .pre .1 .1 .0 .tables))
     (λ c. omega arith)
     -- mul-pop-requires
     (λ c κs.
-    let s = c .before .before .before .before .before .before .before .before .before .before in
-    (omega (arith, pow-sizes (is-pow·mul-pop-pow t s), s .pre .0), ((s .pre .1 .0 .0, (is-pow·mul-pop-pow t s) .left), pop-space-at (sym (length-tail-part 1 (s .args .out .now))) refl refl (pop-space-pow (s .args .i) ((getD (s .args .y .now) 0 0) % 64) (dec (s .args .width) (s .args .p .now)) (dec (s .args .width) (first (s .args .y .now))) (dec (s .args .width) (rest (s .args .y .now))) (space-pow·mul-pop-pow t s)))))
+    let s : At lts.Start t = start (c .before .before .before .before) in (
+      omega (arith, pow-sizes (is-pow·mul-pop-pow t s), s .pre .0),
+      (
+        (s .pre .1 .0 .0, (is-pow·mul-pop-pow t s) .left),
+        pop-space-at (sym (length-tail-part 1 (s .args .out .now))) refl refl (pop-space-pow (s .args .i)
+            ((getD (s .args .y .now) 0 0) % 64) (dec (s .args .width) (s .args .p .now)) (dec (s .args .width) (first (s .args .y .now)))
+            (dec (s .args .width) (rest (s .args .y .now))) (space-pow·mul-pop-pow t s)),
+      ),
+    ))
     (λ c. omega (arith, few-a·mul-pop-pow t (c .before)))
     -- sub-mul-lower, of the exponent
-    (λ c. let s = c .before .before .before .before .before .before .before .before .before .before .before .before .before .before .before .before .before in omega (arith, good-pop (fit-x (s .pre .1 .1 .0 .fit) .good) .0))
+    (λ c. omega (arith, good-pop (fit-x (start-from-u (c .before) .pre .1 .1 .0 .fit) .good) .0))
     -- mul-mul-lower
     (λ c.
-    let s = c .before .before .before .before .before .before .before .before .before .before .before .before .before .before .before .before .before in
+    let s = start-from-u (c .before) in
     omega (arith, pow-sizes (is-pow·mul-pop-pow t s), s .good .1 .1 .1 .0))
     -- sub-mul-lower
     (λ c.
-    omega (arith, pow-sizes (is-pow·mul-pop-pow t (c .before .before .before .before .before .before .before .before .before .before .before .before .before .before .before .before .before))))
+    omega (arith, pow-sizes (is-pow·mul-pop-pow t (start-from-u (c .before)))))
     -- part-mul-lower-start
     (λ c.
-    omega (arith, pow-sizes (is-pow·mul-pop-pow t (c .before .before .before .before .before .before .before .before .before .before .before .before .before .before .before .before .before))))
+    omega (arith, pow-sizes (is-pow·mul-pop-pow t (start-from-u (c .before)))))
     (λ c. omega arith)
     (λ c. omega (arith, few-a·mul-pop-pow t (c .before .before)))
     (λ c. a-size·mul-pop-pow t (c .before .before))
@@ -124,45 +178,67 @@ mul-pop-pow-meets t =
     (λ c. omega arith)
     -- mul-lower-requires
     (λ c κs.
-    let s = c .before .before .before .before .before .before .before .before .before .before .before .before .before .before .before .before .before .before .before .before .before in
-    let b = c .before .before .before .before .before .before .before .before .before .before in
-    let d = c .before .before .before .before .before in (
+    let at-u : At lts.After-u t = c .before .before .before .before .before in
+    let at-mul-pop = after-mul-pop at-u in
+    let s = start-from-mul-pop at-mul-pop in (
       omega (arith, pow-sizes (is-pow·mul-pop-pow t s), s .pre .0),
       (
         (s .pre .1 .0 .0, (is-pow·mul-pop-pow t s) .right),
-        space-at (behind·mul-pop-pow t d) (sym (b .mul-pop .kept .1 .1 .1 .1 .1 .0)) (sym (b .mul-pop .kept .1 .1 .1 .1 .1 .1 .0)) (space-lower (s .args .i) ((getD (s .args .y .now) 0 0) % 64) (dec (s .args .width) (s .args .p .now)) (dec (s .args .width) (first (s .args .y .now))) (dec (s .args .width) (rest (s .args .y .now))) (space-pow·mul-pop-pow t s) (b .mul-pop .result) (few-a·mul-pop-pow t d)),
+        space-at (behind·mul-pop-pow t at-u) (sym (at-mul-pop .mul-pop .kept .1 .1 .1 .1 .1 .0))
+            (sym (at-mul-pop .mul-pop .kept .1 .1 .1 .1 .1 .1 .0)) (space-lower (s .args .i) ((getD (s .args .y .now) 0 0) % 64)
+            (dec (s .args .width) (s .args .p .now)) (dec (s .args .width) (first (s .args .y .now)))
+            (dec (s .args .width) (rest (s .args .y .now))) (space-pow·mul-pop-pow t s) (at-mul-pop .mul-pop .result)
+            (few-a·mul-pop-pow t at-u)),
       ),
     ))
     -- make-pow-requires
     (λ c κs.
-    let s = c .before .before .before .before .before .before .before .before .before .before .before .before .before .before .before .before .before .before .before .before .before .before .before .before .before .before .before .before .before in
-    let b = c .before .before .before .before .before .before .before .before .before .before .before .before .before .before .before .before .before .before in
-    let d = c .before .before .before .before .before .before .before in
-    let u = c .before .before .before .before .before .before in (
+    let at-u2 = c .before .before in
+    let at-out2 = after-out2 at-u2 in
+    let at-mul-lower = at-out2 .before in
+    let at-u = after-u at-mul-lower in
+    let at-mul-pop = after-mul-pop at-u in
+    let s = start-from-mul-pop at-mul-pop in (
       (
-        omega (arith, begins-le (d .mul-lower .ensures), d .mul-lower .kept .1 .1 .1 .1 .0, length-tail-part (1 + (b .mul-pop .result)) (one-put (s .args .out .now) (b .mul-pop .last .1 .1 .1 .1 .0)), a-size·mul-pop-pow t (c .before .before .before .before .before .before .before .before .before .before .before .before .before), u .out2 .given .1),
-        omega (arith, s .pre .1 .1 .0 .tables, c .before .before .before .before .before .before .before .before .before .before .before .before .before .before .before .before .before .out .given .1, u .out2 .given .1),
+        omega (
+          arith,
+          begins-le (at-mul-lower .mul-lower .ensures),
+          at-mul-lower .mul-lower .kept .1 .1 .1 .1 .0,
+          length-tail-part (1 + (at-mul-pop .mul-pop .result)) (one-put (s .args .out .now) (at-mul-pop .mul-pop .last .1 .1 .1 .1 .0)),
+          a-size·mul-pop-pow t at-u,
+          at-out2 .out2 .given .1,
+        ),
+        omega (arith, s .pre .1 .1 .0 .tables, after-out at-u .out .given .1, at-out2 .out2 .given .1),
       ),
       (
-        (coded (made·mul-pop-pow t (c .before .before) .0), coded (made·mul-pop-pow t (c .before .before) .1)),
-        (good-pow ((is-pow·mul-pop-pow t s) .node) .0, pow-asks ((getD (s .args .y .now) 0 0) % 64) (made·mul-pop-pow t (c .before .before)) (pop-times (is-pow·mul-pop-pow t s) (s .args .i) (dec (s .args .width) (s .args .p .now)) (good-pop (fit-x (s .pre .1 .1 .0 .fit) .good) .0)) (fit-prod (s .pre .1 .1 .0 .fit) .good)),
+        (coded (made·mul-pop-pow t at-u2 .0), coded (made·mul-pop-pow t at-u2 .1)),
+        (
+          good-pow ((is-pow·mul-pop-pow t s) .node) .0,
+          pow-asks ((getD (s .args .y .now) 0 0) % 64) (made·mul-pop-pow t at-u2) (pop-times (is-pow·mul-pop-pow t s) (s .args .i)
+              (dec (s .args .width) (s .args .p .now)) (good-pop (fit-x (s .pre .1 .1 .0 .fit) .good) .0))
+              (fit-prod (s .pre .1 .1 .0 .fit) .good),
+        ),
       ),
     ))
     (λ c.
-    let out2 = c .before .before .before .before .before .before .before .before .before .out2 in
-    let out = c .before .before .before .before .before .before .before .before .before .before .before .before .before .before .before .before .before .before .before .before .out in
-    c .before .before .make-pow .kept .1 .0 ∙ out2 .given .1 ∙ out .given .1)
+    let at-out2 = after-out2 (after-u2 c) in
+    let out = after-out (after-u (at-out2 .before)) .out in
+    c .before .before .make-pow .kept .1 .0 ∙ at-out2 .out2 .given .1 ∙ out .given .1)
     (λ c.
-    let at-mul-lower = c .before .before .before .before .before .before .before .before .before .before .mul-lower in
-    let at-mul-pop = c .before .before .before .before .before .before .before .before .before .before .before .before .before .before .before .before .before .before .before .before .before .mul-pop in
+    let at-out2 = after-out2 (after-u2 c) in
+    let at-mul-lower = at-out2 .before .mul-lower in
+    let at-mul-pop = after-mul-pop (after-u (at-out2 .before)) .mul-pop in
     at-mul-lower .kept .1 .1 .1 .1 .1 .0 ∙ at-mul-pop .kept .1 .1 .1 .1 .1 .0)
     (λ c.
-    let at-mul-lower = c .before .before .before .before .before .before .before .before .before .before .mul-lower in
-    let at-mul-pop = c .before .before .before .before .before .before .before .before .before .before .before .before .before .before .before .before .before .before .before .before .before .mul-pop in
+    let at-out2 = after-out2 (after-u2 c) in
+    let at-mul-lower = at-out2 .before .mul-lower in
+    let at-mul-pop = after-mul-pop (after-u (at-out2 .before)) .mul-pop in
     at-mul-lower .kept .1 .1 .1 .1 .1 .1 .0 ∙ at-mul-pop .kept .1 .1 .1 .1 .1 .1 .0)
     -- returns
     (λ c.
-    let s = c .before .before .before .before .before .before .before .before .before .before .before .before .before .before .before .before .before .before .before .before .before .before .before .before .before .before .before .before .before .before .before .before in
-    pow-gives ((getD (s .args .y .now) 0 0) % 64) (made·mul-pop-pow t (c .before .before .before .before .before))
-    (pop-times (is-pow·mul-pop-pow t s) (s .args .i) (dec (s .args .width) (s .args .p .now)) (good-pop (fit-x (s .pre .1 .1 .0 .fit) .good) .0))
+    let at-u2 = after-u2 c in
+    let s = start-from-u (after-u (after-out2 at-u2 .before)) in
+    pow-gives ((getD (s .args .y .now) 0 0) % 64) (made·mul-pop-pow t at-u2)
+    (pop-times (is-pow·mul-pop-pow t s) (s .args .i) (dec (s .args .width) (s .args .p .now))
+    (good-pop (fit-x (s .pre .1 .1 .0 .fit) .good) .0))
     (c .before .before .make-pow .ensures))

@@ -7,7 +7,8 @@ use denote.Ref.{now}
 use borrow.Author.Needs.{needs}
 use Rattle.term_token.specs.declared.Step.the-variants.{Open, Close, Word, End}
 use Rattle.term_token.specs.Steps.{plain, lead, stepOf}
-use Rattle.term_token.specs.Views.{from, begin, width, says-end, says-open, says-close, says-word, step-open, step-close, step-word, step-end}
+use Rattle.term_token.specs.Views.{from, begin, width, says-end, says-open, says-close, says-word, step-open, step-close, step-word}
+use Rattle.term_token.specs.Views.{step-end}
 use Rattle.term_token.proofs.Reader.next.Statement.{statement}
 use Rattle.term_token.proofs.Reader.next.Tie as tie
 
@@ -29,17 +30,19 @@ module _ (s : List ℕ) (at b : ℕ) (found : b ≡ begin s at) (l : at ≤ leng
   at-word : (e : ℕ) → e ≡ b + lead plain (drop b s) → b < length s → (getD s b 0 ≡ 40 → ⊥) → (getD s b 0 ≡ 41 → ⊥)
       → Word b (record { at = e }) ≡ stepOf (from s at)
   at-word =
-      subst (λ z. (e : ℕ) → e ≡ z + lead plain (drop z s) → z < length s → (getD s z 0 ≡ 40 → ⊥) → (getD s z 0 ≡ 41 → ⊥) → Word z (record { at = e }) ≡ stepOf (from s at))
+      subst (λ z. (e : ℕ) → e ≡ z + lead plain (drop z s) → z < length s → (getD s z 0 ≡ 40 → ⊥) → (getD s z 0 ≡ 41 → ⊥) → Word z
+      (record { at = e }) ≡ stepOf (from s at))
       (sym found)
-      (λ e f h n m. ap (λ q. Word (begin s at) (record { at = q })) f ∙ sym (step-word s at (begin s at) (record { at = begin s at + width s at l }) (says-word s at l h n m)))
+      (λ e f h n m. ap (λ q. Word (begin s at) (record { at = q })) f
+      ∙ sym (step-word s at (begin s at) (record { at = begin s at + width s at l }) (says-word s at l h n m)))
 
 skip-requires : tie.Need-skip-requires
 skip-requires c κs = search needs
 
 returns : tie.Need-returns
 returns c =
-    let a = c .before .before .before in
-    at-end (now (a .args .s)) _ _ (c .before .skip .ensures .0) (a .pre) (c .if1 .taken)
+    let s : tie.Start = c .before .before .before in
+    at-end (now (s .args .s)) _ _ (c .before .skip .ensures .0) (s .pre) (c .if1 .taken)
 
 shared-slice-read-x : tie.Need-shared-slice-read-x
 shared-slice-read-x c = search needs
@@ -49,25 +52,29 @@ add-t11 c = search needs
 
 returns-2 : tie.Need-returns-2
 returns-2 c =
-    let a = c .before .before .before .before .before in
-    at-open (now (a .args .s)) _ _ (c .before .before .before .skip .ensures .0) (a .pre) (c .before .before .if1 .left) (c .if2 .taken)
+    let at-skip : tie.After-skip = c .before .before .before in
+    let s = at-skip .before .before in
+    at-open (now (s .args .s)) _ _ (at-skip .skip .ensures .0) (s .pre) (c .before .before .if1 .left) (c .if2 .taken)
 
 add-t13 : tie.Need-add-t13
 add-t13 c = search needs
 
 returns-3 : tie.Need-returns-3
 returns-3 c =
-    let a = c .before .before .before .before .before .before in
-    at-close (now (a .args .s)) _ _ (c .before .before .before .before .skip .ensures .0) (a .pre) (c .before .before .before .if1 .left) (c .if3 .taken)
+    let at-else1 : tie.Else1 = c .before .before .before in
+    let at-skip = at-else1 .before in
+    let s = at-skip .before .before in
+    at-close (now (s .args .s)) _ _ (at-skip .skip .ensures .0) (s .pre) (at-else1 .if1 .left) (c .if3 .taken)
 
 run-requires : tie.Need-run-requires
 run-requires c κs = search needs
 
 returns-4 : tie.Need-returns-4
 returns-4 c =
-    let a = c .before .before .before .before .before .before .before in
-    at-word (now (a .args .s)) _ _ (c .before .before .before .before .before .skip .ensures .0) (a .pre) _ (c .run .ensures .0)
-    (c .before .before .before .before .if1 .left) (c .before .before .if2 .left) (c .before .if3 .left)
+    let at-else1 : tie.Else1 = c .before .before .before .before in
+    let s : tie.Start = at-else1 .before .before .before in
+    at-word (now (s .args .s)) _ _ (at-else1 .before .skip .ensures .0) (s .pre) _ (c .run .ensures .0)
+    (at-else1 .if1 .left) (c .before .before .if2 .left) (c .before .if3 .left)
 
 pub next-spec : {M : Type 1} → statement M
 next-spec =
