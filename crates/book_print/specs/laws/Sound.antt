@@ -21,7 +21,7 @@ use Rattle.book_read.specs.laws.Whole.{counted, listed, numbered, lettered, boo
 use Rattle.book_line.specs.Lines.{headText}
 use Rattle.book_line.specs.laws.Texts.{head-is}
 use Rattle.book_print.specs.Print.{Row, Left, listOf, linesFrom}
-use Rattle.book_print.specs.laws.Walk.{fine-read, fine-right, fine-onward, first-of}
+use Rattle.book_print.specs.laws.Walk.{fine-right, fine-onward, first-of}
 
 -- the letters so far are a row
 row-of : (book : List ℕ) (i k : ℕ) → headOf (letters book i (suc k)) ≡ Fine → isRow (part book 1 (i + suc k)) ≡ true
