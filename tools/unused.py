@@ -13,7 +13,7 @@ ALLOWED = {
     ("crates/book/specs/laws/Lines.antt", "sided"): "a refused comparison in a book speaks of one of the two bodies: its line says E or C",
     ("crates/text_laws/specs/laws/FormNodes.antt", "wrong-stands"): "`nodes` counts bytes: at the place of a node stands its text",
 }
-CALLS = re.compile(r"call_\w+|book_print|panel")
+CALLS = re.compile(r"call_\w+|book_print|panel|demands")
 
 ROOT = pathlib.Path(__file__).resolve().parent.parent
 NAME = r"[^\s(){}\[\];,.:=]+"

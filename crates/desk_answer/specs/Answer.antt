@@ -4,39 +4,52 @@ use mathlib.Core.List.{List, []}
 use Prim.Native.Nat.{ℕ}
 use Prim.Native.String.{String}
 use lib.Dec.{leb}
-use Rattle.text.specs.definitions.Bytes.{bytes}
+use Rattle.text.specs.definitions.Bytes.{bytes, same}
+use Rattle.desk_field.specs.Fields.{fieldOf}
 use Rattle.desk_reply.specs.Reply.{wrongText}
-use Rattle.desk_serve.specs.Serve.{asks}
 use Rattle.desk_term.specs.Term.{formLine, remainderLine}
 use Rattle.desk_compare.specs.Compare.{compareLine, countersLine}
 use Rattle.desk_form.specs.Form.{judgeLine, negateLine, raiseLine, formRemainderLine}
 use Rattle.desk_operation.specs.Operation.{addLine, multiplyLine}
+use Rattle.desk_answer.specs.declared.Word.{Word}
+use Rattle.desk_answer.specs.declared.Word.the-variants.{Form, Remainder, Judge, Negate, Add, Multiply, Raise, FormRemainder, Compare, Counters, Unknown}
 
--- the words on terms; field 0 is wrong where it is no word at all
-unfoldable pub termsAnswer : List ℕ → List ℕ → List ℕ
-termsAnswer tables line =
-    asks line (bytes "form") (formLine tables line)
-    (asks line (bytes "remainder") (remainderLine tables line)
-    (asks line (bytes "compare") (compareLine tables line)
-    (asks line (bytes "counters") (countersLine tables line)
-    (wrongText 0))))
+-- the word w, where v is spelt as it; else what comes after
+abbrev spelt : List ℕ → List ℕ → Word → Word → Word
+spelt v w k after = cond (same v w) k after
 
--- before them, the operations whose results are measured
-unfoldable pub operationsAnswer : List ℕ → List ℕ → List ℕ
-operationsAnswer tables line =
-    asks line (bytes "add") (addLine tables line)
-    (asks line (bytes "multiply") (multiplyLine tables line)
-    (asks line (bytes "raise") (raiseLine tables line)
-    (termsAnswer tables line)))
+-- how each word is spelt
+unfoldable pub wordOf : List ℕ → Word
+wordOf v =
+    spelt v (bytes "form") Form
+    (spelt v (bytes "remainder") Remainder
+    (spelt v (bytes "judge") Judge
+    (spelt v (bytes "negate") Negate
+    (spelt v (bytes "add") Add
+    (spelt v (bytes "multiply") Multiply
+    (spelt v (bytes "raise") Raise
+    (spelt v (bytes "formremainder") FormRemainder
+    (spelt v (bytes "compare") Compare
+    (spelt v (bytes "counters") Counters
+    Unknown)))))))))
 
--- before those, the other words on forms: the answer to a line
-unfoldable pub lineAnswer : List ℕ → List ℕ → List ℕ
-lineAnswer tables line =
-    asks line (bytes "judge") (judgeLine line)
-    (asks line (bytes "negate") (negateLine tables line)
-    (asks line (bytes "formremainder") (formRemainderLine tables line)
-    (operationsAnswer tables line)))
+-- what a line with the word is answered with; field 0 is wrong where it is no word at all
+abbrev pub answerBy : Word → (tables line : List ℕ) → List ℕ
+answerBy Form tables line = formLine tables line
+answerBy Remainder tables line = remainderLine tables line
+answerBy Judge tables line = judgeLine line
+answerBy Negate tables line = negateLine tables line
+answerBy Add tables line = addLine tables line
+answerBy Multiply tables line = multiplyLine tables line
+answerBy Raise tables line = raiseLine tables line
+answerBy FormRemainder tables line = formRemainderLine tables line
+answerBy Compare tables line = compareLine tables line
+answerBy Counters tables line = countersLine tables line
+answerBy Unknown tables line = wrongText 0
+
+unfoldable pub lineAnswer : (tables line : List ℕ) → List ℕ
+lineAnswer tables line = answerBy (wordOf (fieldOf line 0)) tables line
 
 -- the same into a buffer of n bytes: nothing where these are fewer than `FORM ` and a result of 65,535 bytes may take
-abbrev pub answerIn : ℕ → List ℕ → List ℕ → List ℕ
+abbrev pub answerIn : ℕ → (tables line : List ℕ) → List ℕ
 answerIn n tables line = cond (leb 65540 n) (lineAnswer tables line) []

@@ -14,10 +14,6 @@ use Rattle.desk_reply.specs.Reply.{wrongText, refusedText, remainderText}
 use Rattle.reply.specs.declared.Remaindered.{Remaindered}
 use Rattle.reply.specs.declared.Remaindered.the-variants.{Remainder, Refused}
 
--- w where the line's word is the one that is named, else what comes after
-abbrev pub asks : List ℕ → List ℕ → List ℕ → List ℕ → List ℕ
-asks line word w after = cond (same (fieldOf line 0) word) w after
-
 -- a request of k fields: w, or the number of the first field that is missing or too many
 abbrev pub counted : ℕ → List ℕ → List ℕ → List ℕ
 counted k line w = cond (eqb (countOf line) k) w (wrongText (min (countOf line) k))

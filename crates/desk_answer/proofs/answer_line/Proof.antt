@@ -1,9 +1,7 @@
 -- `desk_answer::answer_line` meets its contract: nothing where the buffer is too short, else the answer to the line.
 use mathlib.Core.List.{List, [], _∷_}
-use mathlib.Core.Path.{_≡_}
 use Prim.Native.Nat.{ℕ}
 use lib.ListN.{length}
-use denote.Ref.{now}
 use Rattle.desk_answer.specs.Laws.{answer-none, answer-some}
 use borrow.Author.Needs.{needs}
 use Rattle.desk_answer.proofs.answer_line.Statement.{statement}
@@ -14,47 +12,31 @@ use Rattle.desk_answer.proofs.word_line.Reads as word-line-reads
 
 -- the lengths of the lent tables
 abbrev tables : tie.Start → List ℕ
-tables s = length (now (s .args .a)) ∷ length (now (s .args .b)) ∷ length (now (s .args .c)) ∷ length (now (s .args .d)) ∷ []
+tables s = length (s .args .a .now) ∷ length (s .args .b .now) ∷ length (s .args .c .now) ∷ length (s .args .d .now) ∷ []
 
 returns : tie.Need-returns
-returns c =
-    let start = c .before .before .before .before .before .before .before in
-    answer-none (tables start) (now (start .args .line)) (now (start .args .out)) (c .if1 .taken)
+returns c = let s = (c .before .before .before .before .before .before .before) in answer-none (tables s) (s .args .line .now) (s .args .out .now) ((c .if1) .taken)
 
 word-line-requires : tie.Need-word-line-requires
-word-line-requires c κs = c .before .before .before .before .before .if1 .left
+word-line-requires c κs = search needs
 
 same-length : tie.Need-same-length
-same-length c = c .before .before .before .before .before .before .before .before .before .before .word-line .kept .1 .0
+same-length c = search needs
 
 same-length-2 : tie.Need-same-length-2
-same-length-2 c = c .before .before .before .before .before .before .before .before .before .before .word-line .kept .1 .1 .0
+same-length-2 c = search needs
 
 same-length-3 : tie.Need-same-length-3
-same-length-3 c = c .before .before .before .before .before .before .before .before .before .before .word-line .kept .1 .1 .1 .0
+same-length-3 c = search needs
 
 same-length-4 : tie.Need-same-length-4
-same-length-4 c = c .before .before .before .before .before .before .before .before .before .before .word-line .kept .1 .1 .1 .1 .0
+same-length-4 c = search needs
 
 same-length-5 : tie.Need-same-length-5
-same-length-5 c = c .before .before .before .before .before .before .before .before .before .before .word-line .kept .1 .1 .1 .1 .1 .0
+same-length-5 c = search needs
 
 returns-2 : tie.Need-returns-2
-returns-2 c =
-    let word-line = c .before .before .before .before .before .before .before .before .before .before .word-line in
-    let if1 = c .before .before .before .before .before .before .before .before .before .before .before .before .before .before .before .before .if1 in
-    let start = c .before .before .before .before .before .before .before .before .before .before .before .before .before .before .before .before .before .before .before .before .before .before .before in
-    answer-some (tables start) (now (start .args .line)) (if1 .left) (word-line .ensures)
+returns-2 c = let s = (c .before .before .before .before .before .before .before .before .before .before .before .before .before .before .before .before .before .before .before .before .before .before .before) in answer-some (tables s) (s .args .line .now) ((c .before .before .before .before .before .before .before .before .before .before .before .before .before .before .before .before .if1) .left) ((c .before .before .before .before .before .before .before .before .before .before .word-line) .ensures)
 
 pub answer-line-spec : {M : Type 1} → statement M
-answer-line-spec =
-    tie.close
-    (tie.spec
-    returns
-    word-line-requires
-    same-length
-    same-length-2
-    same-length-3
-    same-length-4
-    same-length-5
-    returns-2)
+answer-line-spec = tie.close (tie.spec returns word-line-requires same-length same-length-2 same-length-3 same-length-4 same-length-5 returns-2)
