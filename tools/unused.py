@@ -1,6 +1,7 @@
 #!/usr/bin/env python3
 """unused.py [PART ..]: lists every function (.rt) and every lemma, definition, record and type (.antt, in specs/ and proofs/) that nothing
-needs, as FILE:LINE: NAME; with PARTs only the lines that have one of them. The exit status is 1 if there is any.
+needs, as FILE:LINE: NAME, and every name that a file imports and does not use, as FILE: use NAME; with PARTs only the lines that have
+one of them. The exit status is 1 if there is any.
 
 Something is needed if it is a root, or if something needed names it: in its contract, its signature, a clause or an `unfolding`, by a
 name of its own file, by one that the file imports (`use M.{name}`, `name as x`), by `alias.name` or by its full name. An import alone
@@ -67,6 +68,17 @@ def imports(text):
     return names, aliases
 
 
+def idle(text):
+    """The names that a file imports and does not use; of an operator, what stands between its operands."""
+    lines = [line for line in text.split("\n") if not re.match(r"(pub |ghost )?use |\s*(--|//) ", line)]
+    body = "\n".join(lines)
+    words = set(re.split(r"[\s(){}\[\];,.|⌜⌝]+", body)) | {"[]"}
+    for listed in re.findall(r"^(?:ghost )?use \S+?\.\{([^}]*)\}", text, re.M):
+        for name in (item.split(" as ")[-1].strip() for item in listed.split(",")):
+            if name not in words and not ("_" in name and all(part in body for part in name.split("_"))) and name not in body.split():
+                yield name
+
+
 def read_antt(file, text):
     here, kind, sections, headers = None, None, [], {}
     for number, line in enumerate(text.split("\n"), 1):
@@ -83,6 +95,9 @@ def read_antt(file, text):
             here = None
             sections.append(indent)
             headers[indent] = []
+        elif line.strip() == "where" and here is None:  # a section whose head takes several lines
+            headers[indent] = headers.pop(sections.pop())
+            sections.append(indent)
         elif indent == level and head:
             kind = head.group(2)
             for name in (head.group(3) or head.group(4)).split():
@@ -154,6 +169,7 @@ while waiting:
         needed.add(id(thing))
         waiting.extend(named_by(thing))
 lines = ["%s:%d: %s" % (thing.file, thing.line, thing.name) for thing in things if id(thing) not in needed]
+lines += ["%s: use %s" % (file, name) for file in scopes for name in idle((ROOT / file).read_text(encoding="utf-8"))]
 lines = [line for line in lines if len(sys.argv) == 1 or any(part in line for part in sys.argv[1:])]
 print("\n".join(lines + ["unused: %d of %d functions, statements and definitions" % (len(lines), len(things))]))
 sys.exit(1 if lines else 0)

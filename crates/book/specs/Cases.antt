@@ -1,14 +1,12 @@
 -- Document 01's case B, and books that are refused, by computation.
-use mathlib.Core.Bool.{Bool, true, false, _&&_}
+use mathlib.Core.Bool.{Bool, true, _&&_}
 use mathlib.Core.List.{List, [], _∷_, _++_}
 use Prim.Native.Nat.{ℕ, zero, suc}
 use Prim.Native.String.{String}
 use lib.Dec.{T}
-use Rattle.text.specs.definitions.Bytes.{bytes, same}
+use Rattle.text.specs.definitions.Bytes.{bytes, same, decimal}
 use Rattle.text.specs.definitions.Limits.{acceptTerm}
-use Rattle.text.specs.definitions.Numerals.{dec}
-use Rattle.book.specs.definitions.Reading.{readBook}
-use Rattle.book.specs.definitions.Answer.{printed, entryLine}
+use Rattle.book.specs.definitions.Book.{readBook, printed, entryLine}
 
 abbrev pub head : List ℕ
 head =
@@ -26,7 +24,7 @@ abbrev pub caseB : List ℕ
 caseB = head ++ bodies
 
 abbrev pub holds : List ℕ → String → Bool
-unfolding printed readBook entryLine acceptTerm dec
+unfolding printed readBook entryLine acceptTerm decimal
 holds book text = same (printed book) (bytes text)
 
 pub case-b-holds : T (holds caseB "BOOK 2 3\n0 SAME\n1 DIFF 1 1 1 0\n2 REFUSED E 4 7\n")

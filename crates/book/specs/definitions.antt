@@ -1,3 +1,2 @@
 -- Read in this order.
-pub mod Reading
-pub mod Answer
+pub mod Book

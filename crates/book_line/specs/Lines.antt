@@ -1,8 +1,8 @@
 -- The lines as they are written: piece by piece, each number with the space or the line feed behind it.
 use mathlib.Core.List.{List, [], _∷_, _++_}
 use Prim.Native.Nat.{ℕ}
-use Rattle.text.specs.definitions.Bytes.{bytes}
-use Rattle.text.specs.definitions.Numerals.{dec}
+use Rattle.text.specs.definitions.Bytes.{bytes, decimal}
+use Rattle.text_line.specs.Line.{differentText}
 use Rattle.refusal.specs.declared.Fault.{Fault}
 use Rattle.refusal.specs.declared.Refusal.{Refusal}
 use Rattle.refusal.specs.declared.Side.{Side}
@@ -12,17 +12,10 @@ use Rattle.reply.specs.declared.Compared.the-variants.{Same, Different, Refused
 
 -- a number and a space; a number and a line feed
 abbrev pub spaced : ℕ → List ℕ
-spaced n = dec n ++ (32 ∷ [])
+spaced n = decimal n ++ (32 ∷ [])
 
 abbrev pub ended : ℕ → List ℕ
-ended n = dec n ++ (10 ∷ [])
-
-abbrev pub parted : List ℕ → List ℕ
-parted [] = []
-parted (n ∷ ns) = spaced n ++ parted ns
-
-abbrev pub differentText : List ℕ → ℕ → ℕ → List ℕ
-differentText N l r = ((bytes "DIFF " ++ parted N) ++ spaced l) ++ ended r
+ended n = decimal n ++ (10 ∷ [])
 
 abbrev pub refusedStart : Side → List ℕ
 refusedStart Left = bytes "REFUSED E "
@@ -34,7 +27,7 @@ refusedText bad = (refusedStart (bad .side) ++ spaced (bad .number)) ++ ended (b
 
 abbrev pub answerText : Compared → List ℕ → List ℕ
 answerText Same N = bytes "SAME\n"
-answerText (Different l r) N = differentText N l r
+answerText (Different l r) N = differentText N l r ++ (10 ∷ [])
 answerText (Refused bad) N = refusedText bad
 
 unfoldable pub entryText : ℕ → Compared → List ℕ → List ℕ

@@ -4,11 +4,11 @@ use refusal::Refusal;
 use refusal::Side;
 use reply::Compared;
 ghost use mathlib.Core.List.{[], _∷_, _++_};
-ghost use mathlib.Core.Path.{_≡_};
-ghost use Prim.Native.Nat.{_≤_, _*_};
+ghost use Prim.Native.Nat.{_≤_};
 ghost use lib.ListN.{length};
 ghost use Rattle.form_write.specs.Write.{numeral, Wrote};
-ghost use Rattle.book_line.specs.Lines.{parted, refusedStart, refusedText, differentText, answerText, entryText, headText, refusalText};
+ghost use Rattle.text_line.specs.Line.{differentText};
+ghost use Rattle.book_line.specs.Lines.{refusedStart, refusedText, answerText, entryText, headText, refusalText};
 
 // A number and the byte behind it: a space, or a line feed.
 fn put_number(n: usize, last: u8, out: &mut [u8]) -> usize
@@ -21,34 +21,16 @@ fn put_number(n: usize, last: u8, out: &mut [u8]) -> usize
     k + 1
 }
 
-// Numbers, each with a space behind it.
-fn put_numbers(ns: &[u32], out: &mut [u8]) -> usize
-    requires { ⌜ 21 * length (now ns) ≤ length (now out) ⌝ }
-    ensures { λ r. ⌜ Wrote r (parted (now (ns .entry))) (now (out .entry)) (now (out .exit)) ⌝ }
-    ensures { λ r. ⌜ r ≤ 21 * length (now (ns .entry)) ⌝ }
-{
-    if ns.len() == 0 {
-        return 0;
-    }
-    let k = put_number(ns[0] as usize, b' ', out);
-    let m = put_numbers(&ns[1..], &mut out[k..]);
-    k + m
-}
-
 // `DIFF`, the point, both remainders.
-fn different(point: &[u32], l: u32, r: u32, out: &mut [u8]) -> usize
+fn put_different(point: &[u32], l: u32, r: u32, out: &mut [u8]) -> usize
     requires { ⌜ length (now point) ≤ 4 ⌝ }
     requires { ⌜ 139 ≤ length (now out) ⌝ }
-    ensures { λ n. ⌜ Wrote n (differentText (now (point .entry)) l r) (now (out .entry)) (now (out .exit)) ⌝ }
+    ensures { λ n. ⌜ Wrote n (differentText (now (point .entry)) l r ++ (10 ∷ [])) (now (out .entry)) (now (out .exit)) ⌝ }
     ensures { λ n. ⌜ n ≤ 139 ⌝ }
 {
-    let a = form_write::put(b"DIFF ", out);
-    let k = put_numbers(point, &mut out[a..]);
-    let b = a + k;
-    let m = put_number(l as usize, b' ', &mut out[b..]);
-    let e = b + m;
-    let n = put_number(r as usize, b'\n', &mut out[e..]);
-    e + n
+    let n = text_line::different(point, l, r, out);
+    out[n] = b'\n';
+    n + 1
 }
 
 // `REFUSED`, and E for panel or C for cloud.
@@ -86,7 +68,7 @@ fn put_answer(answer: Compared, point: &[u32], out: &mut [u8]) -> usize
 {
     match answer {
         Compared::Same => form_write::put(b"SAME\n", out),
-        Compared::Different(l, r) => different(point, l, r, out),
+        Compared::Different(l, r) => put_different(point, l, r, out),
         Compared::Refused(bad) => refused(bad, out),
     }
 }

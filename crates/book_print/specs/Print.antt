@@ -4,10 +4,8 @@ use mathlib.Core.List.{List, []}
 use mathlib.Core.Path.{_≡_}
 use Prim.Native.Nat.{ℕ, _+_, _*_, _≤_}
 use lib.ListN.{length}
-use Rattle.text.specs.definitions.Answer.{Reading, read, refused}
-use Rattle.text.specs.definitions.Bytes.{isRow}
-use Rattle.book.specs.definitions.Reading.{Entry, number16, part, entries}
-use Rattle.book.specs.definitions.Answer.{entryLine, entryLines}
+use Rattle.text.specs.definitions.Bytes.{Reading, read, refused, isRow}
+use Rattle.book.specs.definitions.Book.{Entry, number16, part, entries, entryLine, entryLines}
 use Rattle.book_read.specs.Heads.{headOf}
 use Rattle.book_read.specs.declared.Head.the-variants.{Fine}
 
@@ -39,7 +37,8 @@ pub record Lent (a b c d : ℕ) : Type 0 where
 
 -- the line of an entry
 unfoldable pub lineAt : (book : List ℕ) (n p at i : ℕ) → List ℕ
-lineAt book n p at i = entryLine (part book 1 n) i (part book at (number16 book (p + 2))) (part book (at + number16 book (p + 2)) (number16 book (p + 6)))
+lineAt book n p at i =
+    entryLine (part book 1 n) i (part book at (number16 book (p + 2))) (part book (at + number16 book (p + 2)) (number16 book (p + 6)))
 
 -- the entries that were read
 abbrev pub listOf : Reading (List Entry) → List Entry

@@ -5,12 +5,14 @@ ghost use mathlib.Core.Path.{_≡_};
 ghost use Prim.Native.Nat.{_+_, _*_, _≤_};
 ghost use lib.ListN.{length};
 ghost use Rattle.reply.specs.definitions.Reply.{work};
-ghost use Rattle.book.specs.definitions.Answer.{printed, PrintCall};
-ghost use Rattle.book.specs.definitions.Reading.{readBook};
+ghost use Rattle.book.specs.definitions.Book.{printed, PrintCall, readBook};
 ghost use Rattle.form_write.specs.Write.{Wrote};
 ghost use Rattle.book_read.specs.Heads.{headOf};
 ghost use Rattle.book_read.specs.declared.Head.the-variants.{Fine};
 ghost use Rattle.book_print.specs.Print.{Row, Here, Left, Lent, lineAt, linesFrom};
+
+// No book's answer is longer: it has a first line, and at most 64 of at most 160 bytes.
+pub const PAGE: usize = 16384;
 
 // The line of the entry with the number i, whose fields stand at p and whose bodies begin at the byte at.
 fn print_entry(
@@ -137,7 +139,7 @@ pub fn print_book(
     if !door::enough(a.len(), b.len(), c.len(), d.len()) {
         return Written::Refused(refusal::of_neither(2));
     }
-    let mut text = [0u8; 16384];
+    let mut text = [0u8; PAGE];
     let n = print_any(book, &mut text, a, b, c, d);
     door::clear_tables(a, b, c, d);
     if out.len() < n {

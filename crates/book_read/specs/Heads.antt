@@ -1,8 +1,8 @@
 -- What the functions answer for each reading.
 use mathlib.Core.List.{List}
 use Prim.Native.Nat.{ℕ, _+_, _≤_}
-use Rattle.text.specs.definitions.Answer.{Reading, read, refused}
-use Rattle.book.specs.definitions.Reading.{onward, body}
+use Rattle.text.specs.definitions.Bytes.{onward, Reading, read, refused}
+use Rattle.book.specs.definitions.Book.{body}
 use Rattle.book_read.specs.declared.Head.{Head}
 use Rattle.book_read.specs.declared.Head.the-variants as H
 use Rattle.book_read.specs.declared.Body.{Body}

@@ -3,7 +3,7 @@ use refusal::Fault;
 ghost use mathlib.Core.Path.{_≡_};
 ghost use Prim.Native.Nat.{_+_, _*_, _≤_};
 ghost use lib.ListN.{length};
-ghost use Rattle.book.specs.definitions.Reading.{readBook, letters, number16, body, entries, contents};
+ghost use Rattle.book.specs.definitions.Book.{readBook, letters, number16, body, entries, contents};
 ghost use Rattle.book_read.specs.Heads.{headOf, bodyOf, bothOf, Near};
 
 // Fine, or what is wrong.
@@ -13,7 +13,7 @@ pub enum Head {
 }
 
 // The length of a body, or of an entry's two bodies; or what is wrong.
-pub enum Body {
+enum Body {
     Length(usize),
     Refused(Fault),
 }
@@ -31,7 +31,7 @@ pub fn number_at(book: &[u8], p: usize) -> usize
 }
 
 // The length of the body that has to begin at the byte at, from its two fields at p.
-pub fn read_body(book: &[u8], p: usize, at: usize) -> Body
+fn read_body(book: &[u8], p: usize, at: usize) -> Body
     requires { ⌜ Near p at ⌝ }
     ensures { λ r. ⌜ r ≡ bodyOf (body (now (book .entry)) p at) ⌝ }
 {

@@ -9,10 +9,10 @@ ghost use mathlib.Core.Path.{_≡_};
 ghost use Prim.Native.Nat.{_≤_};
 ghost use lib.ListN.{length};
 ghost use Rattle.horner.specs.definitions.Form.{sum};
-ghost use Rattle.horner.specs.definitions.Integers.{ℤ-ring};
+ghost use Rattle.horner.specs.definitions.Rings.{ℤ-ring};
 ghost use Rattle.text.specs.definitions.Bytes.{isRow};
 ghost use Rattle.reply.specs.definitions.Reply.{resultAfter, work};
-ghost use Rattle.reply.specs.definitions.Forms.{ofSum, twoOf, AddCall};
+ghost use Rattle.reply.specs.definitions.Calls.{ofSum, twoOf, AddCall};
 ghost use Rattle.door_result.specs.Result.{writtenOf};
 ghost use Rattle.door_forms.specs.Forms.{IsPair};
 
@@ -31,8 +31,10 @@ fn write_sum(
 ) -> Written
     requires { ⌜ (length (now row) ≤ 4) × ((16384 ≤ length (now a)) × (16384 ≤ length (now b))) ⌝ }
     requires { ⌜ IsPair (length (now row)) (now s) (now t) x n y k (now a) ⌝ }
-    ensures { λ r. ⌜ r ≡ writtenOf (twoOf (ofSum (length (now (row .entry)))) (sum ℤ-ring) (now (row .entry)) (now (s .entry)) (now (t .entry)) (length (now (result .entry)))) ⌝ }
-    ensures { λ _. ⌜ now (result .exit) ≡ resultAfter (twoOf (ofSum (length (now (row .entry)))) (sum ℤ-ring) (now (row .entry)) (now (s .entry)) (now (t .entry)) (length (now (result .entry)))) (now (result .entry)) ⌝ }
+    ensures { λ r. ⌜ r ≡ writtenOf (twoOf (ofSum (length (now (row .entry)))) (sum ℤ-ring) (now (row .entry)) (now (s .entry))
+        (now (t .entry)) (length (now (result .entry)))) ⌝ }
+    ensures { λ _. ⌜ now (result .exit) ≡ resultAfter (twoOf (ofSum (length (now (row .entry)))) (sum ℤ-ring) (now (row .entry))
+        (now (s .entry)) (now (t .entry)) (length (now (result .entry)))) (now (result .entry)) ⌝ }
 {
     let e = measure::limit_of(measure::add(x, y));
     if e != 0 {
@@ -53,8 +55,10 @@ fn add_of(
 ) -> Written
     requires { ⌜ isRow (now row) ≡ true ⌝ }
     requires { ⌜ (16384 ≤ length (now a)) × (16384 ≤ length (now b)) ⌝ }
-    ensures { λ r. ⌜ r ≡ writtenOf (twoOf (ofSum (length (now (row .entry)))) (sum ℤ-ring) (now (row .entry)) (now (s .entry)) (now (t .entry)) (length (now (result .entry)))) ⌝ }
-    ensures { λ _. ⌜ now (result .exit) ≡ resultAfter (twoOf (ofSum (length (now (row .entry)))) (sum ℤ-ring) (now (row .entry)) (now (s .entry)) (now (t .entry)) (length (now (result .entry)))) (now (result .entry)) ⌝ }
+    ensures { λ r. ⌜ r ≡ writtenOf (twoOf (ofSum (length (now (row .entry)))) (sum ℤ-ring) (now (row .entry)) (now (s .entry))
+        (now (t .entry)) (length (now (result .entry)))) ⌝ }
+    ensures { λ _. ⌜ now (result .exit) ≡ resultAfter (twoOf (ofSum (length (now (row .entry)))) (sum ℤ-ring) (now (row .entry))
+        (now (s .entry)) (now (t .entry)) (length (now (result .entry)))) (now (result .entry)) ⌝ }
 {
     let pair = door_forms::read_pair(row.len(), s, t, a);
     match pair {
@@ -63,8 +67,8 @@ fn add_of(
     }
 }
 
-// The text of the sum of the forms s and t over the row, at the front of the result buffer; or a refusal. The work tables are cleared, but not where 1 or 2 is
-// refused.
+// The text of the sum of the forms s and t over the row, at the front of the result buffer; or a refusal. The work tables are cleared, but
+// not where 1 or 2 is refused.
 pub fn add(
     row: &[u8],
     s: &[u8],

@@ -9,7 +9,7 @@ use Rattle.code.specs.Coding.{Coded, dec}
 use Rattle.code.specs.Operations.{sumOf, negateOf, valueOf}
 use Rattle.code.specs.Widths.{Leaf}
 use Rattle.code_point.specs.Points.{pointOf, Ready}
-use Rattle.reply.specs.definitions.Compare.{Verdict, equal, different, remainders, toldCompared, Compares}
+use Rattle.reply.specs.definitions.Calls.{Verdict, equal, different, remainders, toldCompared, Compares}
 use Rattle.reply.specs.definitions.Reply.{Reply, gives, refuses, said, Work}
 use Rattle.reply.specs.declared.Compared.{Compared}
 use Rattle.reply.specs.declared.Compared.the-variants.{Same, Different, Refused}
@@ -80,4 +80,5 @@ pub record Wide (n a b c : ℕ) : Type 0 where
 -- the answer and the point buffer, of the forms x and y over n variables
 pub record Told (n : ℕ) (x y : Form (Leaf 0)) (r : Compared) (p p′ : List ℕ) : Type 0 where
   pub same : x ≡ y → (r ≡ Same) × (p′ ≡ p)
-  pub parted : (x ≡ y → ⊥) → let N = pointOf n (sumOf 0 x (negateOf 0 y)) in (r ≡ Different (valueOf 0 x N) (valueOf 0 y N)) × (p′ ≡ N ++ drop n p)
+  pub parted : (x ≡ y → ⊥) → let N = pointOf n (sumOf 0 x (negateOf 0 y)) in
+      (r ≡ Different (valueOf 0 x N) (valueOf 0 y N)) × (p′ ≡ N ++ drop n p)

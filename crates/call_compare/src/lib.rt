@@ -8,12 +8,12 @@ ghost use mathlib.Core.List.{_++_};
 ghost use mathlib.Core.Path.{_≡_};
 ghost use Prim.Native.Nat.{_≤_, _+_};
 ghost use lib.ListN.{length, take, drop};
-ghost use Rattle.code.specs.Coding.{Coded, Made, Room, dec};
+ghost use Rattle.code.specs.Coding.{Made, dec};
 ghost use Rattle.code.specs.Operations.{valueOf};
 ghost use Rattle.code_point.specs.Points.{pointOf, Ready};
 ghost use Rattle.text.specs.definitions.Bytes.{isRow};
 ghost use Rattle.reply.specs.definitions.Reply.{work};
-ghost use Rattle.reply.specs.definitions.Compare.{compareOf, pointAfter, CompareCall};
+ghost use Rattle.reply.specs.definitions.Calls.{compareOf, pointAfter, CompareCall};
 ghost use Rattle.code.specs.Lengths.{Long};
 ghost use Rattle.call_compare.specs.Compare.{comparedOf, gapOf, Told, Sides, Apart, Rooms, Wide};
 
@@ -40,7 +40,8 @@ fn part(
     requires { ⌜ Sides k (now l) × Ready n (gapOf k (now l)) ⌝ }
     requires { ⌜ Rooms (length (now l)) (length (now b)) (length (now c)) × Rooms (length (now l)) (length (now a)) (length (now b)) ⌝ }
     requires { ⌜ n ≤ length (now point) ⌝ }
-    ensures { λ r. ⌜ r ≡ Compared.Different (valueOf 0 (dec 0 (take k (now (l .entry)))) (pointOf n (gapOf k (now (l .entry))))) (valueOf 0 (dec 0 (drop k (now (l .entry)))) (pointOf n (gapOf k (now (l .entry))))) ⌝ }
+    ensures { λ r. ⌜ r ≡ Compared.Different (valueOf 0 (dec 0 (take k (now (l .entry)))) (pointOf n (gapOf k (now (l .entry)))))
+        (valueOf 0 (dec 0 (drop k (now (l .entry)))) (pointOf n (gapOf k (now (l .entry))))) ⌝ }
     ensures { λ _. ⌜ now (point .exit) ≡ pointOf n (gapOf k (now (l .entry))) ++ drop n (now (point .entry)) ⌝ }
 {
     let g = gap(l, k, b, c);
@@ -63,7 +64,8 @@ fn verdict(
     requires { ⌜ Sides k (now l) × Apart n k (now l) ⌝ }
     requires { ⌜ Wide (length (now l)) (length (now a)) (length (now b)) (length (now c)) ⌝ }
     requires { ⌜ n ≤ length (now point) ⌝ }
-    ensures { λ r. ⌜ Told n (dec 0 (take k (now (l .entry)))) (dec 0 (drop k (now (l .entry)))) r (now (point .entry)) (now (point .exit)) ⌝ }
+    ensures { λ r. ⌜ Told n (dec 0 (take k (now (l .entry)))) (dec 0 (drop k (now (l .entry)))) r (now (point .entry))
+        (now (point .exit)) ⌝ }
 {
     if code_walk::same(&l[..k], &l[k..]) {
         return Compared::Same;
@@ -94,7 +96,8 @@ fn compare_of(
     requires { ⌜ Long (length (now a)) (length (now b)) (length (now c)) (length (now d)) × (16384 ≤ length (now d)) ⌝ }
     requires { ⌜ length (now row) ≤ length (now point) ⌝ }
     ensures { λ r. ⌜ r ≡ comparedOf (compareOf (now (row .entry)) (now (s .entry)) (now (t .entry))) ⌝ }
-    ensures { λ _. ⌜ now (point .exit) ≡ pointAfter (compareOf (now (row .entry)) (now (s .entry)) (now (t .entry))) (now (point .entry)) ⌝ }
+    ensures { λ _. ⌜ now (point .exit) ≡ pointAfter (compareOf (now (row .entry)) (now (s .entry)) (now (t .entry)))
+        (now (point .entry)) ⌝ }
 {
     let pair = door_terms::read_pair(row, s, t, a, b, c, d);
     match pair {
@@ -106,8 +109,8 @@ fn compare_of(
     }
 }
 
-// Compares the terms s and t over the row. On 'different' the first point stands at the front of the point buffer. The work tables are cleared, but not where 1 or
-// 2 is refused.
+// Compares the terms s and t over the row. On 'different' the first point stands at the front of the point buffer. The work tables are
+// cleared, but not where 1 or 2 is refused.
 pub fn compare(
     row: &[u8],
     s: &[u8],

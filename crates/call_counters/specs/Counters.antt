@@ -3,7 +3,7 @@ use mathlib.Core.Bool.{Bool, true, false}
 use mathlib.Core.Path.{_≡_, refl, ap, _∙_}
 use Rattle.reply.specs.declared.Counted.{Counted}
 use Rattle.reply.specs.declared.Counted.the-variants.{Same, Different, Refused}
-use Rattle.reply.specs.definitions.Compare.{toldCounted, Counts}
+use Rattle.reply.specs.definitions.Calls.{toldCounted, Counts}
 use Rattle.reply.specs.definitions.Reply.{Reply, gives, refuses, Work}
 
 abbrev pub answerOf : Bool → Counted

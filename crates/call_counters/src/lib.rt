@@ -11,7 +11,7 @@ ghost use Rattle.code.specs.Coding.{dec};
 ghost use Rattle.code_counters.specs.Same.{sameOf};
 ghost use Rattle.text.specs.definitions.Bytes.{isRow};
 ghost use Rattle.reply.specs.definitions.Reply.{work};
-ghost use Rattle.reply.specs.definitions.Compare.{isWidth, bits, countersOf, CountersCall};
+ghost use Rattle.reply.specs.definitions.Calls.{isWidth, bits, countersOf, CountersCall};
 ghost use Rattle.code.specs.Lengths.{Long};
 ghost use Rattle.call_compare.specs.Compare.{Sides, Wide};
 ghost use Rattle.call_counters.specs.Counters.{countedOf, answerOf};

@@ -8,7 +8,7 @@ ghost use mathlib.Core.Path.{_≡_};
 ghost use lib.ListN.{length};
 ghost use Rattle.text.specs.definitions.Bytes.{isRow};
 ghost use Rattle.reply.specs.definitions.Reply.{resultAfter, work};
-ghost use Rattle.reply.specs.definitions.Terms.{formOf, FormCall};
+ghost use Rattle.reply.specs.definitions.Calls.{formOf, FormCall};
 ghost use Rattle.code.specs.Lengths.{Long};
 ghost use Rattle.door_result.specs.Result.{writtenOf};
 
@@ -25,7 +25,8 @@ fn form_of(
     requires { ⌜ isRow (now row) ≡ true ⌝ }
     requires { ⌜ Long (length (now a)) (length (now b)) (length (now c)) (length (now d)) ⌝ }
     ensures { λ r. ⌜ r ≡ writtenOf (formOf (now (row .entry)) (now (s .entry)) (length (now (result .entry)))) ⌝ }
-    ensures { λ _. ⌜ now (result .exit) ≡ resultAfter (formOf (now (row .entry)) (now (s .entry)) (length (now (result .entry)))) (now (result .entry)) ⌝ }
+    ensures { λ _. ⌜ now (result .exit) ≡ resultAfter (formOf (now (row .entry)) (now (s .entry)) (length (now (result .entry))))
+        (now (result .entry)) ⌝ }
 {
     let reading = term_read::read_term(row, s, a, b, c, d);
     match reading {
@@ -34,7 +35,8 @@ fn form_of(
     }
 }
 
-// The form's text of the term s over the row, at the front of the result buffer; or a refusal. The work tables are cleared, but not where 1 or 2 is refused.
+// The form's text of the term s over the row, at the front of the result buffer; or a refusal. The work tables are cleared, but not where
+// 1 or 2 is refused.
 pub fn form(
     row: &[u8],
     s: &[u8],

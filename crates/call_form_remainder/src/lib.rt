@@ -9,7 +9,7 @@ ghost use Prim.Native.Nat.{_≤_};
 ghost use lib.ListN.{length};
 ghost use Rattle.text.specs.definitions.Bytes.{isRow};
 ghost use Rattle.reply.specs.definitions.Reply.{work};
-ghost use Rattle.reply.specs.definitions.Forms.{formRemainderOf, FormRemainderCall};
+ghost use Rattle.reply.specs.definitions.Calls.{formRemainderOf, FormRemainderCall};
 ghost use Rattle.door_point.specs.Point.{remainderedOf};
 
 // The remainder of the form s at the point, where the row is proper, the tables are long enough and the point is as long as the row.
@@ -37,8 +37,8 @@ fn form_remainder_of(
     }
 }
 
-// The remainder by P of the value of the form s over the row, at a point of signed coordinates; or a refusal. The work tables are cleared, but not where 1 or 2 is
-// refused.
+// The remainder by P of the value of the form s over the row, at a point of signed coordinates; or a refusal. The work tables are cleared,
+// but not where 1 or 2 is refused.
 pub fn form_remainder(
     row: &[u8],
     s: &[u8],

@@ -4,7 +4,7 @@ use mathlib.Core.Path.{_≡_, refl, ap, _∙_}
 use Prim.Native.Nat.{ℕ}
 use Rattle.reply.specs.declared.Judged.{Judged}
 use Rattle.reply.specs.declared.Judged.the-variants.{Form, Refused}
-use Rattle.reply.specs.definitions.Forms.{toldJudged, judgeReply, JudgeCall}
+use Rattle.reply.specs.definitions.Calls.{toldJudged, judgeReply, JudgeCall}
 use Rattle.reply.specs.definitions.Reply.{Reply, gives, refuses}
 
 abbrev pub judgedOf : Reply (Unit {0}) → Judged

@@ -2,7 +2,7 @@
 use form_build::FormJudged;
 use refusal::Side;
 use reply::Judged;
-ghost use Rattle.reply.specs.definitions.Forms.{JudgeCall};
+ghost use Rattle.reply.specs.definitions.Calls.{JudgeCall};
 
 // Whether s is a form over the row. No work tables are lent.
 pub fn judge(row: &[u8], s: &[u8]) -> Judged

@@ -9,10 +9,10 @@ ghost use mathlib.Core.Path.{_≡_};
 ghost use Prim.Native.Nat.{_≤_};
 ghost use lib.ListN.{length};
 ghost use Rattle.horner.specs.definitions.Form.{prod};
-ghost use Rattle.horner.specs.definitions.Integers.{ℤ-ring};
+ghost use Rattle.horner.specs.definitions.Rings.{ℤ-ring};
 ghost use Rattle.text.specs.definitions.Bytes.{isRow};
 ghost use Rattle.reply.specs.definitions.Reply.{resultAfter, work};
-ghost use Rattle.reply.specs.definitions.Forms.{ofProduct, twoOf, MultiplyCall};
+ghost use Rattle.reply.specs.definitions.Calls.{ofProduct, twoOf, MultiplyCall};
 ghost use Rattle.door_result.specs.Result.{writtenOf};
 ghost use Rattle.code.specs.Lengths.{Long};
 ghost use Rattle.door_forms.specs.Forms.{IsPair};
@@ -34,8 +34,10 @@ fn write_product(
 ) -> Written
     requires { ⌜ (length (now row) ≤ 4) × Long (length (now a)) (length (now b)) (length (now c)) (length (now d)) ⌝ }
     requires { ⌜ IsPair (length (now row)) (now s) (now t) x n y k (now a) ⌝ }
-    ensures { λ r. ⌜ r ≡ writtenOf (twoOf (ofProduct (length (now (row .entry)))) (prod ℤ-ring) (now (row .entry)) (now (s .entry)) (now (t .entry)) (length (now (result .entry)))) ⌝ }
-    ensures { λ _. ⌜ now (result .exit) ≡ resultAfter (twoOf (ofProduct (length (now (row .entry)))) (prod ℤ-ring) (now (row .entry)) (now (s .entry)) (now (t .entry)) (length (now (result .entry)))) (now (result .entry)) ⌝ }
+    ensures { λ r. ⌜ r ≡ writtenOf (twoOf (ofProduct (length (now (row .entry)))) (prod ℤ-ring) (now (row .entry)) (now (s .entry))
+        (now (t .entry)) (length (now (result .entry)))) ⌝ }
+    ensures { λ _. ⌜ now (result .exit) ≡ resultAfter (twoOf (ofProduct (length (now (row .entry)))) (prod ℤ-ring) (now (row .entry))
+        (now (s .entry)) (now (t .entry)) (length (now (result .entry)))) (now (result .entry)) ⌝ }
 {
     let e = measure::limit_of(measure::multiply(x, y));
     if e != 0 {
@@ -58,8 +60,10 @@ fn multiply_of(
 ) -> Written
     requires { ⌜ isRow (now row) ≡ true ⌝ }
     requires { ⌜ Long (length (now a)) (length (now b)) (length (now c)) (length (now d)) ⌝ }
-    ensures { λ r. ⌜ r ≡ writtenOf (twoOf (ofProduct (length (now (row .entry)))) (prod ℤ-ring) (now (row .entry)) (now (s .entry)) (now (t .entry)) (length (now (result .entry)))) ⌝ }
-    ensures { λ _. ⌜ now (result .exit) ≡ resultAfter (twoOf (ofProduct (length (now (row .entry)))) (prod ℤ-ring) (now (row .entry)) (now (s .entry)) (now (t .entry)) (length (now (result .entry)))) (now (result .entry)) ⌝ }
+    ensures { λ r. ⌜ r ≡ writtenOf (twoOf (ofProduct (length (now (row .entry)))) (prod ℤ-ring) (now (row .entry)) (now (s .entry))
+        (now (t .entry)) (length (now (result .entry)))) ⌝ }
+    ensures { λ _. ⌜ now (result .exit) ≡ resultAfter (twoOf (ofProduct (length (now (row .entry)))) (prod ℤ-ring) (now (row .entry))
+        (now (s .entry)) (now (t .entry)) (length (now (result .entry)))) (now (result .entry)) ⌝ }
 {
     let pair = door_forms::read_pair(row.len(), s, t, a);
     match pair {
@@ -68,8 +72,8 @@ fn multiply_of(
     }
 }
 
-// The text of the product of the forms s and t over the row, at the front of the result buffer; or a refusal. The work tables are cleared, but not where 1 or 2 is
-// refused.
+// The text of the product of the forms s and t over the row, at the front of the result buffer; or a refusal. The work tables are cleared,
+// but not where 1 or 2 is refused.
 pub fn multiply(
     row: &[u8],
     s: &[u8],

@@ -9,7 +9,7 @@ ghost use Prim.Native.Nat.{_≤_};
 ghost use lib.ListN.{length};
 ghost use Rattle.text.specs.definitions.Bytes.{isRow};
 ghost use Rattle.reply.specs.definitions.Reply.{resultAfter, work};
-ghost use Rattle.reply.specs.definitions.Forms.{negateOf, NegateCall};
+ghost use Rattle.reply.specs.definitions.Calls.{negateOf, NegateCall};
 ghost use Rattle.door_result.specs.Result.{writtenOf};
 
 // The text of the negative of the form s, where the row is proper and the tables are long enough.
@@ -17,7 +17,8 @@ fn negate_of(row: &[u8], s: &[u8], result: &mut [u8], a: &mut [u32], b: &mut [u3
     requires { ⌜ isRow (now row) ≡ true ⌝ }
     requires { ⌜ (16384 ≤ length (now a)) × (16384 ≤ length (now b)) ⌝ }
     ensures { λ r. ⌜ r ≡ writtenOf (negateOf (now (row .entry)) (now (s .entry)) (length (now (result .entry)))) ⌝ }
-    ensures { λ _. ⌜ now (result .exit) ≡ resultAfter (negateOf (now (row .entry)) (now (s .entry)) (length (now (result .entry)))) (now (result .entry)) ⌝ }
+    ensures { λ _. ⌜ now (result .exit) ≡ resultAfter (negateOf (now (row .entry)) (now (s .entry)) (length (now (result .entry))))
+        (now (result .entry)) ⌝ }
 {
     let reading = form_read::read_form(row.len(), s, a);
     match reading {
@@ -29,7 +30,8 @@ fn negate_of(row: &[u8], s: &[u8], result: &mut [u8], a: &mut [u32], b: &mut [u3
     }
 }
 
-// The text of the negative of the form s over the row, at the front of the result buffer; or a refusal. The work tables are cleared, but not where 1 or 2 is refused.
+// The text of the negative of the form s over the row, at the front of the result buffer; or a refusal. The work tables are cleared, but
+// not where 1 or 2 is refused.
 pub fn negate(
     row: &[u8],
     s: &[u8],

@@ -11,7 +11,7 @@ ghost use Prim.Native.Nat.{_≤_};
 ghost use lib.ListN.{length};
 ghost use Rattle.text.specs.definitions.Bytes.{isRow};
 ghost use Rattle.reply.specs.definitions.Reply.{resultAfter, work};
-ghost use Rattle.reply.specs.definitions.Forms.{raiseOf, RaiseCall};
+ghost use Rattle.reply.specs.definitions.Calls.{raiseOf, RaiseCall};
 ghost use Rattle.code.specs.Lengths.{Long};
 ghost use Rattle.door_result.specs.Result.{writtenOf};
 ghost use Rattle.form_read.specs.Read.{IsForm};
@@ -32,7 +32,8 @@ fn write_power(
     requires { ⌜ (length (now row) ≤ 4) × Long (length (now a)) (length (now b)) (length (now c)) (length (now d)) ⌝ }
     requires { ⌜ IsForm (length (now row)) (now s) x n (now a) ⌝ }
     ensures { λ r. ⌜ r ≡ writtenOf (raiseOf (now (row .entry)) (now (s .entry)) k (length (now (result .entry)))) ⌝ }
-    ensures { λ _. ⌜ now (result .exit) ≡ resultAfter (raiseOf (now (row .entry)) (now (s .entry)) k (length (now (result .entry)))) (now (result .entry)) ⌝ }
+    ensures { λ _. ⌜ now (result .exit) ≡ resultAfter (raiseOf (now (row .entry)) (now (s .entry)) k (length (now (result .entry))))
+        (now (result .entry)) ⌝ }
 {
     if 63 < k {
         return Written::Refused(refusal::of_neither(8));
@@ -59,7 +60,8 @@ fn raise_of(
     requires { ⌜ isRow (now row) ≡ true ⌝ }
     requires { ⌜ Long (length (now a)) (length (now b)) (length (now c)) (length (now d)) ⌝ }
     ensures { λ r. ⌜ r ≡ writtenOf (raiseOf (now (row .entry)) (now (s .entry)) k (length (now (result .entry)))) ⌝ }
-    ensures { λ _. ⌜ now (result .exit) ≡ resultAfter (raiseOf (now (row .entry)) (now (s .entry)) k (length (now (result .entry)))) (now (result .entry)) ⌝ }
+    ensures { λ _. ⌜ now (result .exit) ≡ resultAfter (raiseOf (now (row .entry)) (now (s .entry)) k (length (now (result .entry))))
+        (now (result .entry)) ⌝ }
 {
     let reading = form_read::read_form(row.len(), s, a);
     match reading {
@@ -68,8 +70,8 @@ fn raise_of(
     }
 }
 
-// The text of the k-th power of the form s over the row, at the front of the result buffer; or a refusal. The work tables are cleared, but not where 1 or 2 is
-// refused.
+// The text of the k-th power of the form s over the row, at the front of the result buffer; or a refusal. The work tables are cleared, but
+// not where 1 or 2 is refused.
 pub fn raise(
     row: &[u8],
     s: &[u8],

@@ -8,7 +8,7 @@ ghost use mathlib.Core.Path.{_≡_};
 ghost use lib.ListN.{length};
 ghost use Rattle.text.specs.definitions.Bytes.{isRow};
 ghost use Rattle.reply.specs.definitions.Reply.{work};
-ghost use Rattle.reply.specs.definitions.Terms.{remainderOf, RemainderCall};
+ghost use Rattle.reply.specs.definitions.Calls.{remainderOf, RemainderCall};
 ghost use Rattle.code.specs.Lengths.{Long};
 ghost use Rattle.door_point.specs.Point.{remainderedOf};
 
@@ -39,8 +39,8 @@ fn remainder_of(
     }
 }
 
-// The remainder by P of the value of the term s over the row, at a point of signed coordinates; or a refusal. The work tables are cleared, but not where 1 or 2 is
-// refused.
+// The remainder by P of the value of the term s over the row, at a point of signed coordinates; or a refusal. The work tables are cleared,
+// but not where 1 or 2 is refused.
 pub fn remainder(
     row: &[u8],
     s: &[u8],

@@ -6,7 +6,8 @@ use Prim.Native.Nat.{ℕ, zero, suc, _+_, _-_, _≤_, _<_}
 use native.Mathlib.Omega.{arith}
 use lib.ListN.{length, take, drop, getD, set, length-append, length-drop, length-take, length-set}
 use native.Mathlib.Numerals.{add-one}
-use lib.Seq.{take-at, take-take, take-nil, take-append-add, take-append-le, take-suc, drop-cons, set-at, length-take-le, getD-append-add, getD-drop}
+use lib.Seq.{take-at, take-take, take-nil, take-append-add, take-append-le, take-suc, drop-cons, set-at, length-take-le, getD-append-add}
+use lib.Seq.{getD-drop}
 use borrow.Rule.Slice.PartMut.{putMid}
 use Rattle.code.specs.Coding.{Begins}
 use Rattle.code.specs.laws.Codes.{tail-part}
@@ -47,7 +48,13 @@ begins-tail {a} {b} {l} {l′} {w} {e} f g =
 pub copy-more :
     (x d : List ℕ) (k : ℕ) → k < length x → k < length d → set (take k x ++ drop k d) k (getD x k 0) ≡ take (k + 1) x ++ drop (k + 1) d
 copy-more x d k h l =
-    rw (add-one, drop-cons d k 0, set-at (take k x) (getD d k 0) (drop (suc k) d) (getD x k 0) k (length-take-le k x (omega arith)), take-suc x k 0, append-assoc)
+    rw (
+      add-one,
+      drop-cons d k 0,
+      set-at (take k x) (getD d k 0) (drop (suc k) d) (getD x k 0) k (length-take-le k x (omega arith)),
+      take-suc x k 0,
+      append-assoc,
+    )
 
 -- A word at or after k is not changed yet.
 pub copy-ahead : (x d : List ℕ) (k i : ℕ) → k ≤ length x → getD (take k x ++ drop k d) (i + k) 0 ≡ getD d (i + k) 0
@@ -83,4 +90,5 @@ behind (suc n) m (x ∷ l) =
 
 -- a front that is copied
 pub copied-front : {n : ℕ} {l d e : List ℕ} (r : List ℕ) → Begins n l d → e ≡ take n d ++ r → Begins n l e
-copied-front {n} {l} {d} {e} r m q = record { size = m .size; is = rw q (take-at (take n d) r n (length-take-le n d (begins-le m)) ∙ m .is) }
+copied-front {n} {l} {d} {e} r m q =
+    record { size = m .size; is = rw q (take-at (take n d) r n (length-take-le n d (begins-le m)) ∙ m .is) }

@@ -17,7 +17,8 @@ use Rattle.code.specs.laws.Good.{good-pop, good-pow, good-zero}
 use Rattle.code.specs.laws.Sizes.{enc-pos}
 use Rattle.code.specs.laws.Widths.{leaf-number, zero-leaf}
 use Rattle.code.proofs.Lists.{begins-as, begins-le, begins-set, begins-tail, length-tail-part}
-use Rattle.code.proofs.Regions.{region-sub, region-set, region-head, region-put, region-before, length-region, begins-shift, begins-store}
+use Rattle.code.proofs.Regions.{region-sub, region-set, region-head, region-put, region-before, length-region, begins-shift}
+use Rattle.code.proofs.Regions.{begins-store}
 
 -- A form at a in d, of n words
 module _ {w : ℕ} {h : Form (Leaf w)} (a n : ℕ) (d : List ℕ) (room : a + n ≤ length d) (c : Codes w h (take n (drop a d))) where
@@ -52,7 +53,8 @@ unfolding popOf
 mkpop-int zero l v = absurd (omega arith)
 mkpop-int {w} {h} {x} (suc i) l v = leaf-code v ∙ ap (enc w) (v .is ∙ rw (v .is))
 
-pub mkpop-pop : {w : ℕ} {h : Form (Leaf w)} {l : List ℕ} (i : ℕ) → 0 < i → (v : IsPop w h l) → (getD l 0 0 + i) ∷ enc w (v .p) ≡ enc w (popOf w i h)
+pub mkpop-pop :
+    {w : ℕ} {h : Form (Leaf w)} {l : List ℕ} (i : ℕ) → 0 < i → (v : IsPop w h l) → (getD l 0 0 + i) ∷ enc w (v .p) ≡ enc w (popOf w i h)
 unfolding enc popOf
 mkpop-pop zero z v = absurd (omega arith)
 mkpop-pop {l = l} (suc i) z v =
@@ -72,12 +74,14 @@ mkpop-pop-small {w} (suc i) z v g = let h : Good w (pop (suc i + v .i) (v .p)) =
 pub mkpop-pow-small : {w : ℕ} {h : Form (Leaf w)} {l : List ℕ} (i : ℕ) → 0 < i → IsPow w h l → Good w (popOf w i h) → i ≤ 63
 unfolding popOf
 mkpop-pow-small zero z v g = absurd (omega arith)
-mkpop-pow-small {w} (suc i) z v g = let h : Good w (pop (suc i) (pow (v .i) (v .p) (v .q))) = rw (v .is) at g in omega (arith, good-pop h .1 .0)
+mkpop-pow-small {w} (suc i) z v g =
+    let h : Good w (pop (suc i) (pow (v .i) (v .p) (v .q))) = rw (v .is) at g in omega (arith, good-pop h .1 .0)
 
 -- the words of a pop's form, moved down
 pub popped :
     {w : ℕ} {h : Form (Leaf w)} (d e : List ℕ) (n x : ℕ) → 1 + n ≤ length d → (v : IsPop w h (take n (drop 1 d))) →
-    e ≡ take (n - 1) (drop 1 (take (length (set d 0 x) - 1) (drop 1 (set d 0 x)))) ++ drop (n - 1) (take (length (set d 0 x) - 1) (drop 1 (set d 0 x))) →
+    e ≡ take (n - 1) (drop 1 (take (length (set d 0 x) - 1) (drop 1 (set d 0 x)))) ++ drop (n - 1)
+    (take (length (set d 0 x) - 1) (drop 1 (set d 0 x))) →
     Begins (1 + (n - 1)) (x ∷ enc w (v .p)) (putMid 1 (length (set d 0 x) - 1) (set d 0 x) e)
 popped {w} d e n x room v q =
     let d′ = set d 0 x in
@@ -91,7 +95,8 @@ popped {w} d e n x room v q =
     ∙ ap (λ z. take (n - 1) (drop 1 z)) (v .list)
     ∙ ap (λ k. take k (enc w (v .p))) n-1
     ∙ take-length (enc w (v .p)) in
-    begins-tail (begins-set d x (omega arith)) (begins-as (begins-shift (take (length d′ - 1) (drop 1 d′)) e 1 (n - 1) (omega (arith, length-tail-part 1 d′)) q) r)
+    begins-tail (begins-set d x (omega arith))
+    (begins-as (begins-shift (take (length d′ - 1) (drop 1 d′)) e 1 (n - 1) (omega (arith, length-tail-part 1 d′)) q) r)
 
 -- The code of pow(i, h, q)
 
@@ -135,7 +140,8 @@ zero-length w (pow k s s′) e = absurd (omega arith)
 
 -- the head word of a pow's q, which stands at 1 + s in its code
 pub right-head :
-    {w : ℕ} {h : Form (Leaf w)} {l : List ℕ} (v : IsPow w h l) (k : ℕ) → k ≡ suc (length (enc w (v .p))) → getD l k 0 ≡ getD (enc w (v .q)) 0 0
+    {w : ℕ} {h : Form (Leaf w)} {l : List ℕ} (v : IsPow w h l) (k : ℕ) → k ≡ suc (length (enc w (v .p))) → getD l k 0 ≡ getD
+    (enc w (v .q)) 0 0
 right-head {w} v k e =
     let z : length (enc w (v .p)) ≡ length (enc w (v .p)) + 0 = omega arith in
     rw (v .list, e) (ap (λ n. getD (enc w (v .p) ++ enc w (v .q)) n 0) z ∙ getD-append-add (enc w (v .p)) (enc w (v .q)) 0 0)
@@ -152,14 +158,16 @@ pow-small {w} e g = good-pow (subst (Good w) e g) .1 .0
 
 -- A plain pow: a store before the two forms
 pub stored :
-    {w : ℕ} (d : List ℕ) (a b i : ℕ) {p q : Form (Leaf w)} → 1 + a + b ≤ length d → Codes w p (take a (drop 1 d)) → Codes w q (take b (drop (1 + a) d)) →
+    {w : ℕ} (d : List ℕ) (a b i : ℕ) {p q : Form (Leaf w)} → 1 + a + b ≤ length d → Codes w p (take a (drop 1 d)) → Codes w q
+    (take b (drop (1 + a) d)) →
     Begins (1 + a + b) (enc w (pow i p q)) (set d 0 (2147483648 + 64 * a + i))
 stored d a b i {p} {q} room c e =
     let x = 2147483648 + 64 * a + i in
     let s : 1 + (a + b) ≡ 1 + a + b = omega arith in
     let r : take (a + b) (drop 1 d) ≡ take a (drop 1 d) ++ take b (drop (1 + a) d) =
     take-add a b (drop 1 d) ∙ ap (λ l. take a (drop 1 d) ++ take b l) (drop-drop a 1 d) in
-    rw (← s) (begins-as (begins-store d (a + b) x (omega arith)) (ap (λ l. x ∷ l) r ∙ pow-code i a (take a (drop 1 d)) (take b (drop (1 + a) d)) c e (placed-size 1 a d (omega arith) c)))
+    rw (← s) (begins-as (begins-store d (a + b) x (omega arith))
+    (ap (λ l. x ∷ l) r ∙ pow-code i a (take a (drop 1 d)) (take b (drop (1 + a) d)) c e (placed-size 1 a d (omega arith) c)))
 
 -- pow(i, 0, q): the form that make_pop made at 1, moved to 0
 pub lifted :
@@ -174,8 +182,10 @@ lifted d e f n pos m len q k =
 
 -- pow(i, pow(j, r, 0), q): what join leaves
 pub merged :
-    {w : ℕ} {h q : Form (Leaf w)} (d e : List ℕ) (a b i : ℕ) (c : Codes w h (take a (drop 1 d))) (room : 1 + a + b ≤ length d) (v : IsPow w h (take a (drop 1 d)))
-    (s x : ℕ) → s ≡ length (enc w (v .p)) → x ≡ 2147483648 + 64 * s + (i + v .i) → getD (enc w (v .q)) 0 0 ≡ 0 → Codes w q (take b (drop (1 + a) d)) →
+    {w : ℕ} {h q : Form (Leaf w)} (d e : List ℕ) (a b i : ℕ) (c : Codes w h (take a (drop 1 d))) (room : 1 + a + b ≤ length d)
+    (v : IsPow w h (take a (drop 1 d)))
+    (s x : ℕ) → s ≡ length (enc w (v .p)) → x ≡ 2147483648 + 64 * s + (i + v .i) → getD (enc w (v .q)) 0 0 ≡ 0 → Codes w q
+    (take b (drop (1 + a) d)) →
     Begins (1 + s + b) ((take 1 (set d 0 x) ++ take s (drop 2 (set d 0 x))) ++ take b (drop (3 + s) (set d 0 x))) e →
     Begins (1 + s + b) (enc w (pow (i + v .i) (v .p) q)) e
 merged {w} {h} {q} d e a b i c room v s x es ex z cq m =
@@ -191,7 +201,9 @@ merged {w} {h} {q} d e a b i c room v s x es ex z cq m =
     ∙ take-append-seam (enc w (v .p)) (enc w (v .q)) in
     let l₃ : take b (drop (3 + s) (set d 0 x)) ≡ enc w q =
     region-set (3 + s) b 0 d x (omega arith) ∙ ap (λ n. take b (drop n d)) k ∙ cq .is in
-    begins-as m (rw (l₁, l₂, l₃) (ap (λ n. n ∷ (enc w (v .p) ++ enc w q)) (rw (ex, es)) ∙ pow-code (i + v .i) (length (enc w (v .p))) (enc w (v .p)) (enc w q) (record { is = refl; good = v .good-p }) (record { is = refl; good = cq .good }) refl))
+    begins-as m (rw (l₁, l₂, l₃) (ap (λ n. n ∷ (enc w (v .p) ++ enc w q)) (rw (ex, es))
+    ∙ pow-code (i + v .i) (length (enc w (v .p))) (enc w (v .p)) (enc w q) (record { is = refl; good = v .good-p })
+    (record { is = refl; good = cq .good }) refl))
 
 -- A form that was made at the front
 pub front-codes : {w : ℕ} {h : Form (Leaf w)} {n : ℕ} {d : List ℕ} → Begins n (enc w h) d → Good w h → Codes w h (take n d)

@@ -49,7 +49,8 @@ region-beyond l p n k m e h =
     ∙ ap (λ j. drop j p) (sym i))
 
 -- a region of a list whose part from a on is put back as e
-pub region-put : (a b m : ℕ) (d e : List ℕ) → a ≤ length d → b + m ≤ length e → take m (drop (a + b) (putMid a (length d - a) d e)) ≡ take m (drop b e)
+pub region-put :
+    (a b m : ℕ) (d e : List ℕ) → a ≤ length d → b + m ≤ length e → take m (drop (a + b) (putMid a (length d - a) d e)) ≡ take m (drop b e)
 region-put a b m d e h l =
     let post = drop (length d - a) (drop a d) in
     ap (take m)
@@ -68,7 +69,8 @@ begins-append l d n e = record { size = sym e; is = take-at l d n e }
 -- what a shift by gap makes of a part
 pub begins-shift : (p e : List ℕ) (gap n : ℕ) → gap + n ≤ length p → e ≡ take n (drop gap p) ++ drop n p → Begins n (take n (drop gap p)) e
 begins-shift p e gap n h q =
-    subst (λ (l : List ℕ). Begins n (take n (drop gap p)) l) (sym q) (begins-append (take n (drop gap p)) (drop n p) n (length-region gap n p h))
+    subst (λ (l : List ℕ). Begins n (take n (drop gap p)) l) (sym q)
+    (begins-append (take n (drop gap p)) (drop n p) n (length-region gap n p h))
 
 -- Two shifts in a row, the first by 1 in the part from 1 on, and the second by 2 in the part from 1 + s on
 module _ (d e₁ e₂ : List ℕ) (s b : ℕ) (room : 3 + s + b ≤ length d) where

@@ -1,14 +1,13 @@
--- The code of a form: a list of words in prefix order. A leaf is its number; a node is 2^31 + 64 s + i, where s is 0 for a POP, and for a POW the number of
--- words that its p takes; its parts follow.
+-- The code of a form: a list of words in prefix order. A leaf is its number; a node is 2^31 + 64 s + i, where s is 0 for a POP, and for a
+-- POW the number of words that its p takes; its parts follow.
 use mathlib.Core.Bool.{cond}
 use mathlib.Core.List.{List, [], _∷_, _++_}
 use mathlib.Core.Path.{_≡_}
 use Prim.Native.Nat.{ℕ, zero, suc, _+_, _*_, _-_, _/_, _%_, _≤_}
 use lib.Dec.{ltb, eqb}
 use lib.ListN.{length, take, drop}
-use Rattle.horner.specs.definitions.Form.{Form, int, pop, pow}
-use Rattle.horner.specs.definitions.Measures.{Bounded}
-use Rattle.horner.specs.definitions.Normal.{Normal}
+use Rattle.horner.specs.definitions.Form.{Form, int, pop, pow, Normal}
+use Rattle.horner.specs.laws.Degree.{Bounded}
 use Rattle.code.specs.Widths.{Leaf, ringOf, leaf}
 
 unfoldable pub enc : (w : ℕ) → Form (Leaf w) → List ℕ
@@ -57,6 +56,6 @@ abbrev pub Made : (w : ℕ) → Form (Leaf w) → ℕ → List ℕ → Type 0
 Made w h r d = Begins r (enc w h) d
 
 -- d has room for n - 1 words, and is no longer than a node's word can say
-pub record Room (n : ℕ) (d : List ℕ) : Type 0 where
+pub record RoomUnder (n : ℕ) (d : List ℕ) : Type 0 where
   pub fits : n ≤ length d + 1
   pub small : length d ≤ 33554432

@@ -1,8 +1,7 @@
 -- The operations on forms in the ring of a width, under short names. Each is the algebra's own, as its line says.
 use mathlib.Core.List.{List, map}
 use Prim.Native.Nat.{ℕ}
-use Rattle.horner.specs.definitions.Form.{Form, mkpop, mkpow, sum, negate, scale, zeroForm}
-use Rattle.horner.specs.definitions.Value.{evalh}
+use Rattle.horner.specs.definitions.Form.{Form, mkpop, mkpow, sum, negate, scale, zeroForm, evalh}
 use Rattle.code.specs.Widths.{Leaf, ringOf, leaf}
 
 -- Definition 5, at a point of numbers below the modulus

@@ -1,9 +1,23 @@
--- The ring that a function works in, picked by a width: 8 and 16 are counters of so many bits, which wrap; any other number stands for the remainders by P.
+-- The ring that a function works in, picked by a width: 8 and 16 are counters of so many bits, which wrap; any other number stands for the
+-- remainders by P.
 use mathlib.Core.Bool.{Bool, true, false}
-use Prim.Native.Nat.{ℕ, _<_}
+use Prim.Native.Nat.{ℕ, zero, suc, _+_, _-_, _<_, _*_, _%_}
 use lib.Dec.{eqb, lit<}
-use Rattle.horner.specs.definitions.Residues.{Res, red, mod-ring, prime, prime-pos}
-use Rattle.horner.specs.definitions.Ring.{Ring}
+use Rattle.horner.specs.definitions.Rings.{Res, red, mod-ring, prime, prime-pos, Ring}
+
+-- sums, products, negations and powers of remainders, on numbers
+abbrev pub addBy : ℕ → ℕ → ℕ → ℕ
+addBy m a b = (a + b) % m
+
+abbrev pub mulBy : ℕ → ℕ → ℕ → ℕ
+mulBy m a b = (a * b) % m
+
+abbrev pub negBy : ℕ → ℕ → ℕ
+negBy m a = (m - a) % m
+
+abbrev pub powBy : ℕ → ℕ → ℕ → ℕ
+powBy m a zero = 1 % m
+powBy m a (suc n) = mulBy m a (powBy m a n)
 
 -- by "is it 8" and "is it 16"
 abbrev pub modulusBy : Bool → Bool → ℕ

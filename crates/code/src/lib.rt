@@ -1,15 +1,14 @@
-// Forms coded in slices: a form is a slice of words in prefix order (specs/Coding). Here are the sums and products of leaves, and what puts a form together
-// in place. Every function is handed the width of the ring; only those of leaves look at it.
+// Forms coded in slices: a form is a slice of words in prefix order (specs/Coding). Here are the sums and products of leaves, and what
+// puts a form together in place. Every function is handed the width of the ring; only those of leaves look at it.
 use std::num::wrapping_add_u16;
 use std::num::wrapping_sub_u16;
 ghost use mathlib.Core.Path.{_≡_};
 ghost use Prim.Native.Nat.{_+_, _*_, _%_, _<_, _≤_};
 ghost use mathlib.Core.List.{_++_, _∷_};
 ghost use lib.ListN.{length, take, drop};
-ghost use Rattle.horner.specs.definitions.Residues.{addBy, negBy, mulBy, powBy};
+ghost use Rattle.code.specs.Widths.{addBy, negBy, mulBy, powBy, modulus};
 ghost use Rattle.horner.specs.definitions.Form.{pow};
-ghost use Rattle.code.specs.Widths.{modulus};
-ghost use Rattle.code.specs.Coding.{Coded, Good, Begins, Made, Room, dec};
+ghost use Rattle.code.specs.Coding.{Coded, Good, Begins, Made, RoomUnder, dec};
 ghost use Rattle.code.specs.Operations.{popOf, powOf};
 
 // The fixed length of a work table, in words.
@@ -83,7 +82,7 @@ pub fn leaf_power(width: u32, a: u32, i: u32) -> u32
 }
 
 // Moves the n words at `gap` to the front of s. What lies after the first n words stays.
-pub fn shift(s: &mut [u32], gap: usize, n: usize)
+fn shift(s: &mut [u32], gap: usize, n: usize)
     requires { ⌜ gap + n ≤ length (now s) ⌝ }
     ensures { λ _. ⌜ now (s .exit) ≡ take n (drop gap (now (s .entry))) ++ drop n (now (s .entry)) ⌝ }
 {
@@ -132,7 +131,8 @@ pub fn make_pop(width: u32, out: &mut [u32], i: u32, n: usize) -> usize
 // Moves s words from 2 to 1, and b words from 3 + s to 1 + s.
 fn join(out: &mut [u32], s: usize, b: usize)
     requires { ⌜ 3 + s + b ≤ length (now out) ⌝ }
-    ensures { λ _. ⌜ Begins (1 + s + b) ((take 1 (now (out .entry)) ++ take s (drop 2 (now (out .entry)))) ++ take b (drop (3 + s) (now (out .entry)))) (now (out .exit)) ⌝ }
+    ensures { λ _. ⌜ Begins (1 + s + b) ((take 1 (now (out .entry)) ++ take s (drop 2 (now (out .entry)))) ++ take
+        b (drop (3 + s) (now (out .entry)))) (now (out .exit)) ⌝ }
 {
     shift(&mut out[1..], 1, s);
     let e = 1 + s;
@@ -144,7 +144,8 @@ fn plain_pow(width: u32, out: &mut [u32], i: u32, a: usize, b: usize) -> usize
     requires { ⌜ (1 + a + b ≤ length (now out)) × (length (now out) ≤ 33554432) ⌝ }
     requires { ⌜ Coded width (take a (drop 1 (now out))) × Coded width (take b (drop (1 + a) (now out))) ⌝ }
     requires { ⌜ i ≤ 63 ⌝ }
-    ensures { λ r. ⌜ Made width (pow i (dec width (take a (drop 1 (now (out .entry))))) (dec width (take b (drop (1 + a) (now (out .entry)))))) r (now (out .exit)) ⌝ }
+    ensures { λ r. ⌜ Made width (pow i (dec width (take a (drop 1 (now (out .entry)))))
+        (dec width (take b (drop (1 + a) (now (out .entry)))))) r (now (out .exit)) ⌝ }
 {
     out[0] = NODE + 64 * (a as u32) + i;
     1 + a + b
@@ -156,7 +157,8 @@ pub fn make_pow(width: u32, out: &mut [u32], i: u32, a: usize, b: usize) -> usiz
     requires { ⌜ Coded width (take a (drop 1 (now out))) × Coded width (take b (drop (1 + a) (now out))) ⌝ }
     requires { ⌜ 0 < i ⌝ }
     requires { ⌜ Good width (powOf width i (dec width (take a (drop 1 (now out)))) (dec width (take b (drop (1 + a) (now out))))) ⌝ }
-    ensures { λ r. ⌜ Made width (powOf width i (dec width (take a (drop 1 (now (out .entry))))) (dec width (take b (drop (1 + a) (now (out .entry)))))) r (now (out .exit)) ⌝ }
+    ensures { λ r. ⌜ Made width (powOf width i (dec width (take a (drop 1 (now (out .entry)))))
+        (dec width (take b (drop (1 + a) (now (out .entry)))))) r (now (out .exit)) ⌝ }
 {
     let w = out[1];
     if w == 0 {
@@ -183,7 +185,7 @@ pub fn make_pow(width: u32, out: &mut [u32], i: u32, a: usize, b: usize) -> usiz
 // Writes the head word of a pow of exponent i and its p, and returns how many words those are.
 pub fn put_pow(i: u32, p: &[u32], out: &mut [u32]) -> usize
     requires { ⌜ i ≤ 63 ⌝ }
-    requires { ⌜ Room (3 + length (now p)) (now out) ⌝ }
+    requires { ⌜ RoomUnder (3 + length (now p)) (now out) ⌝ }
     ensures { λ r. ⌜ Begins r ((2147483648 + 64 * length (now (p .entry)) + i) ∷ now (p .entry)) (now (out .exit)) ⌝ }
 {
     let n = p.len();

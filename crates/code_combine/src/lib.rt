@@ -48,7 +48,8 @@ pub fn combine(
     u: &mut [u32],
 ) -> usize
     requires { ⌜ Pair a b (now stack) ⌝ }
-    requires { ⌜ Combining g (left a (now stack)) (right a b (now stack)) (a + b) (length (now stack)) (length (now out)) (length (now t)) (length (now u)) ⌝ }
+    requires { ⌜ Combining g (left a (now stack)) (right a b (now stack)) (a + b) (length (now stack)) (length (now out)) (length (now t))
+        (length (now u)) ⌝ }
     ensures { λ r. ⌜ Made 0 (combined g (left a (now (stack .entry))) (right a b (now (stack .entry)))) r (now (stack .exit)) ⌝ }
 {
     if g == 3 {

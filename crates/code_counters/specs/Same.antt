@@ -1,4 +1,5 @@
--- Two forms over the remainders by P, the same as counters of a width: reduced, the second negated, and added with a sum that wraps, they give 0.
+-- Two forms over the remainders by P, the same as counters of a width: reduced, the second negated, and added with a sum that wraps, they
+-- give 0.
 use mathlib.Core.Bool.{Bool}
 use Prim.Native.Nat.{ℕ}
 use Rattle.horner.specs.definitions.Form.{Form, isZero}

@@ -1,17 +1,16 @@
 // A number put for the first variable of a coded form: what the search for a point goes by.
 use code::NODE;
-ghost use mathlib.Core.Path.{_≡_};
 ghost use Prim.Native.Nat.{_+_, _<_, _≤_};
 ghost use lib.ListN.{length};
 ghost use Rattle.code.specs.Widths.{modulus};
-ghost use Rattle.code.specs.Coding.{Coded, Made, Room, dec};
+ghost use Rattle.code.specs.Coding.{Coded, Made, RoomUnder, dec};
 ghost use Rattle.code_first.specs.First.{lowerOf, atFirstOf};
 
 // Writes (POP i-1 p) at the front of out, or p itself where that exponent is 0, and returns its length.
 fn put_lower(width: u32, i: u32, p: &[u32], out: &mut [u32]) -> usize
     requires { ⌜ (0 < i) × (i ≤ 3) ⌝ }
     requires { ⌜ Coded width (now p) ⌝ }
-    requires { ⌜ Room (2 + length (now p)) (now out) ⌝ }
+    requires { ⌜ RoomUnder (2 + length (now p)) (now out) ⌝ }
     ensures { λ r. ⌜ Made width (lowerOf width i (dec width (now (p .entry)))) r (now (out .exit)) ⌝ }
 {
     let n = p.len();
@@ -24,11 +23,12 @@ fn put_lower(width: u32, i: u32, p: &[u32], out: &mut [u32]) -> usize
     1 + n
 }
 
-// The form x with the leaf a put for its first variable, written at the front of out; spare is work space. As many words as x has are enough in each.
+// The form x with the leaf a put for its first variable, written at the front of out; spare is work space. As many words as x has are
+// enough in each.
 pub fn at_first(width: u32, x: &[u32], a: u32, out: &mut [u32], spare: &mut [u32]) -> usize
     requires { ⌜ a < modulus width ⌝ }
     requires { ⌜ Coded width (now x) ⌝ }
-    requires { ⌜ Room (1 + length (now x)) (now out) × Room (1 + length (now x)) (now spare) ⌝ }
+    requires { ⌜ RoomUnder (1 + length (now x)) (now out) × RoomUnder (1 + length (now x)) (now spare) ⌝ }
     ensures { λ r. ⌜ Made width (atFirstOf width (dec width (now (x .entry))) a) r (now (out .exit)) ⌝ }
 {
     let w = x[0];

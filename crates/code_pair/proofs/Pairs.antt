@@ -38,7 +38,8 @@ module _ {a b : ℕ} {d : List ℕ} (p : Pair a b d) where
   sum-fits = omega (arith, sum-length 0 (left a d) (right a b d), left-size, right-size, p .fits)
 
 module _ (a b : ℕ) (d : List ℕ) where
-  pub both-sum : enc 0 (sumOf 0 (dec 0 (take a (take (a + b) d))) (dec 0 (drop a (take (a + b) d)))) ≡ enc 0 (sumOf 0 (left a d) (right a b d))
+  pub both-sum : enc 0 (sumOf 0 (dec 0 (take a (take (a + b) d))) (dec 0 (drop a (take (a + b) d)))) ≡ enc 0
+      (sumOf 0 (left a d) (right a b d))
   both-sum =
       ap (λ l. enc 0 (sumOf 0 (dec 0 l) (dec 0 (drop a (take (a + b) d))))) (front-of a b d)
       ∙ ap (λ l. enc 0 (sumOf 0 (left a d) (dec 0 l))) (behind a b d)

@@ -7,7 +7,7 @@ use Prim.Native.Nat.{ℕ, _≤_}
 use native.Mathlib.Omega.{arith}
 use lib.ListN.{length, take}
 use Rattle.horner.specs.definitions.Form.{isZero}
-use Rattle.code.specs.Coding.{dec, Codes, Coded, Made, Room}
+use Rattle.code.specs.Coding.{dec, Codes, Coded, Made, RoomUnder}
 use Rattle.code.specs.Widths.{ringOf}
 use Rattle.code.specs.laws.Codes.{dec-enc, codes-length}
 use Rattle.code.proofs.Making.{front-codes}
@@ -16,7 +16,7 @@ use Rattle.code_first.specs.laws.First.{first-length, first-good}
 use Rattle.code_point.specs.Points.{vanishes}
 
 -- room for more words is room for fewer, in a table that is as long
-pub room-kept : {n m : ℕ} {d e : List ℕ} → Room n d → m ≤ n → length e ≡ length d → Room m e
+pub room-kept : {n m : ℕ} {d e : List ℕ} → RoomUnder n d → m ≤ n → length e ≡ length d → RoomUnder m e
 room-kept r l k = record { fits = omega (arith, r .fits, l, k); small = omega (arith, r .small, k) }
 
 module _ {l d : List ℕ} (a : ℕ) {m : ℕ} (c : Coded 0 l) (made : Made 0 (atFirstOf 0 (dec 0 l) a) m d) where

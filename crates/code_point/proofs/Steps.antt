@@ -16,10 +16,12 @@ use Rattle.code_point.proofs.Forms.{left-codes}
 
 -- the form that is left, copied to the front of x
 pub copied :
-    {l o : List ℕ} (x x′ : List ℕ) (a : ℕ) {m : ℕ} → Coded 0 l → Made 0 (atFirstOf 0 (dec 0 l) a) m o → x′ ≡ take m o ++ drop (length (take m o)) x →
+    {l o : List ℕ} (x x′ : List ℕ) (a : ℕ) {m : ℕ} → Coded 0 l → Made 0 (atFirstOf 0 (dec 0 l) a) m o → x′ ≡ take m o ++ drop
+    (length (take m o)) x →
     Codes 0 (atFirstOf 0 (dec 0 l) a) (take m x′)
 copied {l} {o} x x′ a {m} c made e =
-    let k : take m x′ ≡ take m o = ap (take m) e ∙ take-at (take m o) (drop (length (take m o)) x) m (length-take-le m o (begins-le made)) in
+    let k : take m x′ ≡ take m o = ap (take m) e
+    ∙ take-at (take m o) (drop (length (take m o)) x) m (length-take-le m o (begins-le made)) in
     subst (Codes 0 (atFirstOf 0 (dec 0 l) a)) (sym k) (left-codes a c made)
 
 pub no-point : (n : ℕ) (l d : List ℕ) → n ≡ 0 → d ≡ pointOf n (dec 0 l) ++ drop n d
@@ -52,4 +54,5 @@ put-point (y ∷ d) e N a n pos l q =
     let t : take k d ≡ d = take-all k d (omega arith) in
     let z : drop k d ≡ [] = drop-of-length-le d {i = k} (omega arith) in
     let m : n ≡ suc (n - 1) = omega arith in
-    ap (λ u. a ∷ (e ++ u)) z ∙ ap (λ u. a ∷ u) (append-nil e ∙ q ∙ ap (λ u. N ++ drop (n - 1) u) t) ∙ ap (λ j. (a ∷ N) ++ drop j (y ∷ d)) (sym m)
+    ap (λ u. a ∷ (e ++ u)) z ∙ ap (λ u. a ∷ u) (append-nil e ∙ q ∙ ap (λ u. N ++ drop (n - 1) u) t)
+    ∙ ap (λ j. (a ∷ N) ++ drop j (y ∷ d)) (sym m)

@@ -3,8 +3,7 @@ use mathlib.Core.Bool.{Bool, true, false}
 use mathlib.Core.List.{List}
 use mathlib.Core.Path.{_≡_}
 use Prim.Native.Nat.{ℕ, _≤_, _<_}
-use Rattle.horner.specs.definitions.Form.{Form, isZero}
-use Rattle.horner.specs.definitions.Normal.{Normal}
+use Rattle.horner.specs.definitions.Form.{Form, isZero, Normal}
 use Rattle.horner.specs.definitions.Points.{firstPoint}
 use Rattle.code.specs.Coding.{limits}
 use Rattle.code.specs.Widths.{Leaf, ringOf}

@@ -3,7 +3,7 @@ ghost use mathlib.Core.Path.{_≡_};
 ghost use mathlib.Core.List.{_++_};
 ghost use Prim.Native.Nat.{_+_, _≤_};
 ghost use lib.ListN.{length, take, drop};
-ghost use Rattle.code.specs.Coding.{Coded, Made, Room, dec};
+ghost use Rattle.code.specs.Coding.{Coded, Made, RoomUnder, dec};
 ghost use Rattle.code_first.specs.First.{atFirstOf};
 ghost use Rattle.code_point.specs.Points.{pointOf, Ready, vanishes, IsLeast, Fails};
 
@@ -16,9 +16,10 @@ struct Found {
 // The least number that, put for the first variable of the form x, leaves a form that is not 0. That form is left at the front of out.
 fn least_value(x: &[u32], out: &mut [u32], spare: &mut [u32]) -> Found
     requires { ⌜ Coded 0 (now x) ⌝ }
-    requires { ⌜ Room (1 + length (now x)) (now out) × Room (1 + length (now x)) (now spare) ⌝ }
+    requires { ⌜ RoomUnder (1 + length (now x)) (now out) × RoomUnder (1 + length (now x)) (now spare) ⌝ }
     requires { ⌜ Fails (vanishes (dec 0 (now x))) ⌝ }
-    ensures { λ r. ⌜ IsLeast (vanishes (dec 0 (now (x .entry)))) (r .value) × Made 0 (atFirstOf 0 (dec 0 (now (x .entry))) (r .value)) (r .words) (now (out .exit)) ⌝ }
+    ensures { λ r. ⌜ IsLeast (vanishes (dec 0 (now (x .entry)))) (r .value)
+        × Made 0 (atFirstOf 0 (dec 0 (now (x .entry))) (r .value)) (r .words) (now (out .exit)) ⌝ }
 {
     let mut a = 0;
     loop {
@@ -30,8 +31,8 @@ fn least_value(x: &[u32], out: &mut [u32], spare: &mut [u32]) -> Found
     }
 }
 
-// Writes the first point in n variables at which the form in the first k words of x is not 0 to the front of point. The other tables are work space: as many
-// words as the form has are enough in each.
+// Writes the first point in n variables at which the form in the first k words of x is not 0 to the front of point. The other tables are
+// work space: as many words as the form has are enough in each.
 pub fn first_point(
     n: usize,
     x: &mut [u32],
@@ -42,7 +43,7 @@ pub fn first_point(
 )
     requires { ⌜ (k ≤ length (now x)) × (n ≤ length (now point)) ⌝ }
     requires { ⌜ Coded 0 (take k (now x)) ⌝ }
-    requires { ⌜ Room (1 + k) (now out) × Room (1 + k) (now spare) ⌝ }
+    requires { ⌜ RoomUnder (1 + k) (now out) × RoomUnder (1 + k) (now spare) ⌝ }
     requires { ⌜ Ready n (dec 0 (take k (now x))) ⌝ }
     ensures { λ _. ⌜ now (point .exit) ≡ pointOf n (dec 0 (take k (now (x .entry)))) ++ drop n (now (point .entry)) ⌝ }
 {

@@ -30,19 +30,25 @@ pub made-one : (w : ℕ) (x : Form (Leaf w)) (l : List ℕ) → 0 < length l →
 made-one w x l h = begins-as (begins-set l 1 h) (one-code w x)
 
 -- 1 behind the first n words
-pub stacked-one : {w : ℕ} {x : Form (Leaf w)} (n : ℕ) (l : List ℕ) → Codes w x (take n l) → n < length l → Stacked w x (raiseOf w x 0) n 1 (set l n 1)
+pub stacked-one :
+    {w : ℕ} {x : Form (Leaf w)} (n : ℕ) (l : List ℕ) → Codes w x (take n l) → n < length l → Stacked w x (raiseOf w x 0) n 1 (set l n 1)
 stacked-one {w} {x} n l c h =
     record {
       below = record { size = sym (length-take-le n l (omega arith)) ∙ codes-length c; is = take-set-le n l n 1 (omega arith) ∙ c .is };
       above =
           record {
             size = ap length (one-code w x);
-            is = ap (take 1) (ap (drop n) (set-split l n 1 h) ∙ drop-at (take n l) (1 ∷ drop (suc n) l) n (length-take-le n l (omega arith))) ∙ one-code w x;
+            is =
+                ap (take 1)
+                (ap (drop n) (set-split l n 1 h) ∙ drop-at (take n l) (1 ∷ drop (suc n) l) n (length-take-le n l (omega arith)))
+                ∙ one-code w x;
           };
     }
 
 -- a form that was made in the part from n on, behind the one that stands there
-pub stacked : {w : ℕ} {x y : Form (Leaf w)} (n m : ℕ) (d e : List ℕ) → Codes w x (take n d) → n ≤ length d → Begins m (enc w y) e → Good w y → Stacked w x y n m (putMid n (length d - n) d e)
+pub stacked :
+    {w : ℕ} {x y : Form (Leaf w)} (n m : ℕ) (d e : List ℕ) → Codes w x (take n d) → n ≤ length d → Begins m (enc w y) e → Good w y →
+    Stacked w x y n m (putMid n (length d - n) d e)
 stacked n m d e c l b g =
     record {
       below = record { size = sym (length-take-le n d l) ∙ codes-length c; is = take-put n (length d - n) d e l ∙ c .is };
@@ -53,7 +59,8 @@ pub stack-fits : {w n m : ℕ} {x y : Form (Leaf w)} {l : List ℕ} → Stacked 
 stack-fits {n = n} {l = l} s = omega (arith, begins-le (s .below), begins-le (s .above), length-drop n l)
 
 -- A turn: l holds x and behind it its i-th power, where i is below k
-module _ {w k n m i : ℕ} {x : Form (Leaf w)} {l : List ℕ} {s o t u : ℕ} (r : Raising w x k n s o t u) (g : Good w x) (h : Stacked w x (raiseOf w x i) n m l) (b : i < k) where
+module _ {w k n m i : ℕ} {x : Form (Leaf w)} {l : List ℕ} {s o t u : ℕ} (r : Raising w x k n s o t u) (g : Good w x)
+    (h : Stacked w x (raiseOf w x i) n m l) (b : i < k) where
   turn-x : Codes w x (take n l)
   turn-x = record { is = h .below .is; good = g }
 
@@ -71,5 +78,9 @@ module _ {w k n m i : ℕ} {x : Form (Leaf w)} {l : List ℕ} {s o t u : ℕ} (r
   pub turn-product : prodOf w (dec w (take n l)) (dec w (take m (drop n l))) ≡ raiseOf w x (i + 1)
   turn-product = ap (λ z. prodOf w z (dec w (take m (drop n l)))) (dec-enc turn-x) ∙ ap (prodOf w x) (dec-enc turn-y) ∙ raise-more w x i
 
-  pub turn-next : {m′ : ℕ} {l′ : List ℕ} → Stacked w (dec w (take n l)) (prodOf w (dec w (take n l)) (dec w (take m (drop n l)))) n m′ l′ → Stacked w x (raiseOf w x (i + 1)) n m′ l′
-  turn-next {m′} {l′} d = subst (λ z. Stacked w z (raiseOf w x (i + 1)) n m′ l′) (dec-enc turn-x) (subst (λ z. Stacked w (dec w (take n l)) z n m′ l′) turn-product d)
+  pub turn-next :
+      {m′ : ℕ} {l′ : List ℕ} → Stacked w (dec w (take n l)) (prodOf w (dec w (take n l)) (dec w (take m (drop n l)))) n m′ l′ →
+      Stacked w x (raiseOf w x (i + 1)) n m′ l′
+  turn-next {m′} {l′} d =
+      subst (λ z. Stacked w z (raiseOf w x (i + 1)) n m′ l′) (dec-enc turn-x)
+      (subst (λ z. Stacked w (dec w (take n l)) z n m′ l′) turn-product d)

@@ -14,9 +14,9 @@ use Rattle.code_room.specs.Tables.{wordsFor, Tables}
 unfoldable pub raiseOf : (w : ℕ) → Form (Leaf w) → ℕ → Form (Leaf w)
 raiseOf w x k = raise (ringOf w) x k
 
--- The k-th power of x is within the limits of document 01: x is normal in vars variables, its degrees are within ds, it has at most c terms, and counts for at
--- least one. s, o, t and u are the lengths of the table that x stands in, in its first n words, and of the product's three. Behind x each lower power has room,
--- held words; the k-th is put in the place of x.
+-- The k-th power of x is within the limits of document 01: x is normal in vars variables, its degrees are within ds, it has at most c
+-- terms, and counts for at least one. s, o, t and u are the lengths of the table that x stands in, in its first n words, and of the
+-- product's three. Behind x each lower power has room, held words; the k-th is put in the place of x.
 pub record Raising (w : ℕ) (x : Form (Leaf w)) (k n s o t u : ℕ) : Type 0 where
   pub vars : ℕ
   pub ds : List ℕ

@@ -1,5 +1,4 @@
 // The powers of a coded form (Definition 12), by repeated products: x stands at the front of a table, and the power so far behind it.
-ghost use mathlib.Core.Path.{_≡_};
 ghost use Prim.Native.Nat.{_+_, _≤_};
 ghost use lib.ListN.{length, take, drop};
 ghost use Rattle.code.specs.Coding.{Coded, Made, dec, enc};
@@ -11,8 +10,10 @@ ghost use Rattle.code_power.specs.Raise.{raiseOf, Raising, Stacked};
 fn multiply(width: u32, s: &[u32], n: usize, out: &mut [u32], t: &mut [u32], u: &mut [u32]) -> usize
     requires { ⌜ n ≤ length (now s) ⌝ }
     requires { ⌜ Coded width (take n (now s)) × Coded width (drop n (now s)) ⌝ }
-    requires { ⌜ Space width (dec width (take n (now s))) (dec width (drop n (now s))) (length (now out)) (length (now t)) (length (now u)) ⌝ }
-    ensures { λ r. ⌜ Made width (prodOf width (dec width (take n (now (s .entry)))) (dec width (drop n (now (s .entry))))) r (now (out .exit)) ⌝ }
+    requires { ⌜ Space width (dec width (take n (now s))) (dec width (drop n (now s))) (length (now out)) (length (now t))
+        (length (now u)) ⌝ }
+    ensures { λ r. ⌜ Made width (prodOf width (dec width (take n (now (s .entry)))) (dec width (drop n (now (s .entry))))) r
+        (now (out .exit)) ⌝ }
 {
     code_product::product(width, &s[..n], &s[n..], out, t, u)
 }
@@ -27,10 +28,13 @@ fn next(
     t: &mut [u32],
     u: &mut [u32],
 ) -> usize
-    requires { ⌜ (n + m ≤ length (now s)) × (n + length (enc width (prodOf width (dec width (take n (now s))) (dec width (take m (drop n (now s)))))) ≤ length (now s)) ⌝ }
+    requires { ⌜ (n + m ≤ length (now s))
+        × (n + length (enc width (prodOf width (dec width (take n (now s))) (dec width (take m (drop n (now s)))))) ≤ length (now s)) ⌝ }
     requires { ⌜ Coded width (take n (now s)) × Coded width (take m (drop n (now s))) ⌝ }
-    requires { ⌜ Space width (dec width (take n (now s))) (dec width (take m (drop n (now s)))) (length (now out)) (length (now t)) (length (now u)) ⌝ }
-    ensures { λ r. ⌜ Stacked width (dec width (take n (now (s .entry)))) (prodOf width (dec width (take n (now (s .entry)))) (dec width (take m (drop n (now (s .entry)))))) n r (now (s .exit)) ⌝ }
+    requires { ⌜ Space width (dec width (take n (now s))) (dec width (take m (drop n (now s)))) (length (now out)) (length (now t))
+        (length (now u)) ⌝ }
+    ensures { λ r. ⌜ Stacked width (dec width (take n (now (s .entry))))
+        (prodOf width (dec width (take n (now (s .entry)))) (dec width (take m (drop n (now (s .entry)))))) n r (now (s .exit)) ⌝ }
 {
     let e = n + m;
     let r = multiply(width, &s[..e], n, out, t, u);
@@ -48,10 +52,13 @@ fn last(
     t: &mut [u32],
     u: &mut [u32],
 ) -> usize
-    requires { ⌜ (n + m ≤ length (now s)) × (length (enc width (prodOf width (dec width (take n (now s))) (dec width (take m (drop n (now s)))))) ≤ length (now s)) ⌝ }
+    requires { ⌜ (n + m ≤ length (now s))
+        × (length (enc width (prodOf width (dec width (take n (now s))) (dec width (take m (drop n (now s)))))) ≤ length (now s)) ⌝ }
     requires { ⌜ Coded width (take n (now s)) × Coded width (take m (drop n (now s))) ⌝ }
-    requires { ⌜ Space width (dec width (take n (now s))) (dec width (take m (drop n (now s)))) (length (now out)) (length (now t)) (length (now u)) ⌝ }
-    ensures { λ r. ⌜ Made width (prodOf width (dec width (take n (now (s .entry)))) (dec width (take m (drop n (now (s .entry)))))) r (now (s .exit)) ⌝ }
+    requires { ⌜ Space width (dec width (take n (now s))) (dec width (take m (drop n (now s)))) (length (now out)) (length (now t))
+        (length (now u)) ⌝ }
+    ensures { λ r. ⌜ Made width (prodOf width (dec width (take n (now (s .entry)))) (dec width (take m (drop n (now (s .entry)))))) r
+        (now (s .exit)) ⌝ }
 {
     let e = n + m;
     let r = multiply(width, &s[..e], n, out, t, u);

@@ -1,13 +1,11 @@
-// The product of two coded forms (Definition 11). `product` goes by the first form's head word. The functions below it take a POP in its parts, its exponent
-// and its p, so that (POP i-j p) and pop(1, s) are never written out. Each writes its result at the front of out and returns its length; t and u are for work.
-// A head word below 2,147,483,648 is a leaf, one below 2,147,483,712 a POP's, any other a POW's.
-ghost use mathlib.Core.Path.{_≡_};
+// The product of two coded forms (Definition 11). `product` goes by the first form's head word. The functions below it take a POP in its
+// parts, its exponent and its p, so that (POP i-j p) and pop(1, s) are never written out. Each writes its result at the front of out and
+// returns its length; t and u are for work. A head word below 2,147,483,648 is a leaf, one below 2,147,483,712 a POP's, any other a POW's.
 ghost use Prim.Native.Nat.{_+_, _-_, _≤_};
 ghost use lib.ListN.{length, take};
 ghost use Rattle.horner.specs.definitions.Form.{pop, pow, lower};
-ghost use Rattle.code.specs.Widths.{modulus};
-ghost use Rattle.code.specs.Coding.{Coded, Good, Made, Room, dec, enc};
-ghost use Rattle.code.specs.Operations.{popOf, sumOf, scaleOf};
+ghost use Rattle.code.specs.Coding.{Coded, Made, dec};
+ghost use Rattle.code.specs.Operations.{popOf, sumOf};
 ghost use Rattle.code_room.specs.Fit.{prodOf, leadOf, crossOf, Held};
 ghost use Rattle.code_room.specs.Tables.{Space, PopSpace, CrossSpace, PowWord};
 
@@ -94,8 +92,10 @@ fn mul_pops(
     u: &mut [u32],
 ) -> usize
     requires { ⌜ Coded width (now p) × Coded width (now q) ⌝ }
-    requires { ⌜ PopSpace width (pop i (dec width (now p))) (pop j (dec width (now q))) (length (now out)) (length (now t)) (length (now u)) ⌝ }
-    ensures { λ l. ⌜ Made width (prodOf width (pop i (dec width (now (p .entry)))) (pop j (dec width (now (q .entry))))) l (now (out .exit)) ⌝ }
+    requires { ⌜ PopSpace width (pop i (dec width (now p))) (pop j (dec width (now q))) (length (now out)) (length (now t))
+        (length (now u)) ⌝ }
+    ensures { λ l. ⌜ Made width (prodOf width (pop i (dec width (now (p .entry)))) (pop j (dec width (now (q .entry))))) l
+        (now (out .exit)) ⌝ }
 {
     if j <= i {
         return mul_pops_ge(width, i, p, j, q, out, t, u);
@@ -115,9 +115,11 @@ fn mul_pops_ge(
     u: &mut [u32],
 ) -> usize
     requires { ⌜ Coded width (now p) × Coded width (now q) ⌝ }
-    requires { ⌜ PopSpace width (pop i (dec width (now p))) (pop j (dec width (now q))) (length (now out)) (length (now t)) (length (now u)) ⌝ }
+    requires { ⌜ PopSpace width (pop i (dec width (now p))) (pop j (dec width (now q))) (length (now out)) (length (now t))
+        (length (now u)) ⌝ }
     requires { ⌜ j ≤ i ⌝ }
-    ensures { λ l. ⌜ Made width (prodOf width (pop i (dec width (now (p .entry)))) (pop j (dec width (now (q .entry))))) l (now (out .exit)) ⌝ }
+    ensures { λ l. ⌜ Made width (prodOf width (pop i (dec width (now (p .entry)))) (pop j (dec width (now (q .entry))))) l
+        (now (out .exit)) ⌝ }
 {
     let n = mul_lower(width, i - j, p, q, &mut out[1..], t, u);
     code::make_pop(width, out, j, n)
@@ -211,8 +213,10 @@ fn mul_pows(
     u: &mut [u32],
 ) -> usize
     requires { ⌜ (Coded width (now p) × Coded width (now q)) × (Coded width (now r) × Coded width (now s)) ⌝ }
-    requires { ⌜ Space width (pow i (dec width (now p)) (dec width (now q))) (pow j (dec width (now r)) (dec width (now s))) (length (now out)) (length (now t)) (length (now u)) ⌝ }
-    ensures { λ l. ⌜ Made width (prodOf width (pow i (dec width (now (p .entry))) (dec width (now (q .entry)))) (pow j (dec width (now (r .entry))) (dec width (now (s .entry))))) l (now (out .exit)) ⌝ }
+    requires { ⌜ Space width (pow i (dec width (now p)) (dec width (now q))) (pow j (dec width (now r)) (dec width (now s)))
+        (length (now out)) (length (now t)) (length (now u)) ⌝ }
+    ensures { λ l. ⌜ Made width (prodOf width (pow i (dec width (now (p .entry))) (dec width (now (q .entry))))
+        (pow j (dec width (now (r .entry))) (dec width (now (s .entry))))) l (now (out .exit)) ⌝ }
 {
     let a = mul_lead(width, i, p, q, j, r, s, out, t, u);
     let n = add_cross(width, i, p, s, out, a, t, u);
@@ -233,8 +237,10 @@ fn mul_lead(
     u: &mut [u32],
 ) -> usize
     requires { ⌜ (Coded width (now p) × Coded width (now q)) × (Coded width (now r) × Coded width (now s)) ⌝ }
-    requires { ⌜ Space width (pow i (dec width (now p)) (dec width (now q))) (pow j (dec width (now r)) (dec width (now s))) (length (now out)) (length (now t)) (length (now u)) ⌝ }
-    ensures { λ l. ⌜ Made width (leadOf width i j (dec width (now (p .entry))) (dec width (now (q .entry))) (dec width (now (r .entry))) (dec width (now (s .entry)))) l (now (out .exit)) ⌝ }
+    requires { ⌜ Space width (pow i (dec width (now p)) (dec width (now q))) (pow j (dec width (now r)) (dec width (now s)))
+        (length (now out)) (length (now t)) (length (now u)) ⌝ }
+    ensures { λ l. ⌜ Made width (leadOf width i j (dec width (now (p .entry))) (dec width (now (q .entry))) (dec width (now (r .entry)))
+        (dec width (now (s .entry)))) l (now (out .exit)) ⌝ }
 {
     let a = product(width, p, r, &mut out[1..], t, u);
     let f = 1 + a;
@@ -257,7 +263,8 @@ fn add_cross(
     requires { ⌜ (a ≤ 3073) × Coded width (take a (now out)) ⌝ }
     requires { ⌜ CrossSpace width i (dec width (now p)) (dec width (now s)) (length (now t)) (length (now out) - a) (length (now u)) ⌝ }
     requires { ⌜ Held width (sumOf width (dec width (take a (now out))) (crossOf width i (dec width (now p)) (dec width (now s)))) ⌝ }
-    ensures { λ l. ⌜ Made width (sumOf width (dec width (take a (now (out .entry)))) (crossOf width i (dec width (now (p .entry))) (dec width (now (s .entry))))) l (now (out .exit)) ⌝ }
+    ensures { λ l. ⌜ Made width (sumOf width (dec width (take a (now (out .entry))))
+        (crossOf width i (dec width (now (p .entry))) (dec width (now (s .entry))))) l (now (out .exit)) ⌝ }
 {
     let n = mul_by_pop(width, p, s, &mut t[1..], &mut out[a..], u);
     code_cross::sum_cross(width, i, out, a, t, n, u)
@@ -273,8 +280,10 @@ fn mul_by_pop(
     u: &mut [u32],
 ) -> usize
     requires { ⌜ Coded width (now p) × Coded width (now s) ⌝ }
-    requires { ⌜ PopSpace width (dec width (now p)) (popOf width 1 (dec width (now s))) (length (now out)) (length (now t)) (length (now u)) ⌝ }
-    ensures { λ l. ⌜ Made width (prodOf width (dec width (now (p .entry))) (popOf width 1 (dec width (now (s .entry))))) l (now (out .exit)) ⌝ }
+    requires { ⌜ PopSpace width (dec width (now p)) (popOf width 1 (dec width (now s))) (length (now out)) (length (now t))
+        (length (now u)) ⌝ }
+    ensures { λ l. ⌜ Made width (prodOf width (dec width (now (p .entry))) (popOf width 1 (dec width (now (s .entry))))) l
+        (now (out .exit)) ⌝ }
 {
     let w = s[0];
     if w < 2147483648 {

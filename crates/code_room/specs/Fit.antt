@@ -3,9 +3,9 @@ use mathlib.Core.List.{List}
 use mathlib.Core.Path.{_≡_}
 use Prim.Native.Nat.{ℕ, _+_, _*_, _≤_, min}
 use lib.ListN.{length}
-use Rattle.horner.specs.definitions.Form.{Form, prod}
-use Rattle.horner.specs.definitions.Measures.{firstOr0, sums, box, AllLe, count, Bounded}
-use Rattle.horner.specs.definitions.Normal.{Normal}
+use Rattle.horner.specs.definitions.Form.{Form, prod, Normal}
+use Rattle.horner.specs.laws.Degree.{Bounded}
+use Rattle.horner.specs.definitions.Measures.{firstOr0, sums, box, AllLe, count}
 use Rattle.code.specs.Coding.{enc, Good}
 use Rattle.code.specs.Operations.{popOf, powOf, zeroOf}
 use Rattle.code.specs.Widths.{Leaf, ringOf}
@@ -28,8 +28,8 @@ pub record Within (w n c : ℕ) (ds : List ℕ) (x : Form (Leaf w)) : Type 0 whe
   pub bounded : Bounded ds x
   pub few : count (ringOf w) x ≤ c
 
--- The product of x and y is within the limits: 63 in each of at most 4 variables, 256 terms once they are cut to the box. k bounds its degree in the first
--- variable. As in document 01's table, a factor counts at least one term.
+-- The product of x and y is within the limits: 63 in each of at most 4 variables, 256 terms once they are cut to the box. k bounds its
+-- degree in the first variable. As in document 01's table, a factor counts at least one term.
 pub record Fit (w n k : ℕ) (x y : Form (Leaf w)) : Type 0 where
   pub dx : List ℕ
   pub dy : List ℕ

@@ -7,8 +7,9 @@ use Rattle.code.specs.Operations.{popOf}
 use Rattle.code.specs.Widths.{Leaf}
 use Rattle.code_room.specs.Fit.{crossOf, Fit, Held}
 
--- the words that a product in n variables, of degree k in the first, asks of the table that it is written to: a head word for each power of the first variable;
--- for each variable below, a form that waits (3,073), its head word and those of that variable's powers; and the product itself
+-- the words that a product in n variables, of degree k in the first, asks of the table that it is written to: a head word for each power
+-- of the first variable; for each variable below, a form that waits (3,073), its head word and those of that variable's powers; and the
+-- product itself
 abbrev pub wordsFor : ℕ → ℕ → ℕ
 wordsFor n k = k + 3137 * n + 3073
 

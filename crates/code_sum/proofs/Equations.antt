@@ -4,7 +4,7 @@ use mathlib.Core.Path.{_≡_, refl, sym, ap, ap₂, subst, _∙_}
 use Prim.Native.Nat.{ℕ, zero, suc, _+_, _-_, _<_, _≤_}
 use native.Mathlib.Omega.{arith}
 use Rattle.horner.specs.definitions.Form.{cmp, caseCmp, Form, int, pop, pow, size, mkpop, mkpow, sumF}
-use Rattle.horner.specs.definitions.Ring.{Ring}
+use Rattle.horner.specs.definitions.Rings.{Ring}
 use Rattle.horner.specs.laws.Equations.{sum-is, sum-int, sum-pop-int, sum-pow-int, sum-pop-pow, sum-3a, sum-3b, sum-6a, sum-6b}
 use Rattle.horner.specs.laws.Value.{size-pos}
 use Rattle.code.specs.Coding.{Good}
@@ -15,7 +15,8 @@ use Rattle.code.specs.laws.Good.{good-pop}
 -- The sum does not depend on the order of its terms: the cases of Definition 9 go both ways round.
 
 flip :
-    {B : Type 0} (i j : ℕ) (e e′ : Unit {0} → B) (m l m′ l′ : ℕ → B) → (i ≡ j → e tt ≡ e′ tt) → ((d : ℕ) → m d ≡ l′ d) → ((d : ℕ) → l d ≡ m′ d) →
+    {B : Type 0} (i j : ℕ) (e e′ : Unit {0} → B) (m l m′ l′ : ℕ → B) → (i ≡ j → e tt ≡ e′ tt) → ((d : ℕ) → m d ≡ l′ d) →
+    ((d : ℕ) → l d ≡ m′ d) →
     caseCmp (cmp i j) e m l ≡ caseCmp (cmp j i) e′ m′ l′
 flip zero zero e e′ m l m′ l′ f g h = f refl
 flip zero (suc j) e e′ m l m′ l′ f g h = h j

@@ -1,19 +1,18 @@
-// The sum of two coded forms (Definition 9). `sum` goes by the first form's head word. The functions below it take a form in its parts: a pop as its
-// exponent and its p, a pow as its exponent, its p and its q. So (POP i-j p) and (POW i-j p 0) are never written out.
+// The sum of two coded forms (Definition 9). `sum` goes by the first form's head word. The functions below it take a form in its parts: a
+// pop as its exponent and its p, a pow as its exponent, its p and its q. So (POP i-j p) and (POW i-j p 0) are never written out.
 use code::NODE;
-ghost use mathlib.Core.Path.{_≡_};
 ghost use Prim.Native.Nat.{_+_, _<_};
 ghost use lib.ListN.{length};
 ghost use Rattle.horner.specs.definitions.Form.{int, pop, pow};
 ghost use Rattle.code.specs.Widths.{modulus, leaf};
-ghost use Rattle.code.specs.Coding.{Coded, Good, Made, Room, dec};
+ghost use Rattle.code.specs.Coding.{Coded, Good, Made, RoomUnder, dec};
 ghost use Rattle.code.specs.Operations.{sumOf};
 
 // The sum of a leaf and the form y.
-pub fn add_int(width: u32, a: u32, y: &[u32], out: &mut [u32]) -> usize
+fn add_int(width: u32, a: u32, y: &[u32], out: &mut [u32]) -> usize
     requires { ⌜ a < modulus width ⌝ }
     requires { ⌜ Coded width (now y) ⌝ }
-    requires { ⌜ Room (1 + length (now y)) (now out) ⌝ }
+    requires { ⌜ RoomUnder (1 + length (now y)) (now out) ⌝ }
     ensures { λ r. ⌜ Made width (sumOf width (int (leaf width a)) (dec width (now (y .entry)))) r (now (out .exit)) ⌝ }
 {
     let w = y[0];
@@ -36,7 +35,7 @@ pub fn add_int(width: u32, a: u32, y: &[u32], out: &mut [u32]) -> usize
 // The sum of the forms x and y.
 pub fn sum(width: u32, x: &[u32], y: &[u32], out: &mut [u32]) -> usize
     requires { ⌜ Coded width (now x) × Coded width (now y) ⌝ }
-    requires { ⌜ Room (length (now x) + length (now y)) (now out) ⌝ }
+    requires { ⌜ RoomUnder (length (now x) + length (now y)) (now out) ⌝ }
     ensures { λ r. ⌜ Made width (sumOf width (dec width (now (x .entry))) (dec width (now (y .entry)))) r (now (out .exit)) ⌝ }
 {
     let w = x[0];
@@ -55,7 +54,7 @@ pub fn sum(width: u32, x: &[u32], y: &[u32], out: &mut [u32]) -> usize
 fn add_pop(width: u32, i: u32, p: &[u32], y: &[u32], out: &mut [u32]) -> usize
     requires { ⌜ Coded width (now p) × Coded width (now y) ⌝ }
     requires { ⌜ Good width (pop i (dec width (now p))) ⌝ }
-    requires { ⌜ Room (1 + length (now p) + length (now y)) (now out) ⌝ }
+    requires { ⌜ RoomUnder (1 + length (now p) + length (now y)) (now out) ⌝ }
     ensures { λ r. ⌜ Made width (sumOf width (pop i (dec width (now (p .entry)))) (dec width (now (y .entry)))) r (now (out .exit)) ⌝ }
 {
     let w = y[0];
@@ -76,8 +75,9 @@ fn add_pop(width: u32, i: u32, p: &[u32], y: &[u32], out: &mut [u32]) -> usize
 fn add_pops(width: u32, i: u32, p: &[u32], j: u32, q: &[u32], out: &mut [u32]) -> usize
     requires { ⌜ Coded width (now p) × Coded width (now q) ⌝ }
     requires { ⌜ Good width (pop i (dec width (now p))) × Good width (pop j (dec width (now q))) ⌝ }
-    requires { ⌜ Room (2 + length (now p) + length (now q)) (now out) ⌝ }
-    ensures { λ r. ⌜ Made width (sumOf width (pop i (dec width (now (p .entry)))) (pop j (dec width (now (q .entry))))) r (now (out .exit)) ⌝ }
+    requires { ⌜ RoomUnder (2 + length (now p) + length (now q)) (now out) ⌝ }
+    ensures { λ r. ⌜ Made width (sumOf width (pop i (dec width (now (p .entry)))) (pop j (dec width (now (q .entry))))) r
+        (now (out .exit)) ⌝ }
 {
     if i == j {
         let n = sum(width, p, q, &mut out[1..]);
@@ -93,9 +93,10 @@ fn add_pops(width: u32, i: u32, p: &[u32], j: u32, q: &[u32], out: &mut [u32]) -
 fn add_pops_gt(width: u32, i: u32, p: &[u32], j: u32, q: &[u32], out: &mut [u32]) -> usize
     requires { ⌜ Coded width (now p) × Coded width (now q) ⌝ }
     requires { ⌜ Good width (pop i (dec width (now p))) × Good width (pop j (dec width (now q))) ⌝ }
-    requires { ⌜ Room (2 + length (now p) + length (now q)) (now out) ⌝ }
+    requires { ⌜ RoomUnder (2 + length (now p) + length (now q)) (now out) ⌝ }
     requires { ⌜ j < i ⌝ }
-    ensures { λ r. ⌜ Made width (sumOf width (pop i (dec width (now (p .entry)))) (pop j (dec width (now (q .entry))))) r (now (out .exit)) ⌝ }
+    ensures { λ r. ⌜ Made width (sumOf width (pop i (dec width (now (p .entry)))) (pop j (dec width (now (q .entry))))) r
+        (now (out .exit)) ⌝ }
 {
     let n = add_pop(width, i - j, p, q, &mut out[1..]);
     code::make_pop(width, out, j, n)
@@ -113,8 +114,9 @@ fn add_pop_pow(
 ) -> usize
     requires { ⌜ (Coded width (now p)) × (Coded width (now q) × Coded width (now r)) ⌝ }
     requires { ⌜ Good width (pop i (dec width (now p))) × Good width (pow j (dec width (now q)) (dec width (now r))) ⌝ }
-    requires { ⌜ Room (2 + length (now p) + length (now q) + length (now r)) (now out) ⌝ }
-    ensures { λ l. ⌜ Made width (sumOf width (pop i (dec width (now (p .entry)))) (pow j (dec width (now (q .entry))) (dec width (now (r .entry))))) l (now (out .exit)) ⌝ }
+    requires { ⌜ RoomUnder (2 + length (now p) + length (now q) + length (now r)) (now out) ⌝ }
+    ensures { λ l. ⌜ Made width (sumOf width (pop i (dec width (now (p .entry))))
+        (pow j (dec width (now (q .entry))) (dec width (now (r .entry))))) l (now (out .exit)) ⌝ }
 {
     let f = code::put_pow(j, q, out);
     if i == 1 {
@@ -129,8 +131,9 @@ fn add_pop_pow(
 fn add_pow(width: u32, i: u32, p: &[u32], q: &[u32], y: &[u32], out: &mut [u32]) -> usize
     requires { ⌜ (Coded width (now p)) × (Coded width (now q) × Coded width (now y)) ⌝ }
     requires { ⌜ Good width (pow i (dec width (now p)) (dec width (now q))) ⌝ }
-    requires { ⌜ Room (1 + length (now p) + length (now q) + length (now y)) (now out) ⌝ }
-    ensures { λ r. ⌜ Made width (sumOf width (pow i (dec width (now (p .entry))) (dec width (now (q .entry)))) (dec width (now (y .entry)))) r (now (out .exit)) ⌝ }
+    requires { ⌜ RoomUnder (1 + length (now p) + length (now q) + length (now y)) (now out) ⌝ }
+    ensures { λ r. ⌜ Made width (sumOf width (pow i (dec width (now (p .entry))) (dec width (now (q .entry))))
+        (dec width (now (y .entry)))) r (now (out .exit)) ⌝ }
 {
     let w = y[0];
     if w < NODE {
@@ -158,9 +161,11 @@ fn add_pows(
     out: &mut [u32],
 ) -> usize
     requires { ⌜ (Coded width (now p) × Coded width (now q)) × (Coded width (now r) × Coded width (now s)) ⌝ }
-    requires { ⌜ Good width (pow i (dec width (now p)) (dec width (now q))) × Good width (pow j (dec width (now r)) (dec width (now s))) ⌝ }
-    requires { ⌜ Room (2 + length (now p) + length (now q) + length (now r) + length (now s)) (now out) ⌝ }
-    ensures { λ l. ⌜ Made width (sumOf width (pow i (dec width (now (p .entry))) (dec width (now (q .entry)))) (pow j (dec width (now (r .entry))) (dec width (now (s .entry))))) l (now (out .exit)) ⌝ }
+    requires { ⌜ Good width (pow i (dec width (now p)) (dec width (now q)))
+        × Good width (pow j (dec width (now r)) (dec width (now s))) ⌝ }
+    requires { ⌜ RoomUnder (2 + length (now p) + length (now q) + length (now r) + length (now s)) (now out) ⌝ }
+    ensures { λ l. ⌜ Made width (sumOf width (pow i (dec width (now (p .entry))) (dec width (now (q .entry))))
+        (pow j (dec width (now (r .entry))) (dec width (now (s .entry))))) l (now (out .exit)) ⌝ }
 {
     if i == j {
         let a = sum(width, p, r, &mut out[1..]);
@@ -186,10 +191,12 @@ fn add_pows_gt(
     out: &mut [u32],
 ) -> usize
     requires { ⌜ (Coded width (now p) × Coded width (now q)) × (Coded width (now r) × Coded width (now s)) ⌝ }
-    requires { ⌜ Good width (pow i (dec width (now p)) (dec width (now q))) × Good width (pow j (dec width (now r)) (dec width (now s))) ⌝ }
-    requires { ⌜ Room (2 + length (now p) + length (now q) + length (now r) + length (now s)) (now out) ⌝ }
+    requires { ⌜ Good width (pow i (dec width (now p)) (dec width (now q)))
+        × Good width (pow j (dec width (now r)) (dec width (now s))) ⌝ }
+    requires { ⌜ RoomUnder (2 + length (now p) + length (now q) + length (now r) + length (now s)) (now out) ⌝ }
     requires { ⌜ j < i ⌝ }
-    ensures { λ l. ⌜ Made width (sumOf width (pow i (dec width (now (p .entry))) (dec width (now (q .entry)))) (pow j (dec width (now (r .entry))) (dec width (now (s .entry))))) l (now (out .exit)) ⌝ }
+    ensures { λ l. ⌜ Made width (sumOf width (pow i (dec width (now (p .entry))) (dec width (now (q .entry))))
+        (pow j (dec width (now (r .entry))) (dec width (now (s .entry))))) l (now (out .exit)) ⌝ }
 {
     let zero = [0u32; 1];
     let a = add_pow(width, i - j, p, &zero, r, &mut out[1..]);

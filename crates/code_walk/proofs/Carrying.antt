@@ -5,10 +5,9 @@ use mathlib.Core.List.{List, [], _∷_}
 use Prim.Native.Nat.{ℕ, _%_, _<_}
 use lib.ListN.{getD}
 use Rattle.horner.specs.definitions.Form.{Form}
-use Rattle.horner.specs.definitions.Residues.{mulBy}
+use Rattle.code.specs.Widths.{mulBy, modulus, Leaf, leaf}
 use Rattle.code.specs.Coding.{enc, dec}
 use Rattle.code.specs.Operations.{popOf, powOf}
-use Rattle.code.specs.Widths.{modulus, Leaf, leaf}
 use Rattle.code.specs.laws.Codes.{IsInt}
 use Rattle.code.specs.laws.Parts.{inner, first, rest, PopAt, PowAt}
 use Rattle.code.specs.laws.Widths.{leaf-number}
@@ -26,6 +25,7 @@ module _ {v : ℕ} (w a : ℕ) where
   carried-pop u = ap (carryOf v w a) (u .is)
 
   pub carried-pow :
-      {l : List ℕ} → PowAt v l → carryOf v w a (dec v l) ≡ powOf w (getD l 0 0 % 64) (carryOf v w a (dec v (first l))) (carryOf v w a (dec v (rest l)))
+      {l : List ℕ} → PowAt v l → carryOf v w a (dec v l) ≡ powOf w (getD l 0 0 % 64) (carryOf v w a (dec v (first l)))
+      (carryOf v w a (dec v (rest l)))
   unfolding carryOf powOf
   carried-pow u = ap (carryOf v w a) (u .is)

@@ -6,12 +6,10 @@ use Prim.Native.Nat.{ℕ, zero, suc, _+_, _-_, _%_, min}
 use native.Mathlib.Omega.{arith}
 use lib.ListN.{length, getD, take, drop}
 use lib.Seq.{getD-drop}
-use Rattle.horner.specs.definitions.Form.{Form}
-use Rattle.horner.specs.definitions.Residues.{addBy, mulBy, powBy}
-use Rattle.horner.specs.definitions.Value.{evalh}
+use Rattle.horner.specs.definitions.Form.{Form, evalh}
+use Rattle.code.specs.Widths.{addBy, mulBy, powBy, modulus, Leaf, ringOf, leaf}
 use Rattle.code.specs.Coding.{dec}
 use Rattle.code.specs.Operations.{valueOf}
-use Rattle.code.specs.Widths.{modulus, Leaf, ringOf, leaf}
 use Rattle.code.specs.laws.Codes.{IsInt, tail-part}
 use Rattle.code.specs.laws.Parts.{inner, first, rest, PopAt, PowAt}
 use Rattle.code.specs.laws.Widths.{leaf-number, zero-leaf, power-number}
@@ -59,7 +57,8 @@ eval-none (n ∷ l) v e = absurd (omega arith)
 pub eval-pow :
     {w : ℕ} {k : List ℕ} (l : List ℕ) → PowAt w k → (length l ≡ 0 → ⊥) → Leaves w l →
     let m = modulus w in
-    addBy m (mulBy m (powBy m (getD l 0 0) (getD k 0 0 % 64)) (valueOf w (dec w (first k)) l)) (valueOf w (dec w (rest k)) (take (length l - 1) (drop 1 l)))
+    addBy m (mulBy m (powBy m (getD l 0 0) (getD k 0 0 % 64)) (valueOf w (dec w (first k)) l))
+    (valueOf w (dec w (rest k)) (take (length l - 1) (drop 1 l)))
     ≡ valueOf w (dec w k) l
 unfolding valueOf
 eval-pow [] v n r = absurd (n refl)

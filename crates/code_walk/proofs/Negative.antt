@@ -5,10 +5,9 @@ use mathlib.Core.List.{List, [], _∷_, _++_}
 use Prim.Native.Nat.{ℕ}
 use lib.ListN.{length, getD}
 use Rattle.horner.specs.definitions.Form.{Form}
-use Rattle.horner.specs.definitions.Residues.{negBy}
+use Rattle.code.specs.Widths.{negBy, modulus, Leaf}
 use Rattle.code.specs.Coding.{enc, dec}
 use Rattle.code.specs.Operations.{negateOf}
-use Rattle.code.specs.Widths.{modulus, Leaf}
 use Rattle.code.specs.laws.Codes.{IsInt, codes-length}
 use Rattle.code.specs.laws.Parts.{inner, first, rest, PopAt, PowAt, pop-made, pow-made}
 use Rattle.code.specs.laws.Sizes.{negate-length}
@@ -28,6 +27,8 @@ module _ {w : ℕ} {l : List ℕ} where
   neg-left v = negate-length w (dec w (first l)) ∙ sym (codes-length (v .left))
 
   pub neg-pow :
-      PowAt w l → ((getD l 0 0 ∷ []) ++ enc w (negateOf w (dec w (first l)))) ++ enc w (negateOf w (dec w (rest l))) ≡ enc w (negateOf w (dec w l))
+      PowAt w l → ((getD l 0 0 ∷ []) ++ enc w (negateOf w (dec w (first l)))) ++ enc w (negateOf w (dec w (rest l))) ≡ enc w
+      (negateOf w (dec w l))
   unfolding negateOf
-  neg-pow v = pow-made v (negateOf w (dec w (first l))) (negateOf w (dec w (rest l))) (neg-left v) ∙ ap (λ h. enc w (negateOf w h)) (sym (v .is))
+  neg-pow v =
+      pow-made v (negateOf w (dec w (first l))) (negateOf w (dec w (rest l))) (neg-left v) ∙ ap (λ h. enc w (negateOf w h)) (sym (v .is))

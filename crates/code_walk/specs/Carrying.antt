@@ -1,9 +1,9 @@
--- A form carried from the ring of one width to that of another: each leaf is read as an integer and reduced, and the POPs and POWs are made again, so that
--- the result is normal also where a leaf has become 0.
+-- A form carried from the ring of one width to that of another: each leaf is read as an integer and reduced, and the POPs and POWs are
+-- made again, so that the result is normal also where a leaf has become 0.
 use Prim.Native.Nat.{ℕ}
 use Rattle.horner.specs.definitions.Form.{Form, int, pop, pow, mkpop, mkpow}
-use Rattle.horner.specs.definitions.Residues.{redℤ, lift}
-use Rattle.horner.specs.definitions.Ring.{Ring}
+use Rattle.horner.specs.laws.Residues.{lift}
+use Rattle.horner.specs.definitions.Rings.{redℤ, Ring}
 use Rattle.code.specs.Widths.{modulus, modulus-pos, Leaf, ringOf, leaf}
 
 module _ {A B : Type 0} (S : Ring B) (f : A → B) where

@@ -5,7 +5,7 @@ ghost use Prim.Native.Nat.{ℕ, _+_, _<_, _≤_, min};
 ghost use lib.ListN.{length};
 ghost use Rattle.horner.specs.definitions.Form.{int, isZero};
 ghost use Rattle.code.specs.Widths.{modulus, ringOf, leaf};
-ghost use Rattle.code.specs.Coding.{Coded, Made, Room, dec};
+ghost use Rattle.code.specs.Coding.{Coded, Made, RoomUnder, dec};
 ghost use Rattle.code.specs.Operations.{negateOf, valueOf, scaleOf};
 ghost use Rattle.code_walk.specs.Points.{Leaves};
 ghost use Rattle.code_walk.specs.Shapes.{Decides, letterOf};
@@ -98,10 +98,10 @@ fn leaf_carried(from: u32, width: u32, x: u32) -> u32
 }
 
 // The form y carried to the ring of another width, each leaf times a.
-pub fn carry(from: u32, width: u32, a: u32, y: &[u32], out: &mut [u32]) -> usize
+fn carry(from: u32, width: u32, a: u32, y: &[u32], out: &mut [u32]) -> usize
     requires { ⌜ a < modulus width ⌝ }
     requires { ⌜ Coded from (now y) ⌝ }
-    requires { ⌜ Room (1 + length (now y)) (now out) ⌝ }
+    requires { ⌜ RoomUnder (1 + length (now y)) (now out) ⌝ }
     ensures { λ r. ⌜ Made width (carryOf from width a (dec from (now (y .entry)))) r (now (out .exit)) ⌝ }
 {
     let w = y[0];
@@ -125,7 +125,7 @@ pub fn carry(from: u32, width: u32, a: u32, y: &[u32], out: &mut [u32]) -> usize
 pub fn scale(width: u32, a: u32, y: &[u32], out: &mut [u32]) -> usize
     requires { ⌜ a < modulus width ⌝ }
     requires { ⌜ Coded width (now y) ⌝ }
-    requires { ⌜ Room (1 + length (now y)) (now out) ⌝ }
+    requires { ⌜ RoomUnder (1 + length (now y)) (now out) ⌝ }
     ensures { λ r. ⌜ Made width (scaleOf width a (dec width (now (y .entry)))) r (now (out .exit)) ⌝ }
 {
     carry(width, width, a, y, out)
@@ -134,7 +134,7 @@ pub fn scale(width: u32, a: u32, y: &[u32], out: &mut [u32]) -> usize
 // The form over the ring of a width of a form over the remainders by P.
 pub fn reduce(width: u32, x: &[u32], out: &mut [u32]) -> usize
     requires { ⌜ Coded 0 (now x) ⌝ }
-    requires { ⌜ Room (1 + length (now x)) (now out) ⌝ }
+    requires { ⌜ RoomUnder (1 + length (now x)) (now out) ⌝ }
     ensures { λ r. ⌜ Made width (reduceOf width (dec 0 (now (x .entry)))) r (now (out .exit)) ⌝ }
 {
     carry(0, width, 1, x, out)
@@ -143,7 +143,8 @@ pub fn reduce(width: u32, x: &[u32], out: &mut [u32]) -> usize
 // Whether x and y are one code, and so of one form.
 pub fn same(x: &[u32], y: &[u32]) -> bool
     ensures { λ r. ⌜ Decides r (now (x .entry) ≡ now (y .entry)) ⌝ }
-    ensures { λ r. ⌜ ((w : ℕ) → Coded w (now (x .entry)) → Coded w (now (y .entry)) → Decides r (dec w (now (x .entry)) ≡ dec w (now (y .entry)))) ⌝ }
+    ensures { λ r. ⌜ ((w : ℕ) → Coded w (now (x .entry)) → Coded w (now (y .entry)) → Decides r
+        (dec w (now (x .entry)) ≡ dec w (now (y .entry)))) ⌝ }
 {
     if x.len() != y.len() {
         return false;

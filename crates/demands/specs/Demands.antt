@@ -1,44 +1,38 @@
--- The demands, under their own words. A call's contract says that it answers the reply that is defined in crates/reply; here is what the replies are worth.
-use mathlib.Core.Bool.{Bool, true, false}
+-- The demands, under their own words. A call's contract says that it answers the reply that is defined in crates/reply; here is what the
+-- replies are worth.
+use mathlib.Core.Bool.{true}
 use mathlib.Core.List.{List}
 use mathlib.Core.Logic.{_↔_}
 use mathlib.Core.Path.{_≡_, refl, sym, ap, _∙_}
-use Prim.Native.Nat.{ℕ, _≤_, _<_, _%_, _^_}
+use Prim.Native.Nat.{ℕ, _≤_, _%_, _^_}
 use native.Mathlib.Omega.{arith}
 use borrow.Author.Tests.{le-leb}
-use lib.Dec.{leb}
 use lib.IntN.{ℤ, natAbs}
 use lib.ListN.{length}
 use lib.Pow.{pow-pos}
 use Rattle.refusal.specs.declared.Side.the-variants.{Left, Right}
-use Rattle.horner.specs.definitions.Coefficients.{coefAt, multiplesOf}
-use Rattle.horner.specs.definitions.Form.{Form, isZero}
-use Rattle.horner.specs.definitions.Integers.{ℤ-ring}
-use Rattle.horner.specs.definitions.Measures.{Within}
-use Rattle.horner.specs.definitions.Points.{IsPoint, gap}
-use Rattle.horner.specs.definitions.Residues.{P-ring}
+use Rattle.horner.specs.definitions.Measures.{coefAt, multiplesOf}
+use Rattle.horner.specs.definitions.Form.{Form, evalh}
+use Rattle.horner.specs.definitions.Rings.{ℤ-ring}
+use Rattle.horner.specs.laws.Within.{Within}
+use Rattle.horner.specs.definitions.Points.{IsPoint}
 use Rattle.horner.specs.definitions.Term.{Term, diff, normℤ, normP, evalℤ, evalP}
-use Rattle.horner.specs.definitions.Value.{evalh}
 use Rattle.horner.specs.laws.Answer.{same-iff, point-is}
 use Rattle.horner.specs.laws.Term.{evalh-norm, normal-norm, theorem-1}
-use Rattle.text.specs.definitions.Answer.{Reading, read, refused}
-use Rattle.text.specs.definitions.Bytes.{isRow, same}
-use Rattle.text.specs.definitions.FormJudging.{acceptForm}
+use Rattle.text.specs.definitions.Bytes.{Reading, read, refused, isRow}
+use Rattle.text.specs.definitions.FormReading.{acceptForm, text}
 use Rattle.text.specs.definitions.FormMeaning.{IsForm}
-use Rattle.text.specs.definitions.FormText.{text}
 use Rattle.text.specs.definitions.Limits.{acceptTerm}
-use Rattle.text.specs.definitions.Meaning.{IsTerm}
-use Rattle.text.specs.definitions.Parts.{Part, Fits}
+use Rattle.text.specs.definitions.Meaning.{IsTerm, Part, Fits}
 use Rattle.text.specs.definitions.Tree.{Tree, termOf}
 use Rattle.text_laws.specs.laws.Accepted as Terms
 use Rattle.text_laws.specs.laws.FormAccepted as Forms
 use Rattle.text_laws.specs.laws.FormReading.{text-injective}
 use Rattle.text_laws.specs.laws.Result.{result-form, result-accepted}
-use Rattle.text_laws.specs.laws.Rows.{row-length, accepted-within}
-use Rattle.reply.specs.definitions.Compare.{Verdict, equal, different, verdictOf, pointOf, compareReply, countersReply, isWidth, bits}
-use Rattle.reply.specs.definitions.Forms.{judgeReply}
-use Rattle.reply.specs.definitions.Reply.{Reply, gives, refuses, asked, readAs, enough, opened, fitted}
-use Rattle.reply.specs.definitions.Terms.{formReply}
+use Rattle.text_laws.specs.laws.Rows.{accepted-within}
+use Rattle.reply.specs.definitions.Calls.{equal, different, verdictOf, pointOf, compareReply, countersReply, isWidth, bits}
+use Rattle.reply.specs.definitions.Calls.{judgeReply, formReply}
+use Rattle.reply.specs.definitions.Reply.{Reply, gives, asked, readAs, enough, opened, fitted}
 use Rattle.code_walk.specs.Shapes.{Decides}
 use Rattle.code_counters.specs.laws.Multiples.{multiples-coefs}
 use Rattle.call_compare.specs.laws.Verdict.{verdict-same, verdict-bytes, verdict-apart, not-zero}
@@ -52,9 +46,10 @@ pub goes : {A : Type 0} {row tables : List ℕ} (r : Unit {0} → Reply A) → L
 goes r l = rw (l .proper) (rw (l .long) refl)
 
 -- ---- demand 2
--- "Given a proper row and long enough buffers, a term inside the limits is never refused, and its form is exactly the sparse Horner normal form of the
--- polynomial it denotes." The longest form's text has 33,803 bytes.
-module _ (row tables s : List ℕ) (l : Lent row tables) (t : Tree) (is : IsTerm row s t) (inside : (y : Tree) → Part y t → Fits row y) (n : ℕ) (long : 33803 ≤ n) where
+-- "Given a proper row and long enough buffers, a term inside the limits is never refused, and its form is exactly the sparse Horner normal
+-- form of the polynomial it denotes." The longest form's text has 33,803 bytes.
+module _ (row tables s : List ℕ) (l : Lent row tables) (t : Tree) (is : IsTerm row s t)
+    (inside : (y : Tree) → Part y t → Fits row y) (n : ℕ) (long : 33803 ≤ n) where
   accepted : acceptTerm row s ≡ read t
   accepted = Terms.accepts row s t .1 (is, inside)
 
@@ -97,11 +92,17 @@ module _ (row s : List ℕ) (r : isRow row ≡ true) where
   yes (refused bad) h k = absurd (let z : _≡_ {A = ℕ} 0 1 = cc in omega arith)
 
   pub judge-exactly : (judgeReply row s ≡ gives tt) ↔ Form-text (length row) s
-  judge-exactly = (λ e. yes (acceptForm (length row) s) refl (sym judge-is ∙ e), λ f. judge-is ∙ ap judged (Forms.accepts (length row) s (f .form) .1 (f .is)))
+  judge-exactly = (
+    λ e. yes (acceptForm (length row) s) refl (sym judge-is ∙ e),
+    λ f. judge-is
+        ∙ ap judged (Forms.accepts (length row) s (f .form) .1 (f .is)),
+  )
 
 -- ---- demand 3
--- "For two accepted terms over a row of one to four variables: same bytes of form exactly when equal values at every assignment of whole numbers."
-module _ (row tables s t : List ℕ) (l : Lent row tables) (k : ℕ) (room : length row ≤ k) (u v : Tree) (left-is : acceptTerm row s ≡ read u) (right-is : acceptTerm row t ≡ read v) where
+-- "For two accepted terms over a row of one to four variables: same bytes of form exactly when equal values at every assignment of whole
+-- numbers."
+module _ (row tables s t : List ℕ) (l : Lent row tables) (k : ℕ) (room : length row ≤ k) (u v : Tree)
+    (left-is : acceptTerm row s ≡ read u) (right-is : acceptTerm row t ≡ read v) where
   abbrev n : ℕ
   n = length row
 
@@ -120,8 +121,11 @@ module _ (row tables s t : List ℕ) (l : Lent row tables) (k : ℕ) (room : len
   pub compare-is : compareReply row tables k s t ≡ gives (verdictOf n f g)
   unfolding compareReply
   compare-is =
-      goes _ l ∙ ap (λ b. asked b 2 (λ x. readAs Left (acceptTerm row s) (λ y. readAs Right (acceptTerm row t) (λ z. gives (verdictOf n (termOf row y) (termOf row z)))))) (le-leb n k room)
-      ∙ ap (λ (x : Reading Tree). readAs Left x (λ y. readAs Right (acceptTerm row t) (λ z. gives (verdictOf n (termOf row y) (termOf row z))))) left-is
+      goes _ l
+      ∙ ap (λ b. asked b 2 (λ x. readAs Left (acceptTerm row s)
+      (λ y. readAs Right (acceptTerm row t) (λ z. gives (verdictOf n (termOf row y) (termOf row z)))))) (le-leb n k room)
+      ∙ ap (λ (x : Reading Tree). readAs Left x
+      (λ y. readAs Right (acceptTerm row t) (λ z. gives (verdictOf n (termOf row y) (termOf row z))))) left-is
       ∙ ap (λ (x : Reading Tree). readAs Right x (λ z. gives (verdictOf n f (termOf row z)))) right-is
 
   pub same-bytes-values : (text (normℤ f) ≡ text (normℤ g)) ↔ ((N : List ℤ) → length N ≡ n → evalℤ f N ≡ evalℤ g N)
@@ -131,14 +135,23 @@ module _ (row tables s t : List ℕ) (l : Lent row tables) (k : ℕ) (room : len
 
   -- and then, and only then, the answer is 'same'
   pub same-answer : (text (normℤ f) ≡ text (normℤ g)) ↔ (compareReply row tables k s t ≡ gives equal)
-  same-answer = (λ e. compare-is ∙ ap gives (verdict-same n f g F G (same-iff n f g F G .1 (same-bytes-values .0 e))), λ e. verdict-bytes n f g F G (given (sym compare-is ∙ e)))
+  same-answer = (
+    λ e. compare-is
+        ∙ ap gives (verdict-same n f g F G (same-iff n f g F G .1 (same-bytes-values .0 e))),
+    λ e. verdict-bytes n f g F G
+        (given (sym compare-is ∙ e)),
+  )
     where
       given : gives (verdictOf n f g) ≡ gives equal → verdictOf n f g ≡ equal
       given e = cc
 
-  -- "Otherwise the point returned is the first, in row order, among all assignments of whole numbers from zero up where the values leave different remainders by
-  -- 2,147,483,647; no coordinate exceeds that variable's highest power in the two forms": IsPoint says so, and the remainders are the terms', left first
-  pub other-answer : (text (normℤ f) ≡ text (normℤ g) → ⊥) → (compareReply row tables k s t ≡ gives (different (pointOf n f g) (evalP f (pointOf n f g) .0) (evalP g (pointOf n f g) .0))) × IsPoint n f g (pointOf n f g)
+  -- "Otherwise the point returned is the first, in row order, among all assignments of whole numbers from zero up where the values leave
+  -- different remainders by 2,147,483,647; no coordinate exceeds that variable's highest power in the two forms": IsPoint says so, and the
+  -- remainders are the terms', left first
+  pub other-answer :
+      (text (normℤ f) ≡ text (normℤ g) → ⊥) →
+      (compareReply row tables k s t ≡ gives (different (pointOf n f g) (evalP f (pointOf n f g) .0) (evalP g (pointOf n f g) .0)))
+      × IsPoint n f g (pointOf n f g)
   other-answer h = (compare-is ∙ ap gives (verdict-apart n f g F G apart), point-is n f g F G (not-zero n f g F G apart))
     where
       apart : normP f ≡ normP g → ⊥
@@ -146,7 +159,8 @@ module _ (row tables s t : List ℕ) (l : Lent row tables) (k : ℕ) (room : len
 
 -- ---- counters
 -- "It answers 'same' when each coefficient of the difference is a multiple of 2 to the width"
-module _ (row tables s t : List ℕ) (l : Lent row tables) (w : ℕ) (width : isWidth w ≡ true) (u v : Tree) (left-is : acceptTerm row s ≡ read u) (right-is : acceptTerm row t ≡ read v) where
+module _ (row tables s t : List ℕ) (l : Lent row tables) (w : ℕ) (width : isWidth w ≡ true) (u v : Tree)
+    (left-is : acceptTerm row s ≡ read u) (right-is : acceptTerm row t ≡ read v) where
   abbrev difference : Form ℤ
   difference = normℤ (diff (termOf row u) (termOf row v))
 
@@ -154,11 +168,18 @@ module _ (row tables s t : List ℕ) (l : Lent row tables) (w : ℕ) (width : is
   unfolding countersReply
   counters-is =
       goes _ l
-      ∙ ap (λ b. asked b 14 (λ x. readAs Left (acceptTerm row s) (λ y. readAs Right (acceptTerm row t) (λ z. gives (multiplesOf (2 ^ bits w) (normℤ (diff (termOf row y) (termOf row z)))))))) width
-      ∙ ap (λ (x : Reading Tree). readAs Left x (λ y. readAs Right (acceptTerm row t) (λ z. gives (multiplesOf (2 ^ bits w) (normℤ (diff (termOf row y) (termOf row z))))))) left-is
-      ∙ ap (λ (x : Reading Tree). readAs Right x (λ z. gives (multiplesOf (2 ^ bits w) (normℤ (diff (termOf row u) (termOf row z)))))) right-is
+      ∙ ap (λ b. asked b 14 (λ x. readAs Left (acceptTerm row s)
+      (λ y. readAs Right (acceptTerm row t) (λ z. gives (multiplesOf (2 ^ bits w) (normℤ (diff (termOf row y) (termOf row z))))))))
+      width
+      ∙ ap (λ (x : Reading Tree). readAs Left x
+      (λ y. readAs Right (acceptTerm row t) (λ z. gives (multiplesOf (2 ^ bits w) (normℤ (diff (termOf row y) (termOf row z)))))))
+      left-is
+      ∙ ap (λ (x : Reading Tree). readAs Right x (λ z. gives (multiplesOf (2 ^ bits w) (normℤ (diff (termOf row u) (termOf row z))))))
+      right-is
 
-  pub counters-exactly : Decides (multiplesOf (2 ^ bits w) difference) ((ks : List ℕ) → length ks ≡ length row → natAbs (coefAt ℤ-ring ks difference) % 2 ^ bits w ≡ 0)
+  pub counters-exactly : Decides (multiplesOf (2 ^ bits w) difference)
+      ((ks : List ℕ) → length ks ≡ length row → natAbs (coefAt ℤ-ring ks difference) % 2 ^ bits w ≡ 0)
   counters-exactly =
       multiples-coefs (2 ^ bits w) (pow-pos (bits w)) (length row) difference
-      (normal-norm ℤ-ring (λ z. z) refl (length row) (diff (termOf row u) (termOf row v)) (accepted-within row s u left-is .over, accepted-within row t v right-is .over))
+      (normal-norm ℤ-ring (λ z. z) refl (length row) (diff (termOf row u) (termOf row v))
+      (accepted-within row s u left-is .over, accepted-within row t v right-is .over))

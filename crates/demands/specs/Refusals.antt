@@ -1,9 +1,10 @@
--- "no refusal but document 01's, each exactly when its line of the table says so": of a term's text and of a form's text, number and place; and that these, on their
--- side, are the calls' refusals of a text. The row, the lengths and the width are tested before any text as crates/reply says, in a line each.
+-- "no refusal but document 01's, each exactly when its line of the table says so": of a term's text and of a form's text, number and
+-- place; and that these, on their side, are the calls' refusals of a text. The row, the lengths and the width are tested before any text
+-- as crates/reply says, in a line each.
 use mathlib.Core.Bool.{Bool, true, false}
 use mathlib.Core.List.{List, [], _∷_, _++_}
 use mathlib.Core.Logic.{_↔_}
-use mathlib.Core.Path.{_≡_, refl, sym, ap, ap₂, _∙_}
+use mathlib.Core.Path.{_≡_, refl, sym, ap, _∙_}
 use Prim.Native.Nat.{ℕ, zero, suc, _≤_}
 use native.Mathlib.Nat.{sub-zero}
 use native.Mathlib.Omega.{arith}
@@ -15,37 +16,29 @@ use Rattle.refusal.specs.Refusal.{fault, onSide, ofNeither}
 use Rattle.refusal.specs.declared.Refusal.{Refusal}
 use Rattle.refusal.specs.declared.Side.the-variants.{Left, Right, Neither}
 use Rattle.refusal.specs.declared.Side.{Side}
-use Rattle.horner.specs.definitions.Form.{Form}
-use Rattle.horner.specs.definitions.Integers.{ℤ-ring}
-use Rattle.horner.specs.definitions.Normal.{Normal}
+use Rattle.horner.specs.definitions.Form.{Form, Normal}
+use Rattle.horner.specs.definitions.Rings.{ℤ-ring}
 use Rattle.horner.specs.definitions.Term.{normℤ}
-use Rattle.text.specs.definitions.Answer.{Reading, read, refused, refusedAt, fine}
-use Rattle.text.specs.definitions.Bytes.{isRow}
-use Rattle.text.specs.definitions.FormJudging as J
-use Rattle.text.specs.definitions.FormJudging.{Node, nodes, stands, firstWrong, thenJudged, acceptForm}
+use Rattle.text.specs.definitions.Bytes.{onward, Reading, read, refused, refusedAt, fine, isRow}
+use Rattle.text.specs.definitions.FormReading as J
+use Rattle.text.specs.definitions.FormReading.{Node, nodes, stands, firstWrong, formMeasured, formJudged, acceptForm, text}
 use Rattle.text.specs.definitions.FormMeaning as M
 use Rattle.text.specs.definitions.FormMeaning.{IsFormText, AllStand, WrongNode}
-use Rattle.text.specs.definitions.FormReading.{readForm}
-use Rattle.text.specs.definitions.FormText.{text}
-use Rattle.text.specs.definitions.Limits.{finishing, firstPast, passes, measured, thenMeasured, acceptTerm}
-use Rattle.text.specs.definitions.Meaning.{IsTerm, RefusedAs}
-use Rattle.text.specs.definitions.Parts.{AllPass, FirstOver}
-use Rattle.text.specs.definitions.Reading.{readTerm}
+use Rattle.text.specs.definitions.Limits.{firstPast, overLimit, measured, acceptTerm}
+use Rattle.text.specs.definitions.Meaning.{IsTerm, RefusedAs, AllWithin, FirstOver}
 use Rattle.text.specs.definitions.Tree.{Tree, startOf, termOf}
 use Rattle.text_laws.specs.laws.Accepted.{Outcome, not-term, too-big, stands-as, outcome}
 use Rattle.text_laws.specs.laws.Exactly.{refused-exactly}
 use Rattle.text_laws.specs.laws.FormAccepted as F
-use Rattle.text_laws.specs.laws.FormAccepted.{Fits, Measure, within, degree, heavy, many, measure}
+use Rattle.text_laws.specs.laws.FormAccepted.{Measure, within, degree, heavy, many, measure}
 use Rattle.text_laws.specs.laws.FormExactly as FE
 use Rattle.text_laws.specs.laws.FormNormal.{normal-stand}
 use Rattle.text_laws.specs.laws.FormReading as FR
 use Rattle.text_laws.specs.laws.Places.{refusal-parts}
 use Rattle.text_laws.specs.laws.Reading.{reads}
 use Rattle.text_laws.specs.laws.Sofar.{no-refusal}
-use Rattle.reply.specs.definitions.Compare.{Verdict, verdictOf, compareOf, compareReply}
-use Rattle.reply.specs.definitions.Forms.{judgeReply}
+use Rattle.reply.specs.definitions.Calls.{Verdict, verdictOf, compareOf, compareReply, judgeReply, formReply}
 use Rattle.reply.specs.definitions.Reply.{Reply, gives, refuses, asked, readAs, fitted}
-use Rattle.reply.specs.definitions.Terms.{formOf, formReply}
 use Rattle.demands.specs.Demands.{Lent, goes}
 
 -- ---- a term's text
@@ -55,7 +48,9 @@ pub data TermRefused (row s : List ℕ) (e p : ℕ) : Type 0 where
   over-limit : (t : Tree) → IsTerm row s t → FirstOver row t e p → TermRefused row s e p
 
 module _ (row : List ℕ) where
-  first-past : (r : Reading Tree) (us : List Tree) (u : Tree) (vs : List Tree) (e : ℕ) → AllPass row us → passes row u ≡ suc e → firstPast row r (us ++ (u ∷ vs)) ≡ refusedAt (suc e) (startOf u)
+  first-past :
+      (r : Reading Tree) (us : List Tree) (u : Tree) (vs : List Tree) (e : ℕ) → AllWithin row us → overLimit row u ≡ suc e →
+      firstPast row r (us ++ (u ∷ vs)) ≡ refusedAt (suc e) (startOf u)
   first-past r [] u vs e a h = rw h
   first-past r (t ∷ us) u vs e a h = rw (a .0) (first-past r us u vs e (a .1) h)
 
@@ -63,7 +58,8 @@ module _ (row : List ℕ) where
   unfolding measured
   measured-first t zero p w = absurd (w .over refl)
   measured-first t (suc e) p w =
-      ap (firstPast row (read t)) (w .parts) ∙ first-past (read t) (w .before) (w .node) (w .behind) e (w .pass) (w .number) ∙ ap (refusedAt (suc e)) (sym (w .place))
+      ap (firstPast row (read t)) (w .parts) ∙ first-past (read t) (w .before) (w .node) (w .behind) e (w .within) (w .number)
+      ∙ ap (refusedAt (suc e)) (sym (w .place))
 
   module _ (s : List ℕ) (e p : ℕ) where
     why-term : Outcome row s (acceptTerm row s) → acceptTerm row s ≡ refusedAt e p → TermRefused row s e p
@@ -73,14 +69,15 @@ module _ (row : List ℕ) where
 
     of-why : TermRefused row s e p → acceptTerm row s ≡ refusedAt e p
     unfolding acceptTerm
-    of-why (no-term a) = ap (thenMeasured row) (refused-exactly row s e p .1 a)
-    of-why (over-limit t i w) = ap (thenMeasured row) (reads row s t .1 i) ∙ measured-first t e p w
+    of-why (no-term a) = ap (λ (r : Reading Tree). onward r (measured row)) (refused-exactly row s e p .1 a)
+    of-why (over-limit t i w) = ap (λ (r : Reading Tree). onward r (measured row)) (reads row s t .1 i) ∙ measured-first t e p w
 
     pub term-refused : (acceptTerm row s ≡ refusedAt e p) ↔ TermRefused row s e p
     term-refused = (why-term (outcome row s), of-why)
 
 -- ---- a form's text
--- 3, 4 and 6: it is no form's text. 7: the first node, in order of places, that is not normal. 8, 9 and 10: its measures, the lowest number; place 0
+-- 3, 4 and 6: it is no form's text. 7: the first node, in order of places, that is not normal. 8, 9 and 10: its measures, the lowest
+-- number; place 0
 pub data FormRefused (m : ℕ) (s : List ℕ) (e p : ℕ) : Type 0 where
   no-form : M.RefusedAs s e p → FormRefused m s e p
   not-normal : (f : Form ℤ) → IsFormText s f → e ≡ 7 → WrongNode m f p → FormRefused m s e p
@@ -105,13 +102,15 @@ module _ (m : ℕ) where
   one-measure f e e′ (many i h w t) (heavy j k l) = absurd (omega arith)
   one-measure f e e′ (many i h w t) (many j k l o) = i ∙ sym j
 
-  first-wrong : (r : Reading (Form ℤ)) (ls : List Node) (k : Node) (js : List Node) → AllStand m ls → stands m (k .level) (k .form) ≡ false → firstWrong m r (ls ++ (k ∷ js)) ≡ refusedAt 7 (k .place)
+  first-wrong :
+      (r : Reading (Form ℤ)) (ls : List Node) (k : Node) (js : List Node) → AllStand m ls → stands m (k .level) (k .form) ≡ false →
+      firstWrong m r (ls ++ (k ∷ js)) ≡ refusedAt 7 (k .place)
   first-wrong r [] k js a h = rw (h, firstWrong)
   first-wrong r (l ∷ ls) k js a h = rw (a .0, firstWrong) (first-wrong r ls k js (a .1) h)
 
-  over-fine : (f : Form ℤ) (e : ℕ) → (e ≡ 0 → ⊥) → Measure m f e → fine (J.passes m f) 0 (λ u. read f) ≡ refusedAt e 0
+  over-fine : (f : Form ℤ) (e : ℕ) → (e ≡ 0 → ⊥) → Measure m f e → fine (J.overLimit m f) 0 (λ u. read f) ≡ refusedAt e 0
   over-fine f zero z w = absurd (z refl)
-  over-fine f (suc e) z w = rw (one-measure f (J.passes m f) (suc e) (measure m f) w)
+  over-fine f (suc e) z w = rw (one-measure f (J.overLimit m f) (suc e) (measure m f) w)
 
   module _ (s : List ℕ) (e p : ℕ) where
     why-form : F.Outcome m s (acceptForm m s) → acceptForm m s ≡ refusedAt e p → FormRefused m s e p
@@ -124,13 +123,16 @@ module _ (m : ℕ) where
 
     of-why-form : FormRefused m s e p → acceptForm m s ≡ refusedAt e p
     unfolding acceptForm
-    of-why-form (no-form a) = ap (thenJudged m) (FE.refused-exactly s e p .1 a)
+    of-why-form (no-form a) = ap (λ (r : Reading (Form ℤ)). onward r (formJudged m)) (FE.refused-exactly s e p .1 a)
     of-why-form (not-normal f t i w) =
-        ap (thenJudged m) (FR.reads s f .1 t)
-        ∙ ap (J.thenMeasured m) (ap (firstWrong m (read f)) (w .parts) ∙ first-wrong (read f) (w .before) (w .node) (w .behind) (w .stand) (w .falls))
+        ap (λ (r : Reading (Form ℤ)). onward r (formJudged m)) (FR.reads s f .1 t)
+        ∙ ap (λ (r : Reading (Form ℤ)). onward r (formMeasured m))
+        (ap (firstWrong m (read f)) (w .parts) ∙ first-wrong (read f) (w .before) (w .node) (w .behind) (w .stand) (w .falls))
         ∙ rw (i, w .place)
     of-why-form (over-measure f t n z w i) =
-        ap (thenJudged m) (FR.reads s f .1 t) ∙ ap (J.thenMeasured m) (F.all-stand m (read f) (nodes 0 0 f) (normal-stand m f 0 0 (rw sub-zero n))) ∙ over-fine f e z w ∙ ap (refusedAt e) (sym i)
+        ap (λ (r : Reading (Form ℤ)). onward r (formJudged m)) (FR.reads s f .1 t)
+        ∙ ap (λ (r : Reading (Form ℤ)). onward r (formMeasured m))
+        (F.all-stand m (read f) (nodes 0 0 f) (normal-stand m f 0 0 (rw sub-zero n))) ∙ over-fine f e z w ∙ ap (refusedAt e) (sym i)
 
     pub form-refused : (acceptForm m s ≡ refusedAt e p) ↔ FormRefused m s e p
     form-refused = (why-form (F.outcome m s), of-why-form)
@@ -140,7 +142,8 @@ module _ (e p : ℕ) where
   not-given : {A : Type 0} (a : A) (s : Side) → _≡_ {A = Reply A} (gives a) (refuses (onSide s (fault e p))) → ⊥
   not-given a s h = let z : _≡_ {A = ℕ} 0 1 = cc in omega arith
 
-  not-asked : {A : Type 0} (b : Bool) (k : ℕ) (a : A) → _≡_ {A = Reply A} (asked b k (λ u. gives a)) (refuses (onSide Left (fault e p))) → ⊥
+  not-asked :
+      {A : Type 0} (b : Bool) (k : ℕ) (a : A) → _≡_ {A = Reply A} (asked b k (λ u. gives a)) (refuses (onSide Left (fault e p))) → ⊥
   not-asked true k a h = not-given a Left h
   not-asked false k a h =
       let same : ofNeither k ≡ onSide Left (fault e p) = cc in
@@ -148,13 +151,17 @@ module _ (e p : ℕ) where
       let z : _≡_ {A = ℕ} 0 1 = cc in
       omega arith
 
-  same-refusal : {A B : Type 0} (e′ p′ : ℕ) (s : Side) → _≡_ {A = Reply B} (refuses (onSide s (fault e′ p′))) (refuses (onSide s (fault e p))) → _≡_ {A = Reading A} (refusedAt e′ p′) (refusedAt e p)
+  same-refusal :
+      {A B : Type 0} (e′ p′ : ℕ) (s : Side) → _≡_ {A = Reply B} (refuses (onSide s (fault e′ p′))) (refuses (onSide s (fault e p))) →
+      _≡_ {A = Reading A} (refusedAt e′ p′) (refusedAt e p)
   same-refusal e′ p′ s h =
       let same : onSide s (fault e′ p′) ≡ onSide s (fault e p) = cc in
       ap (λ (r : Refusal). refusedAt (r .number) (r .place)) same
 
   module _ {A B : Type 0} (s : Side) (x : Reading A) (k : A → Reply B) where
-    of-side : (y : Reading A) → ((a : A) → k a ≡ refuses (onSide s (fault e p)) → ⊥) → readAs s y k ≡ refuses (onSide s (fault e p)) → y ≡ refusedAt e p
+    of-side :
+        (y : Reading A) → ((a : A) → k a ≡ refuses (onSide s (fault e p)) → ⊥) → readAs s y k ≡ refuses (onSide s (fault e p)) →
+        y ≡ refusedAt e p
     of-side (refused bad) q h = same-refusal (bad .number) (bad .place) s h
     of-side (read a) q h = absurd (q a h)
 
@@ -191,15 +198,19 @@ module _ (row tables s : List ℕ) (l : Lent row tables) (e p : ℕ) where
     pub left-refused : (compareReply row tables k s t ≡ refuses (onSide Left (fault e p))) ↔ TermRefused row s e p
     left-refused = (
       λ h. term-refused row s e p .0
-          (of-side e p Left (acceptTerm row s) (λ f. readAs Right (acceptTerm row t) (then f)) (acceptTerm row s) (not-left (acceptTerm row t)) (sym opens ∙ h)),
+          (of-side e p Left (acceptTerm row s) (λ f. readAs Right (acceptTerm row t) (then f)) (acceptTerm row s)
+          (not-left (acceptTerm row t)) (sym opens ∙ h)),
       λ h. opens ∙ at-side e p Left (acceptTerm row s) (λ f. readAs Right (acceptTerm row t) (then f)) (term-refused row s e p .1 h),
     )
 
     -- the right one is refused where the left one is accepted
-    pub right-refused : (f : Tree) → acceptTerm row s ≡ read f → (compareReply row tables k s t ≡ refuses (onSide Right (fault e p))) ↔ TermRefused row t e p
+    pub right-refused :
+        (f : Tree) → acceptTerm row s ≡ read f →
+        (compareReply row tables k s t ≡ refuses (onSide Right (fault e p))) ↔ TermRefused row t e p
     right-refused f is = (
       λ h. term-refused row t e p .0
-          (of-side e p Right (acceptTerm row t) (then f) (acceptTerm row t) (λ g. not-given e p (verdictOf (length row) (termOf row f) (termOf row g)) Right) (sym reads-left ∙ h)),
+          (of-side e p Right (acceptTerm row t) (then f) (acceptTerm row t)
+          (λ g. not-given e p (verdictOf (length row) (termOf row f) (termOf row g)) Right) (sym reads-left ∙ h)),
       λ h. reads-left ∙ at-side e p Right (acceptTerm row t) (then f) (term-refused row t e p .1 h),
     )
       where
@@ -207,10 +218,13 @@ module _ (row tables s : List ℕ) (l : Lent row tables) (e p : ℕ) where
         reads-left = opens ∙ ap (λ (x : Reading Tree). readAs Left x (λ f. readAs Right (acceptTerm row t) (then f))) is
 
 -- `judge` refuses the text exactly so
-pub judge-refuses : (row s : List ℕ) (e p : ℕ) → isRow row ≡ true → (judgeReply row s ≡ refuses (onSide Left (fault e p))) ↔ FormRefused (length row) s e p
+pub judge-refuses :
+    (row s : List ℕ) (e p : ℕ) → isRow row ≡ true →
+    (judgeReply row s ≡ refuses (onSide Left (fault e p))) ↔ FormRefused (length row) s e p
 unfolding judgeReply
 judge-refuses row s e p r = (
-  λ h. form-refused (length row) s e p .0 (of-side e p Left (acceptForm (length row) s) (λ f. gives tt) (acceptForm (length row) s) (λ f. not-given e p tt Left) (sym opens ∙ h)),
+  λ h. form-refused (length row) s e p .0 (of-side e p Left (acceptForm (length row) s) (λ f. gives tt) (acceptForm (length row) s)
+      (λ f. not-given e p tt Left) (sym opens ∙ h)),
   λ h. opens ∙ at-side e p Left (acceptForm (length row) s) (λ f. gives tt) (form-refused (length row) s e p .1 h),
 )
   where

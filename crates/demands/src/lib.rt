@@ -1,17 +1,16 @@
-// The three demands are theorems about replies (specs/). Here each public function is called once more under the contract that these theorems speak of: so the gate
-// breaks where a part of its own `ensures` is missing.
+// The three demands are theorems about replies (specs/). Here each public function is called once more under the contract that these
+// theorems speak of: so the gate breaks where a part of its own `ensures` is missing.
 use panel::PanelAnswer;
 use reply::Compared;
 use reply::Counted;
 use reply::Judged;
 use reply::Remaindered;
 use reply::Written;
-ghost use Rattle.book.specs.definitions.Answer.{PrintCall};
+ghost use Rattle.book.specs.definitions.Book.{PrintCall};
 ghost use Rattle.panel.specs.Panel.{PanelCompareCall, PanelFormCall, PanelRemainderCall};
-ghost use Rattle.reply.specs.definitions.Compare.{CompareCall, CountersCall};
-ghost use Rattle.reply.specs.definitions.Forms.{JudgeCall, NegateCall, AddCall, MultiplyCall, RaiseCall, FormRemainderCall};
+ghost use Rattle.reply.specs.definitions.Calls.{CompareCall, CountersCall, JudgeCall, NegateCall, AddCall, MultiplyCall, RaiseCall};
+ghost use Rattle.reply.specs.definitions.Calls.{FormRemainderCall, FormCall, RemainderCall};
 ghost use Rattle.reply.specs.definitions.Reply.{work};
-ghost use Rattle.reply.specs.definitions.Terms.{FormCall, RemainderCall};
 
 pub fn judge(row: &[u8], s: &[u8]) -> Judged
     ensures { λ r. ⌜ JudgeCall (now (row .entry)) (now (s .entry)) r ⌝ }

@@ -1,6 +1,8 @@
 // The desk: one request on each line of standard input, one answer line each on standard output.
+use code::TABLE;
 
-// Puts one more byte behind the fill bytes of a line, and returns how many they then are: one more than there is room for, where it is too long.
+// Puts one more byte behind the fill bytes of a line, and returns how many they then are: one more than there is room for, where it is too
+// long.
 fn keep(b: u8, fill: usize, line: &mut [u8]) -> usize {
     if fill < line.len() {
         line[fill] = b;
@@ -15,10 +17,10 @@ fn answer(fill: usize, line: &[u8], out: &mut [u8]) {
         io::write_all(1, b"? 0\n");
         return;
     }
-    let mut a = [0u32; 16384];
-    let mut b = [0u32; 16384];
-    let mut c = [0u32; 16384];
-    let mut d = [0u32; 16384];
+    let mut a = [0u32; TABLE];
+    let mut b = [0u32; TABLE];
+    let mut c = [0u32; TABLE];
+    let mut d = [0u32; TABLE];
     let n = desk_answer::answer_line(&line[..fill], out, &mut a, &mut b, &mut c, &mut d);
     if n < out.len() {
         let e = n + 1;
@@ -47,7 +49,8 @@ fn take_piece(piece: &[u8], kept: usize, line: &mut [u8], out: &mut [u8]) -> usi
     fill
 }
 
-// Reads to the end of the input. A proved loop has to end, and nothing says that an input does, so the loop counts its turns down from a number that no run uses up.
+// Reads to the end of the input. A proved loop has to end, and nothing says that an input does, so the loop counts its turns down from a
+// number that no run uses up.
 fn serve(piece: &mut [u8], line: &mut [u8], out: &mut [u8]) {
     let mut turns = u64::MAX;
     let mut fill = 0;

@@ -2,7 +2,6 @@
 use mathlib.Core.Bool.{cond}
 use mathlib.Core.List.{List, []}
 use Prim.Native.Nat.{ℕ}
-use Prim.Native.String.{String}
 use lib.Dec.{leb}
 use Rattle.text.specs.definitions.Bytes.{bytes, same}
 use Rattle.desk_field.specs.Fields.{fieldOf}
@@ -12,7 +11,8 @@ use Rattle.desk_compare.specs.Compare.{compareLine, countersLine}
 use Rattle.desk_form.specs.Form.{judgeLine, negateLine, raiseLine, formRemainderLine}
 use Rattle.desk_operation.specs.Operation.{addLine, multiplyLine}
 use Rattle.desk_answer.specs.declared.Word.{Word}
-use Rattle.desk_answer.specs.declared.Word.the-variants.{Form, Remainder, Judge, Negate, Add, Multiply, Raise, FormRemainder, Compare, Counters, Unknown}
+use Rattle.desk_answer.specs.declared.Word.the-variants.{Form, Remainder, Judge, Negate, Add, Multiply, Raise, FormRemainder}
+use Rattle.desk_answer.specs.declared.Word.the-variants.{Compare, Counters, Unknown}
 
 -- the word w, where v is spelt as it; else what comes after
 abbrev spelt : List ℕ → List ℕ → Word → Word → Word

@@ -28,7 +28,9 @@ not-word v w t e = go (same v w) refl
     go true q = sym (t .1 (same-eq v w q)) ∙ e
 
 -- ---- the line of the word that was found
-pub by-word : (tables line : List ℕ) {v : List ℕ} {k : Word} {r : ℕ} {old new : List ℕ} (word : Word) → v ≡ fieldOf line 0 → word ≡ wordOf v → word ≡ k
+pub by-word :
+    (tables line : List ℕ) {v : List ℕ} {k : Word} {r : ℕ} {old new : List ℕ} (word : Word) → v ≡ fieldOf line 0 → word ≡ wordOf v →
+    word ≡ k
     → Wrote r (answerBy k tables line) old new → Wrote r (lineAnswer tables line) old new
 unfolding lineAnswer
 by-word tables line {v} word f w k h = wrote-as h (ap (λ x. answerBy x tables line) (sym k ∙ w ∙ ap wordOf f))
@@ -38,5 +40,7 @@ module _ (tables line : List ℕ) where
   pub answer-none : (old : List ℕ) → length old < 65540 → Wrote 0 (answerIn (length old) tables line) old old
   answer-none old h = wrote-as (wrote-none old) (sym (ap (λ b. cond b (lineAnswer tables line) []) (lt-leb 65540 (length old) h)))
 
-  pub answer-some : {r : ℕ} {old new : List ℕ} → 65540 ≤ length old → Wrote r (lineAnswer tables line) old new → Wrote r (answerIn (length old) tables line) old new
+  pub answer-some :
+      {r : ℕ} {old new : List ℕ} → 65540 ≤ length old → Wrote r (lineAnswer tables line) old new →
+      Wrote r (answerIn (length old) tables line) old new
   answer-some {r} {old} h w = wrote-as w (sym (ap (λ b. cond b (lineAnswer tables line) []) (le-leb 65540 (length old) h)))

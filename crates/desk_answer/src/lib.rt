@@ -6,9 +6,6 @@ ghost use lib.ListN.{length};
 ghost use Rattle.form_write.specs.Write.{Wrote};
 ghost use Rattle.desk_answer.specs.Answer.{wordOf, lineAnswer, answerIn};
 
-// The bytes that an answer may take: `FORM `, and a result of at most 65,535 bytes.
-const ROOM: usize = 65540;
-
 // The words, and what is none.
 enum Word {
     Form,
@@ -72,7 +69,8 @@ fn word_line(
 ) -> usize
     requires { ⌜ 65540 ≤ length (now out) ⌝ }
     ensures { λ r. ⌜ Wrote r
-        (lineAnswer (length (now (a .entry)) ∷ length (now (b .entry)) ∷ length (now (c .entry)) ∷ length (now (d .entry)) ∷ []) (now (line .entry)))
+        (lineAnswer (length (now (a .entry)) ∷ length (now (b .entry)) ∷ length (now (c .entry)) ∷ length (now (d .entry)) ∷ [])
+        (now (line .entry)))
         (now (out .entry)) (now (out .exit)) ⌝ }
 {
     let word = word_of(desk_field::field(line, 0));
@@ -105,7 +103,7 @@ pub fn answer_line(
         (length (now (a .entry)) ∷ length (now (b .entry)) ∷ length (now (c .entry)) ∷ length (now (d .entry)) ∷ []) (now (line .entry)))
         (now (out .entry)) (now (out .exit)) ⌝ }
 {
-    if out.len() < ROOM {
+    if out.len() < desk_reply::ROOM {
         return 0;
     }
     word_line(line, out, a, b, c, d)

@@ -1,12 +1,13 @@
 -- What `compare` and `counters` are answered with, by the fields of their lines; tables lists the lengths of the work tables.
-use mathlib.Core.Bool.{Bool, true, false, cond}
+use mathlib.Core.Bool.{Bool, cond}
 use mathlib.Core.List.{List}
 use Prim.Native.Nat.{ℕ}
 use Rattle.text.specs.definitions.Bytes.{bytes}
-use Rattle.reply.specs.definitions.Compare.{Verdict, equal, different, compareReply, countersReply}
+use Rattle.reply.specs.definitions.Calls.{Verdict, equal, different, compareReply, countersReply}
 use Rattle.reply.specs.definitions.Reply.{Reply, gives, refuses}
 use Rattle.desk_field.specs.Fields.{fieldOf}
-use Rattle.desk_reply.specs.Reply.{refusedText, differentText}
+use Rattle.text_line.specs.Line.{differentText}
+use Rattle.desk_reply.specs.Reply.{refusedText}
 use Rattle.desk_serve.specs.Serve.{counted, numbered}
 use Rattle.reply.specs.declared.Compared.{Compared}
 use Rattle.reply.specs.declared.Compared.the-variants as C

@@ -9,12 +9,13 @@ use lib.ListN.{length, take, drop}
 use lib.Seq.{take-at}
 use borrow.Author.Tests.{leb-true}
 use Rattle.text.specs.definitions.Bytes.{isRow}
-use Rattle.reply.specs.definitions.Compare.{Verdict, compareOf, compareReply, pointAfter, countersReply}
+use Rattle.reply.specs.definitions.Calls.{Verdict, compareOf, compareReply, pointAfter, countersReply}
 use Rattle.reply.specs.definitions.Reply.{Reply, gives, refuses, enough, asked}
 use Rattle.desk_field.specs.Fields.{fieldOf, countOf, naturalOf}
 use Rattle.desk_field.specs.declared.Number.{Number}
 use Rattle.desk_field.specs.declared.Number.the-variants.{Is}
-use Rattle.desk_reply.specs.Reply.{wrongText, differentText}
+use Rattle.text_line.specs.Line.{differentText}
+use Rattle.desk_reply.specs.Reply.{wrongText}
 use Rattle.desk_serve.specs.Laws.{counted-is, counted-not, three-fields, numbered-is}
 use Rattle.call_compare.specs.Compare.{comparedOf}
 use Rattle.reply.specs.declared.Compared.{Compared}
@@ -25,7 +26,9 @@ use Rattle.desk_compare.specs.Compare.{comparedText, comparedLine, compa
 
 -- ---- compare
 -- the first n numbers of the point buffer are the point
-sized-line : {n : ℕ} {x : Reply Verdict} (p : List ℕ) → Sized n x → n ≤ 4 → comparedLine (comparedOf x) (take (min n 4) (pointAfter x p)) ≡ comparedText x
+sized-line :
+    {n : ℕ} {x : Reply Verdict} (p : List ℕ) → Sized n x → n ≤ 4 →
+    comparedLine (comparedOf x) (take (min n 4) (pointAfter x p)) ≡ comparedText x
 sized-line p alike h = refl
 sized-line {n} p (apart {N} {l} {r} e) h =
     let k : min n 4 ≡ n = omega arith in
@@ -36,7 +39,9 @@ module _ (row tables s t p : List ℕ) where
   abbrev replied : Bool → Bool → Bool → Reply Verdict
   replied a b c = asked a 1 (λ u. asked b 2 (λ v. asked c 2 (λ w. compareOf row s t)))
 
-  by-tests : (a b c : Bool) → leb (length row) 4 ≡ c → comparedLine (comparedOf (replied a b c)) (take (min (length row) 4) (pointAfter (replied a b c) p)) ≡ comparedText (replied a b c)
+  by-tests :
+      (a b c : Bool) → leb (length row) 4 ≡ c →
+      comparedLine (comparedOf (replied a b c)) (take (min (length row) 4) (pointAfter (replied a b c) p)) ≡ comparedText (replied a b c)
   by-tests false b c e = refl
   by-tests true false c e = refl
   by-tests true true false e = refl
@@ -67,12 +72,14 @@ counted-line (gives true) = refl
 counted-line (gives false) = refl
 counted-line (refuses bad) = refl
 
-module _ (tables line : List ℕ) {n w : ℕ} {field : List ℕ} {x : Number} (is : n ≡ countOf line) (there : 3 ≤ n) (read : x ≡ naturalOf field) (at : field ≡ fieldOf line 2) (known : x ≡ Is w) where
+module _ (tables line : List ℕ) {n w : ℕ} {field : List ℕ} {x : Number} (is : n ≡ countOf line) (there : 3 ≤ n)
+    (read : x ≡ naturalOf field) (at : field ≡ fieldOf line 2) (known : x ≡ Is w) where
   counters-is : countersBy tables line w ≡ countersLine tables line
   counters-is = numbered-is 2 line (countersBy tables line) is there read at known
 
   pub counters-miscounted : (n ≡ 5 → ⊥) → wrongText (min n 5) ≡ countersLine tables line
-  counters-miscounted h = counted-not 5 line (countedText (countersReply (fieldOf line 1) tables w (fieldOf line 3) (fieldOf line 4))) is h ∙ counters-is
+  counters-miscounted h =
+      counted-not 5 line (countedText (countersReply (fieldOf line 1) tables w (fieldOf line 3) (fieldOf line 4))) is h ∙ counters-is
 
   pub counters-fields :
       {row s t : List ℕ} {y : Counted} → n ≡ 5 → row ≡ fieldOf line 1 → s ≡ fieldOf line 3 → t ≡ fieldOf line 4 →

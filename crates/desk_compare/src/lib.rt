@@ -17,7 +17,7 @@ fn compared(answer: Compared, point: &[u32], out: &mut [u8]) -> usize
 {
     match answer {
         Compared::Same => form_write::put(b"SAME", out),
-        Compared::Different(l, r) => desk_reply::different(point, l, r, out),
+        Compared::Different(l, r) => text_line::different(point, l, r, out),
         Compared::Refused(bad) => desk_reply::refused(bad, out),
     }
 }
@@ -42,7 +42,8 @@ pub fn compare_line(
     d: &mut [u32],
 ) -> usize
     requires { ⌜ 65540 ≤ length (now out) ⌝ }
-    ensures { λ r. ⌜ Wrote r (compareLine (length (now (a .entry)) ∷ length (now (b .entry)) ∷ length (now (c .entry)) ∷ length (now (d .entry)) ∷ []) (now (line .entry))) (now (out .entry)) (now (out .exit)) ⌝ }
+    ensures { λ r. ⌜ Wrote r (compareLine (length (now (a .entry)) ∷ length (now (b .entry)) ∷ length (now (c .entry)) ∷
+        length (now (d .entry)) ∷ []) (now (line .entry))) (now (out .entry)) (now (out .exit)) ⌝ }
 {
     let n = desk_field::count(line);
     if n != 4 {
@@ -79,7 +80,8 @@ pub fn counters_line(
     d: &mut [u32],
 ) -> usize
     requires { ⌜ 65540 ≤ length (now out) ⌝ }
-    ensures { λ r. ⌜ Wrote r (countersLine (length (now (a .entry)) ∷ length (now (b .entry)) ∷ length (now (c .entry)) ∷ length (now (d .entry)) ∷ []) (now (line .entry))) (now (out .entry)) (now (out .exit)) ⌝ }
+    ensures { λ r. ⌜ Wrote r (countersLine (length (now (a .entry)) ∷ length (now (b .entry)) ∷ length (now (c .entry)) ∷
+        length (now (d .entry)) ∷ []) (now (line .entry))) (now (out .entry)) (now (out .exit)) ⌝ }
 {
     let n = desk_field::count(line);
     if n < 3 {

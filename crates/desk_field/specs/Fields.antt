@@ -7,7 +7,7 @@ use Prim.Native.Nat.{ℕ, zero, suc, _+_, _≤_}
 use lib.Dec.{eqb, ltb}
 use lib.IntN.{ℤ, pos, negsuc}
 use lib.ListN.{length, take, drop}
-use Rattle.text.specs.definitions.Numerals.{readNat, readInt}
+use Rattle.text.specs.definitions.Bytes.{readNat, readInt}
 use Rattle.desk_field.specs.declared.Number.{Number}
 use Rattle.desk_field.specs.declared.Number.the-variants as N
 use Rattle.desk_field.specs.declared.Coordinate.{Coordinate}

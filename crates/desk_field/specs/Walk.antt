@@ -1,11 +1,10 @@
 -- Laws for loops that walk over a line: what is left from i on, and from i + 1 on.
 use mathlib.Core.Bool.{true, false}
 use mathlib.Core.List.{List, [], _∷_, _++_, append-assoc, append-nil}
-use mathlib.Core.Path.{_≡_, refl, sym, ap, _∙_}
+use mathlib.Core.Path.{_≡_, sym, ap, _∙_}
 use Prim.Native.Nat.{ℕ, suc, _+_, _-_, _<_, _≤_}
 use native.Mathlib.Numerals.{add-one}
 use native.Mathlib.Omega.{arith}
-use lib.Dec.{eqb}
 use native.Mathlib.Nat.{add-assoc}
 use lib.ListN.{length, getD, take, drop, drop-of-length-le, length-drop}
 use lib.Seq.{drop-cons, drop-drop, take-suc, take-all}
@@ -25,20 +24,27 @@ module _ (s : List ℕ) (i : ℕ) where
       ∙ ap (λ l. l ++ firstOf (drop (i + 1) s)) (sym (take-suc s i 0 h) ∙ ap (λ k. take k s) (sym (add-one i)))
 
   pub rest-on : i < length s → (getD s i 0 ≡ 9 → ⊥) → restOf (drop i s) ≡ restOf (drop (i + 1) s)
-  rest-on h n = ap restOf (one-on h) ∙ ap (λ b. elim b [ true ↦ drop (i + 1) s | false ↦ restOf (drop (i + 1) s) ]) (ne-eqb (getD s i 0) 9 n)
+  rest-on h n =
+      ap restOf (one-on h) ∙ ap (λ b. elim b [ true ↦ drop (i + 1) s | false ↦ restOf (drop (i + 1) s) ]) (ne-eqb (getD s i 0) 9 n)
 
   pub tabs-on : i < length s → (getD s i 0 ≡ 9 → ⊥) → tabs (drop i s) ≡ tabs (drop (i + 1) s)
-  tabs-on h n = ap tabs (one-on h) ∙ ap (λ b. elim b [ true ↦ suc (tabs (drop (i + 1) s)) | false ↦ tabs (drop (i + 1) s) ]) (ne-eqb (getD s i 0) 9 n)
+  tabs-on h n =
+      ap tabs (one-on h)
+      ∙ ap (λ b. elim b [ true ↦ suc (tabs (drop (i + 1) s)) | false ↦ tabs (drop (i + 1) s) ]) (ne-eqb (getD s i 0) 9 n)
 
   -- ---- at a tab
   pub first-tab : i < length s → getD s i 0 ≡ 9 → firstOf (drop i s) ≡ []
-  first-tab h e = ap firstOf (one-on h) ∙ ap (λ b. elim b [ true ↦ [] | false ↦ getD s i 0 ∷ firstOf (drop (i + 1) s) ]) (eq-eqb (getD s i 0) 9 e)
+  first-tab h e =
+      ap firstOf (one-on h) ∙ ap (λ b. elim b [ true ↦ [] | false ↦ getD s i 0 ∷ firstOf (drop (i + 1) s) ]) (eq-eqb (getD s i 0) 9 e)
 
   pub rest-tab : i < length s → getD s i 0 ≡ 9 → restOf (drop i s) ≡ drop (i + 1) s
-  rest-tab h e = ap restOf (one-on h) ∙ ap (λ b. elim b [ true ↦ drop (i + 1) s | false ↦ restOf (drop (i + 1) s) ]) (eq-eqb (getD s i 0) 9 e)
+  rest-tab h e =
+      ap restOf (one-on h) ∙ ap (λ b. elim b [ true ↦ drop (i + 1) s | false ↦ restOf (drop (i + 1) s) ]) (eq-eqb (getD s i 0) 9 e)
 
   pub tabs-tab : i < length s → getD s i 0 ≡ 9 → tabs (drop i s) ≡ suc (tabs (drop (i + 1) s))
-  tabs-tab h e = ap tabs (one-on h) ∙ ap (λ b. elim b [ true ↦ suc (tabs (drop (i + 1) s)) | false ↦ tabs (drop (i + 1) s) ]) (eq-eqb (getD s i 0) 9 e)
+  tabs-tab h e =
+      ap tabs (one-on h)
+      ∙ ap (λ b. elim b [ true ↦ suc (tabs (drop (i + 1) s)) | false ↦ tabs (drop (i + 1) s) ]) (eq-eqb (getD s i 0) 9 e)
 
   -- ---- at the end
   pub first-end : length s ≤ i → firstOf (drop i s) ≡ []
@@ -80,7 +86,8 @@ one-more : (n k : ℕ) → k < n → n - k ≡ suc (n - (k + 1))
 one-more n k h = omega arith
 
 module _ (n k : ℕ) (s : List ℕ) (h : k < n) where
-  pub coordinates-on : isCoordinate (signedOf (firstOf s)) ≡ true → k + coordinatesOf (n - k) s ≡ (k + 1) + coordinatesOf (n - (k + 1)) (restOf s)
+  pub coordinates-on :
+      isCoordinate (signedOf (firstOf s)) ≡ true → k + coordinatesOf (n - k) s ≡ (k + 1) + coordinatesOf (n - (k + 1)) (restOf s)
   coordinates-on e =
       ap (λ m. k + coordinatesOf m s) (one-more n k h)
       ∙ ap (λ b. k + elim b [ true ↦ suc (coordinatesOf (n - (k + 1)) (restOf s)) | false ↦ 0 ]) e
@@ -115,4 +122,8 @@ module _ (s : List ℕ) (at r : ℕ) (in-s : at ≤ length s) (e : EndsAt r (tak
   place-next h = (omega arith, ap (λ k. drop k s) (add-assoc at r 1) ∙ rest-at)
 
   pub place-end : length s ≤ at + r → (length s ≤ length s) × (drop (length s) s ≡ restOf (drop at s))
-  place-end h = (omega arith, drop-of-length-le s {i = length s} (omega arith) ∙ sym (drop-of-length-le s {i = at + (r + 1)} (omega arith)) ∙ rest-at)
+  place-end h = (
+    omega arith,
+    drop-of-length-le s {i = length s} (omega arith) ∙ sym (drop-of-length-le s {i = at + (r + 1)} (omega arith))
+        ∙ rest-at,
+  )

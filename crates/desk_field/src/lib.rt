@@ -3,9 +3,9 @@ ghost use mathlib.Core.Bool.{true};
 ghost use mathlib.Core.Path.{_≡_};
 ghost use Prim.Native.Nat.{_≤_, min};
 ghost use lib.ListN.{length, drop};
-ghost use Rattle.text.specs.definitions.Bytes.{all, digit};
-ghost use Rattle.text.specs.definitions.Numerals.{valueFrom, readNat, below0, from0};
-ghost use Rattle.desk_field.specs.Fields.{EndsAt, firstOf, restOf, fieldOf, countOf, naturalOf, signed32, signedOf, isCoordinate, coordinateOf, coordinatesOf};
+ghost use Rattle.text.specs.definitions.Bytes.{all, digit, valueFrom, readNat, below0, from0};
+ghost use Rattle.desk_field.specs.Fields.{EndsAt, firstOf, restOf, fieldOf, countOf, naturalOf, signed32, signedOf, isCoordinate};
+ghost use Rattle.desk_field.specs.Fields.{coordinateOf, coordinatesOf};
 
 const TAB: u8 = 9;
 
@@ -143,7 +143,7 @@ fn from_zero(w: &[u8]) -> Coordinate
 }
 
 // The signed number of 32 bits that the field w is.
-pub fn signed(w: &[u8]) -> Coordinate
+fn signed(w: &[u8]) -> Coordinate
     ensures { λ r. ⌜ r ≡ signedOf (now (w .entry)) ⌝ }
 {
     if w.len() == 0 {

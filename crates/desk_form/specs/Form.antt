@@ -1,8 +1,9 @@
--- What `judge`, `negate`, `raise` and `formremainder` are answered with, by the fields of their lines; tables lists the lengths of the work tables.
+-- What `judge`, `negate`, `raise` and `formremainder` are answered with, by the fields of their lines; tables lists the lengths of the
+-- work tables.
 use mathlib.Core.List.{List}
 use Prim.Native.Nat.{ℕ}
 use Rattle.text.specs.definitions.Bytes.{bytes}
-use Rattle.reply.specs.definitions.Forms.{judgeReply, negateReply, raiseReply, formRemainderReply}
+use Rattle.reply.specs.definitions.Calls.{judgeReply, negateReply, raiseReply, formRemainderReply}
 use Rattle.reply.specs.definitions.Reply.{Reply, gives, refuses}
 use Rattle.desk_field.specs.Fields.{fieldOf}
 use Rattle.desk_reply.specs.Reply.{refusedText, resultText}

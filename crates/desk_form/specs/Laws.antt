@@ -6,10 +6,9 @@ use lib.Dec.{leb}
 use lib.ListN.{length}
 use Rattle.refusal.specs.declared.Side.the-variants.{Left}
 use Rattle.horner.specs.definitions.Form.{negate, raise}
-use Rattle.horner.specs.definitions.Integers.{ℤ-ring}
-use Rattle.text.specs.definitions.FormJudging.{acceptForm}
-use Rattle.text.specs.definitions.FormText.{text}
-use Rattle.reply.specs.definitions.Forms.{ofPower, judgeReply, negateReply, raiseReply}
+use Rattle.horner.specs.definitions.Rings.{ℤ-ring}
+use Rattle.text.specs.definitions.FormReading.{acceptForm, text}
+use Rattle.reply.specs.definitions.Calls.{ofPower, judgeReply, negateReply, raiseReply}
 use Rattle.reply.specs.definitions.Reply.{Reply, gives, refuses}
 use Rattle.desk_field.specs.Fields.{fieldOf, countOf, naturalOf}
 use Rattle.desk_field.specs.declared.Number.{Number}
@@ -26,14 +25,16 @@ use Rattle.desk_form.specs.Form.{judgedText, judgedLine, judgeLine, rais
 module _ (tables row s : List ℕ) where
   pub within-negate : (n : ℕ) → Within n (negateReply row tables s n)
   unfolding negateReply
-  within-negate n = within-opened row tables n _ (λ u. within-read n Left (acceptForm (length row) s) _ (λ x. within-fitted n (text (negate ℤ-ring x))))
+  within-negate n =
+      within-opened row tables n _ (λ u. within-read n Left (acceptForm (length row) s) _ (λ x. within-fitted n (text (negate ℤ-ring x))))
 
   pub within-raise : (k n : ℕ) → Within n (raiseReply row tables s k n)
   unfolding raiseReply
   within-raise k n =
       within-opened row tables n _
       (λ u. within-read n Left (acceptForm (length row) s) _
-      (λ x. within-asked n (leb k 63) 8 _ (λ v. within-limited n (ofPower (length row) x k) _ (λ w. within-fitted n (text (raise ℤ-ring x k))))))
+      (λ x. within-asked n (leb k 63) 8 _
+      (λ v. within-limited n (ofPower (length row) x k) _ (λ w. within-fitted n (text (raise ℤ-ring x k))))))
 
 -- ---- a judgement
 judged-is : (x : Reply (Unit {0})) → judgedLine (judgedOf x) ≡ judgedText x
@@ -47,12 +48,15 @@ judge-fields line {n} {row} {s} e h r t a =
     ap judgedLine a ∙ judged-is (judgeReply row s) ∙ two-fields 3 line e h r t (λ u v. judgedText (judgeReply u v))
 
 -- ---- raising, where field 3 is the number k
-module _ (tables line : List ℕ) {n k : ℕ} {field : List ℕ} {x : Number} (is : n ≡ countOf line) (there : 4 ≤ n) (read : x ≡ naturalOf field) (at : field ≡ fieldOf line 3) (known : x ≡ Is k) where
+module _ (tables line : List ℕ) {n k : ℕ} {field : List ℕ} {x : Number} (is : n ≡ countOf line) (there : 4 ≤ n)
+    (read : x ≡ naturalOf field) (at : field ≡ fieldOf line 3) (known : x ≡ Is k) where
   raise-is : raiseBy tables line k ≡ raiseLine tables line
   raise-is = numbered-is 3 line (raiseBy tables line) is there read at known
 
   pub raise-miscounted : (n ≡ 4 → ⊥) → wrongText (min n 4) ≡ raiseLine tables line
   raise-miscounted h = counted-not 4 line (resultText (raiseReply (fieldOf line 1) tables (fieldOf line 2) k 65535)) is h ∙ raise-is
 
-  pub raise-fields : {row s : List ℕ} → n ≡ 4 → row ≡ fieldOf line 1 → s ≡ fieldOf line 2 → resultText (raiseReply row tables s k 65535) ≡ raiseLine tables line
+  pub raise-fields :
+      {row s : List ℕ} → n ≡ 4 → row ≡ fieldOf line 1 → s ≡ fieldOf line 2 →
+      resultText (raiseReply row tables s k 65535) ≡ raiseLine tables line
   raise-fields h r t = two-fields 4 line is h r t (λ u v. resultText (raiseReply u tables v k 65535)) ∙ raise-is

@@ -1,4 +1,5 @@
-// The lines of `judge`, `negate`, `raise` and `formremainder`, the words on one form: each reads the fields of its request, makes its call and writes the answer's line.
+// The lines of `judge`, `negate`, `raise` and `formremainder`, the words on one form: each reads the fields of its request, makes its call
+// and writes the answer's line.
 use desk_field::Number;
 use reply::Judged;
 ghost use mathlib.Core.List.{[], _∷_};
@@ -6,9 +7,6 @@ ghost use Prim.Native.Nat.{_≤_};
 ghost use lib.ListN.{length};
 ghost use Rattle.form_write.specs.Write.{Wrote};
 ghost use Rattle.desk_form.specs.Form.{judgedLine, judgeLine, negateLine, raiseLine, formRemainderLine};
-
-// The bytes that an answer may take: `FORM `, and a result of at most 65,535 bytes.
-const ROOM: usize = 65540;
 
 // The line of a judgement.
 fn judged(answer: Judged, out: &mut [u8]) -> usize
@@ -46,7 +44,8 @@ pub fn negate_line(
     d: &mut [u32],
 ) -> usize
     requires { ⌜ 65540 ≤ length (now out) ⌝ }
-    ensures { λ r. ⌜ Wrote r (negateLine (length (now (a .entry)) ∷ length (now (b .entry)) ∷ length (now (c .entry)) ∷ length (now (d .entry)) ∷ []) (now (line .entry))) (now (out .entry)) (now (out .exit)) ⌝ }
+    ensures { λ r. ⌜ Wrote r (negateLine (length (now (a .entry)) ∷ length (now (b .entry)) ∷ length (now (c .entry)) ∷
+        length (now (d .entry)) ∷ []) (now (line .entry))) (now (out .entry)) (now (out .exit)) ⌝ }
 {
     let n = desk_field::count(line);
     if n != 3 {
@@ -54,7 +53,7 @@ pub fn negate_line(
     }
     let row = desk_field::field(line, 1);
     let x = desk_field::field(line, 2);
-    let answer = call_negate::negate(row, x, &mut out[5..ROOM], a, b, c, d);
+    let answer = call_negate::negate(row, x, &mut out[5..desk_reply::ROOM], a, b, c, d);
     desk_reply::written(answer, out)
 }
 
@@ -68,7 +67,8 @@ pub fn raise_line(
     d: &mut [u32],
 ) -> usize
     requires { ⌜ 65540 ≤ length (now out) ⌝ }
-    ensures { λ r. ⌜ Wrote r (raiseLine (length (now (a .entry)) ∷ length (now (b .entry)) ∷ length (now (c .entry)) ∷ length (now (d .entry)) ∷ []) (now (line .entry))) (now (out .entry)) (now (out .exit)) ⌝ }
+    ensures { λ r. ⌜ Wrote r (raiseLine (length (now (a .entry)) ∷ length (now (b .entry)) ∷ length (now (c .entry)) ∷
+        length (now (d .entry)) ∷ []) (now (line .entry))) (now (out .entry)) (now (out .exit)) ⌝ }
 {
     let n = desk_field::count(line);
     if n < 4 {
@@ -83,7 +83,7 @@ pub fn raise_line(
     }
     let row = desk_field::field(line, 1);
     let x = desk_field::field(line, 2);
-    let answer = call_raise::raise(row, x, k, &mut out[5..ROOM], a, b, c, d);
+    let answer = call_raise::raise(row, x, k, &mut out[5..desk_reply::ROOM], a, b, c, d);
     desk_reply::written(answer, out)
 }
 
@@ -97,7 +97,8 @@ pub fn form_remainder_line(
     d: &mut [u32],
 ) -> usize
     requires { ⌜ 65540 ≤ length (now out) ⌝ }
-    ensures { λ r. ⌜ Wrote r (formRemainderLine (length (now (a .entry)) ∷ length (now (b .entry)) ∷ length (now (c .entry)) ∷ length (now (d .entry)) ∷ []) (now (line .entry))) (now (out .entry)) (now (out .exit)) ⌝ }
+    ensures { λ r. ⌜ Wrote r (formRemainderLine (length (now (a .entry)) ∷ length (now (b .entry)) ∷ length (now (c .entry)) ∷
+        length (now (d .entry)) ∷ []) (now (line .entry))) (now (out .entry)) (now (out .exit)) ⌝ }
 {
     let f = desk_serve::point_fault(line);
     if f != 0 {

@@ -1,12 +1,10 @@
-// The lines of `add` and `multiply`, the words on two forms: each reads the fields of its request, makes its call and writes the answer's line.
+// The lines of `add` and `multiply`, the words on two forms: each reads the fields of its request, makes its call and writes the answer's
+// line.
 ghost use mathlib.Core.List.{[], _∷_};
 ghost use Prim.Native.Nat.{_≤_};
 ghost use lib.ListN.{length};
 ghost use Rattle.form_write.specs.Write.{Wrote};
 ghost use Rattle.desk_operation.specs.Operation.{addLine, multiplyLine};
-
-// The bytes that an answer may take: `FORM `, and a result of at most 65,535 bytes.
-const ROOM: usize = 65540;
 
 // `add ROW FORM FORM`
 pub fn add_line(
@@ -18,7 +16,8 @@ pub fn add_line(
     d: &mut [u32],
 ) -> usize
     requires { ⌜ 65540 ≤ length (now out) ⌝ }
-    ensures { λ r. ⌜ Wrote r (addLine (length (now (a .entry)) ∷ length (now (b .entry)) ∷ length (now (c .entry)) ∷ length (now (d .entry)) ∷ []) (now (line .entry))) (now (out .entry)) (now (out .exit)) ⌝ }
+    ensures { λ r. ⌜ Wrote r (addLine (length (now (a .entry)) ∷ length (now (b .entry)) ∷ length (now (c .entry)) ∷
+        length (now (d .entry)) ∷ []) (now (line .entry))) (now (out .entry)) (now (out .exit)) ⌝ }
 {
     let n = desk_field::count(line);
     if n != 4 {
@@ -27,7 +26,7 @@ pub fn add_line(
     let row = desk_field::field(line, 1);
     let x = desk_field::field(line, 2);
     let y = desk_field::field(line, 3);
-    let answer = call_add::add(row, x, y, &mut out[5..ROOM], a, b, c, d);
+    let answer = call_add::add(row, x, y, &mut out[5..desk_reply::ROOM], a, b, c, d);
     desk_reply::written(answer, out)
 }
 
@@ -41,7 +40,8 @@ pub fn multiply_line(
     d: &mut [u32],
 ) -> usize
     requires { ⌜ 65540 ≤ length (now out) ⌝ }
-    ensures { λ r. ⌜ Wrote r (multiplyLine (length (now (a .entry)) ∷ length (now (b .entry)) ∷ length (now (c .entry)) ∷ length (now (d .entry)) ∷ []) (now (line .entry))) (now (out .entry)) (now (out .exit)) ⌝ }
+    ensures { λ r. ⌜ Wrote r (multiplyLine (length (now (a .entry)) ∷ length (now (b .entry)) ∷ length (now (c .entry)) ∷
+        length (now (d .entry)) ∷ []) (now (line .entry))) (now (out .entry)) (now (out .exit)) ⌝ }
 {
     let n = desk_field::count(line);
     if n != 4 {
@@ -50,6 +50,6 @@ pub fn multiply_line(
     let row = desk_field::field(line, 1);
     let x = desk_field::field(line, 2);
     let y = desk_field::field(line, 3);
-    let answer = call_multiply::multiply(row, x, y, &mut out[5..ROOM], a, b, c, d);
+    let answer = call_multiply::multiply(row, x, y, &mut out[5..desk_reply::ROOM], a, b, c, d);
     desk_reply::written(answer, out)
 }

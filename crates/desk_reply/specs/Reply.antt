@@ -1,9 +1,8 @@
 -- The lines that answer requests, as texts, and what it is to have written one.
-use mathlib.Core.List.{List, [], _∷_, _++_}
+use mathlib.Core.List.{List, _++_}
 use mathlib.Core.Path.{_≡_}
 use Prim.Native.Nat.{ℕ, _+_, _≤_}
-use Rattle.text.specs.definitions.Bytes.{bytes}
-use Rattle.text.specs.definitions.Numerals.{dec}
+use Rattle.text.specs.definitions.Bytes.{bytes, decimal}
 use Rattle.form_write.specs.Write.{Wrote}
 use Rattle.reply.specs.definitions.Reply.{Reply, gives, refuses}
 use Rattle.refusal.specs.declared.Refusal.{Refusal}
@@ -14,7 +13,7 @@ use Rattle.reply.specs.declared.Written.the-variants.{Text, Refused}
 
 -- `? n`
 abbrev pub wrongText : ℕ → List ℕ
-wrongText n = bytes "? " ++ dec n
+wrongText n = bytes "? " ++ decimal n
 
 abbrev pub sideText : Side → List ℕ
 sideText Left = bytes " left "
@@ -23,7 +22,7 @@ sideText Neither = bytes " neither "
 
 -- `REFUSED number side place`
 abbrev pub refusedText : Refusal → List ℕ
-refusedText bad = ((bytes "REFUSED " ++ dec (bad .number)) ++ sideText (bad .side)) ++ dec (bad .place)
+refusedText bad = ((bytes "REFUSED " ++ decimal (bad .number)) ++ sideText (bad .side)) ++ decimal (bad .place)
 
 -- the line of a call with a result text: `FORM text`, or its refusal
 abbrev pub resultText : Reply (List ℕ) → List ℕ
@@ -32,21 +31,12 @@ resultText (refuses bad) = refusedText bad
 
 -- `REMAINDER n`
 abbrev pub remainderText : ℕ → List ℕ
-remainderText n = bytes "REMAINDER " ++ dec n
-
--- each number behind a space
-abbrev pub spaced : List ℕ → List ℕ
-spaced [] = []
-spaced (x ∷ xs) = (32 ∷ dec x) ++ spaced xs
-
--- `DIFF x1 .. xn l r`
-abbrev pub differentText : List ℕ → ℕ → ℕ → List ℕ
-differentText N l r = ((bytes "DIFF" ++ spaced N) ++ (32 ∷ dec l)) ++ (32 ∷ dec r)
+remainderText n = bytes "REMAINDER " ++ decimal n
 
 -- a buffer of k bytes has room for the line of an answer
-abbrev pub Room : Written → ℕ → Type 0
-Room (Text n) k = (5 + n ≤ k) × (64 ≤ k)
-Room (Refused bad) k = 64 ≤ k
+abbrev pub LineFits : Written → ℕ → Type 0
+LineFits (Text n) k = (5 + n ≤ k) × (64 ≤ k)
+LineFits (Refused bad) k = 64 ≤ k
 
 -- the line of an answer: where there is a result text, `FORM ` is written in front of it
 abbrev pub Replied : Written → ℕ → List ℕ → List ℕ → Type 0

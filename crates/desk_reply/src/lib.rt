@@ -2,12 +2,13 @@
 use refusal::Refusal;
 use refusal::Side;
 use reply::Written;
-ghost use mathlib.Core.Path.{_≡_};
-ghost use mathlib.Core.List.{_∷_};
-ghost use Prim.Native.Nat.{_*_, _≤_};
+ghost use Prim.Native.Nat.{_≤_};
 ghost use lib.ListN.{length};
-ghost use Rattle.form_write.specs.Write.{numeral, Wrote};
-ghost use Rattle.desk_reply.specs.Reply.{sideText, wrongText, refusedText, remainderText, spaced, differentText, Room, Replied};
+ghost use Rattle.form_write.specs.Write.{Wrote};
+ghost use Rattle.desk_reply.specs.Reply.{sideText, wrongText, refusedText, remainderText, LineFits, Replied};
+
+// The bytes that an answer may take: `FORM `, and a result of at most 65,535 bytes.
+pub const ROOM: usize = 65540;
 
 // `? n`: field n of the request is the first wrong one.
 pub fn wrong(n: usize, out: &mut [u8]) -> usize
@@ -47,7 +48,7 @@ pub fn refused(bad: Refusal, out: &mut [u8]) -> usize
 
 // `FORM text`, where the text stands behind the first 5 bytes already; or a refusal.
 pub fn written(answer: Written, out: &mut [u8]) -> usize
-    requires { ⌜ Room answer (length (now out)) ⌝ }
+    requires { ⌜ LineFits answer (length (now out)) ⌝ }
     ensures { λ r. ⌜ Replied answer r (now (out .entry)) (now (out .exit)) ⌝ }
 {
     match answer {
@@ -67,45 +68,4 @@ pub fn remainder(n: u32, out: &mut [u8]) -> usize
     let at = form_write::put(b"REMAINDER ", out);
     let k = form_write::write_number(n as u64, &mut out[at..]);
     at + k
-}
-
-// A space and a number.
-fn put_spaced(n: u32, out: &mut [u8]) -> usize
-    requires { ⌜ 11 ≤ length (now out) ⌝ }
-    ensures { λ r. ⌜ Wrote r (32 ∷ numeral n) (now (out .entry)) (now (out .exit)) ⌝ }
-{
-    let at = form_write::put(b" ", out);
-    let k = form_write::write_number(n as u64, &mut out[at..]);
-    at + k
-}
-
-// Each number behind a space.
-fn put_numbers(numbers: &[u32], out: &mut [u8]) -> usize
-    requires { ⌜ 11 * length (now numbers) ≤ length (now out) ⌝ }
-    ensures { λ r. ⌜ Wrote r (spaced (now (numbers .entry))) (now (out .entry)) (now (out .exit)) ⌝ }
-    ensures { λ r. ⌜ r ≤ 11 * length (now (numbers .entry)) ⌝ }
-{
-    let mut at = 0;
-    let mut i = 0;
-    while i < numbers.len() {
-        let k = put_spaced(numbers[i], &mut out[at..]);
-        at += k;
-        i += 1;
-    }
-    at
-}
-
-// `DIFF x1 .. xn l r`
-pub fn different(point: &[u32], l: u32, r: u32, out: &mut [u8]) -> usize
-    requires { ⌜ length (now point) ≤ 4 ⌝ }
-    requires { ⌜ 80 ≤ length (now out) ⌝ }
-    ensures { λ n. ⌜ Wrote n (differentText (now (point .entry)) l r) (now (out .entry)) (now (out .exit)) ⌝ }
-{
-    let a = form_write::put(b"DIFF", out);
-    let k = put_numbers(point, &mut out[a..]);
-    let b = a + k;
-    let m = put_spaced(l, &mut out[b..]);
-    let c = b + m;
-    let n = put_spaced(r, &mut out[c..]);
-    c + n
 }

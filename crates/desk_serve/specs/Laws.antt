@@ -1,10 +1,10 @@
 -- The answers by the tests that the code makes.
-use mathlib.Core.Bool.{Bool, true, false, cond}
+use mathlib.Core.Bool.{cond}
 use mathlib.Core.List.{List}
 use mathlib.Core.Path.{_≡_, refl, sym, ap, _∙_}
 use Prim.Native.Nat.{ℕ, suc, _+_, _-_, _≤_, _<_, min}
 use native.Mathlib.Omega.{arith}
-use lib.Dec.{eqb, ltb}
+use lib.Dec.{ltb}
 use lib.IntN.{ℤ}
 use lib.ListN.{length, take}
 use lib.Seq.{length-take-le}
@@ -16,7 +16,8 @@ use Rattle.desk_field.specs.declared.Number.the-variants.{Is, Wrong}
 use Rattle.desk_reply.specs.Reply.{wrongText}
 use Rattle.door_point.specs.Point.{remainderedOf}
 use Rattle.reply.specs.declared.Remaindered.{Remaindered}
-use Rattle.desk_serve.specs.Serve.{counted, numberOr, numbered, pointFault, fiveOf, pointOf, pointed, remainderedText, remainderedLine}
+use Rattle.desk_serve.specs.Serve.{counted, numberOr, numbered, pointFault, fiveOf, pointOf, pointed, remainderedText}
+use Rattle.desk_serve.specs.Serve.{remainderedLine}
 
 -- ---- the number of fields
 module _ (k : ℕ) (line w : List ℕ) where
@@ -25,12 +26,15 @@ module _ (k : ℕ) (line w : List ℕ) where
 
   pub counted-not : {n : ℕ} → n ≡ countOf line → (n ≡ k → ⊥) → wrongText (min n k) ≡ counted k line w
   counted-not {n} e h =
-      ap (λ m. wrongText (min m k)) e ∙ sym (ap (λ b. cond b w (wrongText (min (countOf line) k))) (ne-eqb (countOf line) k (λ q. h (e ∙ q))))
+      ap (λ m. wrongText (min m k)) e
+      ∙ sym (ap (λ b. cond b w (wrongText (min (countOf line) k))) (ne-eqb (countOf line) k (λ q. h (e ∙ q))))
 
 -- answers made of the fields 1 and 2, and 1 to 3, where k fields are wanted
-module _ (k : ℕ) (line : List ℕ) {n : ℕ} (is : n ≡ countOf line) (right : n ≡ k) {row s : List ℕ} (row-is : row ≡ fieldOf line 1) (s-is : s ≡ fieldOf line 2) where
+module _ (k : ℕ) (line : List ℕ) {n : ℕ} (is : n ≡ countOf line) (right : n ≡ k) {row s : List ℕ} (row-is : row ≡ fieldOf line 1)
+    (s-is : s ≡ fieldOf line 2) where
   pub two-fields : (g : List ℕ → List ℕ → List ℕ) → g row s ≡ counted k line (g (fieldOf line 1) (fieldOf line 2))
-  two-fields g = ap (λ v. g v s) row-is ∙ ap (g (fieldOf line 1)) s-is ∙ counted-is k line (g (fieldOf line 1) (fieldOf line 2)) (sym is ∙ right)
+  two-fields g =
+      ap (λ v. g v s) row-is ∙ ap (g (fieldOf line 1)) s-is ∙ counted-is k line (g (fieldOf line 1) (fieldOf line 2)) (sym is ∙ right)
 
   pub three-fields :
       {t : List ℕ} → t ≡ fieldOf line 3 → (g : List ℕ → List ℕ → List ℕ → List ℕ) →
@@ -43,13 +47,16 @@ module _ (k : ℕ) (line : List ℕ) {n : ℕ} (is : n ≡ countOf line) (right 
 module _ (k : ℕ) (line : List ℕ) (w : ℕ → List ℕ) {n : ℕ} (is : n ≡ countOf line) where
   pub numbered-missing : n < suc k → wrongText n ≡ numbered k line w
   numbered-missing h =
-      ap wrongText is ∙ sym (ap (λ b. cond b (wrongText (countOf line)) (numberOr k w (naturalOf (fieldOf line k)))) (lt-ltb (countOf line) (suc k) (omega arith)))
+      ap wrongText is
+      ∙ sym (ap (λ b. cond b (wrongText (countOf line)) (numberOr k w (naturalOf (fieldOf line k))))
+      (lt-ltb (countOf line) (suc k) (omega arith)))
 
   module _ (there : suc k ≤ n) {field : List ℕ} {x : Number} (read : x ≡ naturalOf field) (at : field ≡ fieldOf line k) where
     numbered-by : numberOr k w x ≡ numbered k line w
     numbered-by =
         ap (numberOr k w) (read ∙ ap naturalOf at)
-        ∙ sym (ap (λ b. cond b (wrongText (countOf line)) (numberOr k w (naturalOf (fieldOf line k)))) (le-ltb (countOf line) (suc k) (omega arith)))
+        ∙ sym (ap (λ b. cond b (wrongText (countOf line)) (numberOr k w (naturalOf (fieldOf line k))))
+        (le-ltb (countOf line) (suc k) (omega arith)))
 
     pub numbered-wrong : x ≡ Wrong → wrongText k ≡ numbered k line w
     numbered-wrong e = sym (ap (numberOr k w) e) ∙ numbered-by
@@ -61,7 +68,11 @@ module _ (k : ℕ) (line : List ℕ) (w : ℕ → List ℕ) {n : ℕ} (is : n �
 module _ (line : List ℕ) {n : ℕ} (is : n ≡ countOf line) where
   pub fault-missing : n < 3 → n ≡ pointFault line
   unfolding pointFault
-  fault-missing h = is ∙ sym (ap (λ b. cond b (countOf line) (cond (ltb (coordinatesOf (countOf line - 3) (restOf (restOf (restOf line)))) (countOf line - 3)) (3 + coordinatesOf (countOf line - 3) (restOf (restOf (restOf line)))) 0)) (lt-ltb (countOf line) 3 (omega arith)))
+  fault-missing h =
+      is
+      ∙ sym (ap (λ b. cond b (countOf line) (cond
+      (ltb (coordinatesOf (countOf line - 3) (restOf (restOf (restOf line)))) (countOf line - 3))
+      (3 + coordinatesOf (countOf line - 3) (restOf (restOf (restOf line)))) 0)) (lt-ltb (countOf line) 3 (omega arith)))
 
   module _ {k : ℕ} (read : k ≡ coordinatesOf (n - 3) (restOf (restOf (restOf line)))) (more : 3 ≤ n) where
     as-counted : k ≡ coordinatesOf (countOf line - 3) (restOf (restOf (restOf line)))
@@ -70,7 +81,8 @@ module _ (line : List ℕ) {n : ℕ} (is : n ≡ countOf line) where
     rest-of : {x : ℕ} → cond (ltb k (countOf line - 3)) (3 + k) 0 ≡ x → pointFault line ≡ x
     unfolding pointFault
     rest-of e =
-        ap (λ b. cond b (countOf line) (cond (ltb (coordinatesOf (countOf line - 3) (restOf (restOf (restOf line)))) (countOf line - 3)) (3 + coordinatesOf (countOf line - 3) (restOf (restOf (restOf line)))) 0)) (le-ltb (countOf line) 3 (omega arith))
+        ap (λ b. cond b (countOf line) (cond (ltb (coordinatesOf (countOf line - 3) (restOf (restOf (restOf line)))) (countOf line - 3))
+        (3 + coordinatesOf (countOf line - 3) (restOf (restOf (restOf line)))) 0)) (le-ltb (countOf line) 3 (omega arith))
         ∙ ap (λ v. cond (ltb v (countOf line - 3)) (3 + v) 0) (sym as-counted)
         ∙ e
 

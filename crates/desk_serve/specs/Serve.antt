@@ -1,11 +1,10 @@
 -- What the answers to request lines share: how many fields are wanted, numbers and coordinates in fields, and the line of a remainder.
-use mathlib.Core.Bool.{Bool, true, false, cond}
+use mathlib.Core.Bool.{cond}
 use mathlib.Core.List.{List, [], _∷_}
 use Prim.Native.Nat.{ℕ, suc, _+_, _-_, min}
 use lib.Dec.{eqb, ltb}
 use lib.IntN.{ℤ}
 use lib.ListN.{take}
-use Rattle.text.specs.definitions.Bytes.{same}
 use Rattle.reply.specs.definitions.Reply.{Reply, gives, refuses}
 use Rattle.desk_field.specs.Fields.{fieldOf, restOf, countOf, naturalOf, signedOf, coordinateOf, coordinatesOf}
 use Rattle.desk_field.specs.declared.Number.{Number}

@@ -9,9 +9,8 @@ use Rattle.horner.specs.definitions.Measures.{box}
 use Rattle.text.specs.definitions.Bytes.{all, isRow}
 use Rattle.form_write.specs.Write.{Wrote}
 use Rattle.form_write.specs.laws.Wrote.{wrote-as}
-use Rattle.reply.specs.definitions.Reply.{resultAfter}
-use Rattle.reply.specs.definitions.Forms.{Measured, limited}
-use Rattle.reply.specs.definitions.Reply.{Reply, enough, opened}
+use Rattle.reply.specs.definitions.Reply.{resultAfter, Reply, enough, opened}
+use Rattle.reply.specs.definitions.Calls.{Measured, limited}
 use Rattle.desk_field.specs.Fields.{fieldOf, countOf}
 use Rattle.door_result.specs.Result.{writtenOf}
 use Rattle.reply.specs.declared.Written.{Written}
@@ -21,7 +20,8 @@ use Rattle.desk_serve.specs.Serve.{counted}
 use Rattle.desk_serve.specs.Laws.{two-fields, three-fields}
 
 -- every call looks at the row and the tables first
-pub within-opened : (row tables : List ℕ) (n : ℕ) (r : Unit {0} → Reply (List ℕ)) → ((u : Unit {0}) → Within n (r u)) → Within n (opened row tables r)
+pub within-opened :
+    (row tables : List ℕ) (n : ℕ) (r : Unit {0} → Reply (List ℕ)) → ((u : Unit {0}) → Within n (r u)) → Within n (opened row tables r)
 within-opened row tables n r h = within-asked n (isRow row) 1 _ (λ u. within-asked n (enough tables) 2 r h)
 
 -- and the operations measure their results
@@ -31,7 +31,8 @@ within-limited n m r h =
     (λ u. within-asked n (leb (m .heavy) 1073741823) 9 _ (λ v. within-asked n (leb (min (m .many) (box (m .powers))) 256) 10 r h))
 
 -- f is the call by its texts; x is what it answered with, e what it left in the part that it was lent
-module _ (line : List ℕ) {old new : List ℕ} {r : ℕ} (long : 65540 ≤ length old) {n : ℕ} (is : n ≡ countOf line) {row s : List ℕ} (row-is : row ≡ fieldOf line 1) (s-is : s ≡ fieldOf line 2) where
+module _ (line : List ℕ) {old new : List ℕ} {r : ℕ} (long : 65540 ≤ length old) {n : ℕ} (is : n ≡ countOf line) {row s : List ℕ}
+    (row-is : row ≡ fieldOf line 1) (s-is : s ≡ fieldOf line 2) where
   -- of a call on one text
   pub one-text :
       (f : List ℕ → List ℕ → ℕ → Reply (List ℕ)) → ((row s : List ℕ) (n : ℕ) → Within n (f row s n)) → n ≡ 3 → {x : Written} {e : List ℕ} →
@@ -44,9 +45,12 @@ module _ (line : List ℕ) {old new : List ℕ} {r : ℕ} (long : 65540 ≤ leng
   -- of a call on two texts
   pub two-texts :
       {t : List ℕ} → t ≡ fieldOf line 3 →
-      (f : List ℕ → List ℕ → List ℕ → ℕ → Reply (List ℕ)) → ((row s t : List ℕ) (n : ℕ) → Within n (f row s t n)) → n ≡ 4 → {x : Written} {e : List ℕ} →
+      (f : List ℕ → List ℕ → List ℕ → ℕ → Reply (List ℕ)) → ((row s t : List ℕ) (n : ℕ) → Within n (f row s t n)) → n ≡ 4 →
+      {x : Written} {e : List ℕ} →
       x ≡ writtenOf (f row s t (length (take 65535 (drop 5 old)))) →
       e ≡ resultAfter (f row s t (length (take 65535 (drop 5 old)))) (take 65535 (drop 5 old)) →
-      Replied x r (putMid 5 65535 old e) new → Wrote r (counted 4 line (resultText (f (fieldOf line 1) (fieldOf line 2) (fieldOf line 3) 65535))) old new
+      Replied x r (putMid 5 65535 old e) new → Wrote r
+      (counted 4 line (resultText (f (fieldOf line 1) (fieldOf line 2) (fieldOf line 3) 65535))) old new
   two-texts {t} t-is f within h a b p =
-      wrote-as (text-line old long (f row s t) (within row s t) a b p) (three-fields 4 line is h row-is s-is t-is (λ u v w. resultText (f u v w 65535)))
+      wrote-as (text-line old long (f row s t) (within row s t) a b p)
+      (three-fields 4 line is h row-is s-is t-is (λ u v w. resultText (f u v w 65535)))

@@ -3,10 +3,10 @@ use mathlib.Core.List.{List}
 use Prim.Native.Nat.{ℕ}
 use Rattle.refusal.specs.declared.Side.the-variants.{Left}
 use Rattle.horner.specs.definitions.Term.{normℤ}
-use Rattle.text.specs.definitions.FormText.{text}
+use Rattle.text.specs.definitions.FormReading.{text}
 use Rattle.text.specs.definitions.Limits.{acceptTerm}
 use Rattle.text.specs.definitions.Tree.{termOf}
-use Rattle.reply.specs.definitions.Terms.{formReply}
+use Rattle.reply.specs.definitions.Calls.{formReply}
 use Rattle.desk_reply.specs.laws.Replies.{Within, within-read, within-fitted}
 use Rattle.desk_serve.specs.Texts.{within-opened}
 

@@ -1,7 +1,7 @@
 -- What `form` and `remainder` are answered with, by the fields of their lines; tables lists the lengths of the work tables.
 use mathlib.Core.List.{List}
 use Prim.Native.Nat.{ℕ}
-use Rattle.reply.specs.definitions.Terms.{formReply, remainderReply}
+use Rattle.reply.specs.definitions.Calls.{formReply, remainderReply}
 use Rattle.desk_field.specs.Fields.{fieldOf}
 use Rattle.desk_reply.specs.Reply.{resultText}
 use Rattle.desk_serve.specs.Serve.{counted, pointOf, pointed, remainderedText}

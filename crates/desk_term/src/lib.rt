@@ -5,9 +5,6 @@ ghost use lib.ListN.{length};
 ghost use Rattle.form_write.specs.Write.{Wrote};
 ghost use Rattle.desk_term.specs.Term.{formLine, remainderLine};
 
-// The bytes that an answer may take: `FORM `, and a result of at most 65,535 bytes.
-const ROOM: usize = 65540;
-
 // `form ROW TERM`
 pub fn form_line(
     line: &[u8],
@@ -18,7 +15,8 @@ pub fn form_line(
     d: &mut [u32],
 ) -> usize
     requires { ⌜ 65540 ≤ length (now out) ⌝ }
-    ensures { λ r. ⌜ Wrote r (formLine (length (now (a .entry)) ∷ length (now (b .entry)) ∷ length (now (c .entry)) ∷ length (now (d .entry)) ∷ []) (now (line .entry))) (now (out .entry)) (now (out .exit)) ⌝ }
+    ensures { λ r. ⌜ Wrote r (formLine (length (now (a .entry)) ∷ length (now (b .entry)) ∷ length (now (c .entry)) ∷
+        length (now (d .entry)) ∷ []) (now (line .entry))) (now (out .entry)) (now (out .exit)) ⌝ }
 {
     let n = desk_field::count(line);
     if n != 3 {
@@ -26,7 +24,7 @@ pub fn form_line(
     }
     let row = desk_field::field(line, 1);
     let term = desk_field::field(line, 2);
-    let answer = call_form::form(row, term, &mut out[5..ROOM], a, b, c, d);
+    let answer = call_form::form(row, term, &mut out[5..desk_reply::ROOM], a, b, c, d);
     desk_reply::written(answer, out)
 }
 
@@ -40,7 +38,8 @@ pub fn remainder_line(
     d: &mut [u32],
 ) -> usize
     requires { ⌜ 65540 ≤ length (now out) ⌝ }
-    ensures { λ r. ⌜ Wrote r (remainderLine (length (now (a .entry)) ∷ length (now (b .entry)) ∷ length (now (c .entry)) ∷ length (now (d .entry)) ∷ []) (now (line .entry))) (now (out .entry)) (now (out .exit)) ⌝ }
+    ensures { λ r. ⌜ Wrote r (remainderLine (length (now (a .entry)) ∷ length (now (b .entry)) ∷ length (now (c .entry)) ∷
+        length (now (d .entry)) ∷ []) (now (line .entry))) (now (out .entry)) (now (out .exit)) ⌝ }
 {
     let f = desk_serve::point_fault(line);
     if f != 0 {

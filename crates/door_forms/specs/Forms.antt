@@ -5,8 +5,8 @@ use Prim.Native.Nat.{ℕ}
 use lib.IntN.{ℤ}
 use lib.ListN.{drop}
 use Rattle.horner.specs.definitions.Form.{Form as HForm}
-use Rattle.text.specs.definitions.Answer.{read, refused}
-use Rattle.text.specs.definitions.FormJudging.{acceptForm}
+use Rattle.text.specs.definitions.Bytes.{read, refused}
+use Rattle.text.specs.definitions.FormReading.{acceptForm}
 use Rattle.measure.specs.declared.Measures.{Measures}
 use Rattle.measure.specs.Made.{of}
 use Rattle.refusal.specs.Refusal.{onSide}
@@ -36,5 +36,7 @@ pub record IsPair (m : ℕ) (s t : List ℕ) (x : Measures) (n : ℕ) (y : Measu
 -- "A refusal of the left text ends the call before the right one is read"
 pub data PairRead (m : ℕ) (s t : List ℕ) (r : FormPair) (l : List ℕ) : Type 0 where
   left-refusal : (bad : Fault) → acceptForm m s ≡ refused bad → r ≡ Refused (onSide Left bad) → PairRead m s t r l
-  right-refusal : (f : HForm ℤ) (bad : Fault) → acceptForm m s ≡ read f → acceptForm m t ≡ refused bad → r ≡ Refused (onSide Right bad) → PairRead m s t r l
+  right-refusal :
+      (f : HForm ℤ) (bad : Fault) → acceptForm m s ≡ read f → acceptForm m t ≡ refused bad → r ≡ Refused (onSide Right bad) →
+      PairRead m s t r l
   forms : (x : Measures) (n : ℕ) (y : Measures) (k : ℕ) → IsPair m s t x n y k l → r ≡ Forms x n y k → PairRead m s t r l

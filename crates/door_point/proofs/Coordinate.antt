@@ -1,17 +1,16 @@
 -- The remainder of a signed coordinate: twice P more than it is no negative number, and has its remainder.
 use mathlib.Core.Path.{_≡_, refl, sym, ap, _∙_, subst}
 use mathlib.Core.Bool.{cond}
-use Prim.Native.Nat.{ℕ, suc, _+_, _-_, _*_, _%_, _<_}
+use Prim.Native.Nat.{ℕ, suc, _+_, _-_, _%_, _<_}
 use native.Mathlib.Nat as NatL
 use native.Mathlib.Omega.{arith}
-use lib.Dec.{ltb}
 use lib.IntN.{ℤ, pos, negsuc, _+ℤ_}
 use lib.Signed.{mag}
 use mir.Syntax.{w32, w64}
 use mir.Val.{SFits, toZ, ofZ}
 use mir.Facts.{toZ-ofZ, sfits-widen}
 use borrow.Author.Tests.{le-ltb}
-use Rattle.reply.specs.definitions.Terms.{remainder}
+use Rattle.reply.specs.definitions.Calls.{remainder}
 
 abbrev pub raised : ℤ → ℕ
 raised (pos n) = n + 4294967294
@@ -19,7 +18,8 @@ raised (negsuc n) = 4294967294 - suc n
 
 pub raised-is : (z : ℤ) → mag z < 2147483648 → z +ℤ pos 4294967294 ≡ pos (raised z)
 raised-is (pos n) h = refl
-raised-is (negsuc n) h = ap (λ b. cond b (negsuc (suc n - suc 4294967294)) (pos (4294967294 - suc n))) (le-ltb 4294967294 (suc n) (omega arith))
+raised-is (negsuc n) h =
+    ap (λ b. cond b (negsuc (suc n - suc 4294967294)) (pos (4294967294 - suc n))) (le-ltb 4294967294 (suc n) (omega arith))
 
 pub raised-small : (z : ℤ) → mag z < 2147483648 → raised z < 9223372036854775808
 raised-small (pos n) h = omega arith

@@ -1,12 +1,12 @@
 -- The enum that a call at a point answers, for each reply, and the remainders of a point's coordinates.
 use mathlib.Core.List.{List, map}
-use mathlib.Core.Path.{_≡_, refl, sym, ap, _∙_}
+use mathlib.Core.Path.{_≡_, refl, ap, _∙_}
 use Prim.Native.Nat.{ℕ}
 use lib.IntN.{ℤ}
 use Rattle.reply.specs.declared.Remaindered.{Remaindered}
 use Rattle.reply.specs.declared.Remaindered.the-variants.{Remainder, Refused}
 use Rattle.reply.specs.definitions.Reply.{Reply, gives, refuses, Work, toldRemainder, Remainders}
-use Rattle.reply.specs.definitions.Terms.{remainder}
+use Rattle.reply.specs.definitions.Calls.{remainder}
 
 abbrev pub remainderedOf : Reply ℕ → Remaindered
 remainderedOf (gives n) = Remainder n

@@ -4,7 +4,7 @@ ghost use mathlib.Core.Path.{_≡_};
 ghost use Prim.Native.Nat.{_≤_};
 ghost use lib.ListN.{length, drop};
 ghost use Rattle.door_point.specs.Point.{residuesOf};
-ghost use Rattle.reply.specs.definitions.Terms.{remainder};
+ghost use Rattle.reply.specs.definitions.Calls.{remainder};
 
 // Writes the remainders of the coordinates to the front of out. What lies after them stays.
 pub fn put_point(point: &[i32], out: &mut [u32])

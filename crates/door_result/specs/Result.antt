@@ -1,6 +1,6 @@
 -- The enum that a call with a result text answers, for each reply.
 use mathlib.Core.List.{List}
-use mathlib.Core.Path.{_≡_, refl, sym, ap, _∙_}
+use mathlib.Core.Path.{_≡_, refl, ap, _∙_}
 use Prim.Native.Nat.{ℕ}
 use lib.ListN.{length}
 use Rattle.reply.specs.declared.Written.{Written}

@@ -13,7 +13,8 @@ pub fn write_result(x: &[u32], result: &mut [u8]) -> Written
     requires { ⌜ Coded 0 (now x) ⌝ }
     requires { ⌜ length (now x) ≤ 33554432 ⌝ }
     ensures { λ r. ⌜ r ≡ writtenOf (fitted (length (now (result .entry))) (textOf (dec 0 (now (x .entry))))) ⌝ }
-    ensures { λ _. ⌜ now (result .exit) ≡ resultAfter (fitted (length (now (result .entry))) (textOf (dec 0 (now (x .entry))))) (now (result .entry)) ⌝ }
+    ensures { λ _. ⌜ now (result .exit) ≡ resultAfter (fitted (length (now (result .entry))) (textOf (dec 0 (now (x .entry)))))
+        (now (result .entry)) ⌝ }
 {
     let n = form_write::text_length(x);
     if result.len() < n {

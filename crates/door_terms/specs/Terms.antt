@@ -7,7 +7,7 @@ use Rattle.refusal.specs.Refusal.{onSide}
 use Rattle.refusal.specs.declared.Fault.{Fault}
 use Rattle.horner.specs.definitions.Term.{normP}
 use Rattle.code.specs.Coding.{Made}
-use Rattle.text.specs.definitions.Answer.{read, refused}
+use Rattle.text.specs.definitions.Bytes.{read, refused}
 use Rattle.text.specs.definitions.Limits.{acceptTerm}
 use Rattle.text.specs.definitions.Tree.{Tree, termOf}
 use Rattle.term_read.specs.declared.TermReading.{TermReading}
@@ -38,5 +38,7 @@ pub record IsPair (row s t : List ℕ) (k m : ℕ) (l : List ℕ) : Type 0 where
 -- "A refusal of the left text ends the call before the right one is read"
 pub data PairRead (row s t : List ℕ) (r : TermPair) (l : List ℕ) : Type 0 where
   left-refusal : (bad : Fault) → acceptTerm row s ≡ refused bad → r ≡ Refused (onSide Left bad) → PairRead row s t r l
-  right-refusal : (f : Tree) (bad : Fault) → acceptTerm row s ≡ read f → acceptTerm row t ≡ refused bad → r ≡ Refused (onSide Right bad) → PairRead row s t r l
+  right-refusal :
+      (f : Tree) (bad : Fault) → acceptTerm row s ≡ read f → acceptTerm row t ≡ refused bad → r ≡ Refused (onSide Right bad) →
+      PairRead row s t r l
   forms : (k m : ℕ) → IsPair row s t k m l → r ≡ Forms k m → PairRead row s t r l

@@ -21,11 +21,16 @@ put-front d e n x h k l b =
     begins-as (begins-store (putMid 1 (length d - 1) d e) n x (omega (arith, h, k)))
     (ap (λ w. x ∷ w) (region-put 1 0 n d e (omega (arith, h)) (omega (arith, begins-le b)) ∙ b .is))
 
-pub put-both : (d e e₂ : List ℕ) (n m x : ℕ) → 1 + n ≤ length d → length (putMid 1 (length d - 1) d e) ≡ length d → (k l : List ℕ) → Begins n k e → Begins m l e₂
+pub put-both :
+    (d e e₂ : List ℕ) (n m x : ℕ) → 1 + n ≤ length d → length (putMid 1 (length d - 1) d e) ≡ length d → (k l : List ℕ) → Begins n k e →
+    Begins m l e₂
     → let w = set (putMid 1 (length d - 1) d e) 0 x in Begins (1 + n + m) (x ∷ k ++ l) (putMid (1 + n) (length w - (1 + n)) w e₂)
 put-both d e e₂ n m x h q k l b c = begins-tail (put-front d e n x h q k b) c
 
 -- an integer, which is one word
-pub leaf-built : {s : List ℕ} {at kind number first : ℕ} → Headed s at kind number first → kind < 2 → (d : List ℕ) → 0 < length d → (w : ℕ) → w ≡ leafWord kind number
+pub leaf-built :
+    {s : List ℕ} {at kind number first : ℕ} → Headed s at kind number first → kind < 2 → (d : List ℕ) → 0 < length d → (w : ℕ) →
+    w ≡ leafWord kind number
     → BuiltAt s at 1 first (set d 0 w)
-leaf-built H k d h w e = record { ends = ends-int H k; made = λ g rest r f. begins-as (begins-set d w h) (ap (λ x. x ∷ []) e ∙ leaf-made H k g rest r f) }
+leaf-built H k d h w e =
+    record { ends = ends-int H k; made = λ g rest r f. begins-as (begins-set d w h) (ap (λ x. x ∷ []) e ∙ leaf-made H k g rest r f) }

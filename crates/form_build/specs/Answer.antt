@@ -6,7 +6,7 @@ use lib.Dec.{eqb}
 use lib.IntN.{ℤ}
 use Rattle.refusal.specs.Refusal.{fault}
 use Rattle.horner.specs.definitions.Form.{Form}
-use Rattle.text.specs.definitions.Answer.{Reading, read, refused}
+use Rattle.text.specs.definitions.Bytes.{Reading, read, refused}
 use Rattle.text.specs.definitions.FormReading.{readForm}
 use Rattle.text_laws.specs.laws.Picks.{pick}
 use Rattle.measure.specs.declared.Measures.{Measures}

@@ -8,12 +8,12 @@ use lib.IntN.{ℤ}
 use lib.ListN.{length}
 use Rattle.horner.specs.definitions.Form.{Form}
 use Rattle.horner.specs.definitions.Measures.{weight}
-use Rattle.horner.specs.definitions.Residues.{redℤ, prime, prime-pos}
+use Rattle.horner.specs.definitions.Rings.{redℤ, prime, prime-pos}
 use Rattle.horner.specs.laws.Hom.{mapForm}
 use Rattle.code.specs.Coding.{Good, Made, enc}
 use Rattle.code.specs.Widths.{Leaf}
-use Rattle.text.specs.definitions.Answer.{read}
-use Rattle.text.specs.definitions.FormJudging.{acceptForm}
+use Rattle.text.specs.definitions.Bytes.{read}
+use Rattle.text.specs.definitions.FormReading.{acceptForm}
 use Rattle.form_head.specs.Heads.{Stands, Ends}
 
 -- a form with the remainder by P of each coefficient

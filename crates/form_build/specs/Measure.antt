@@ -1,4 +1,5 @@
--- Measuring the text of a form, part by part. Numbers that may be large are cut down above their limit, which changes no comparison with it.
+-- Measuring the text of a form, part by part. Numbers that may be large are cut down above their limit, which changes no comparison with
+-- it.
 use mathlib.Core.List.{List}
 use mathlib.Core.Path.{_≡_}
 use Prim.Native.Nat.{ℕ, zero, suc, _+_, min, max}
@@ -6,14 +7,14 @@ use lib.Dec.{eqb}
 use lib.IntN.{ℤ}
 use lib.ListN.{getD}
 use Rattle.horner.specs.definitions.Form.{Form, int, pop, pow}
-use Rattle.horner.specs.definitions.Integers.{ℤ-ring}
+use Rattle.horner.specs.definitions.Rings.{ℤ-ring}
 use Rattle.horner.specs.definitions.Measures.{weight, degrees, count, terms}
 use Rattle.text_laws.specs.laws.Picks.{pick}
 use Rattle.measure.specs.declared.Measures.{Measures}
 use Rattle.form_head.specs.Heads.{Stands, Ends}
 
--- the measures of a form over a row of m: "weight is the sum of the absolute coefficients, terms the number of coefficients that are not 0 (1 for the zero
--- polynomial), degree the highest power"; 0 beyond the row
+-- the measures of a form over a row of m: "weight is the sum of the absolute coefficients, terms the number of coefficients that are not 0
+-- (1 for the zero polynomial), degree the highest power"; 0 beyond the row
 abbrev pub measuresOf : ℕ → Form ℤ → Measures
 measuresOf m f =
     record {

@@ -6,9 +6,8 @@ use Prim.Native.Nat.{ℕ, _+_, min}
 use lib.IntN.{ℤ, pos, negsuc, natAbs}
 use lib.ListN.{length, drop}
 use Rattle.horner.specs.definitions.Form.{Form, int, pop, pow}
-use Rattle.text.specs.definitions.Bytes.{digit}
-use Rattle.text.specs.definitions.FormText.{text, popHead, powHead}
-use Rattle.text.specs.definitions.Numerals.{writeInt, valueFrom}
+use Rattle.text.specs.definitions.Bytes.{digit, writeInt, valueFrom}
+use Rattle.text.specs.definitions.FormReading.{text, popHead, powHead}
 
 -- the digits that a text begins with
 abbrev pub digits : List ℕ → List ℕ

@@ -5,8 +5,8 @@ ghost use lib.ListN.{length, drop};
 ghost use Rattle.text.specs.definitions.Bytes.{digit};
 ghost use Rattle.form_head.specs.Heads.{digits, NumberAt, Standing, Headed};
 
-// What a form begins with. kind: 0 an integer, 1 one below zero, 2 POP, 3 POW. number: the magnitude cut down to 1,073,741,824, or i cut down to 64. next:
-// the place behind the integer, or that of p.
+// What a form begins with. kind: 0 an integer, 1 one below zero, 2 POP, 3 POW. number: the magnitude cut down to 1,073,741,824, or i cut
+// down to 64. next: the place behind the integer, or that of p.
 pub struct Head {
     pub kind: u32,
     pub number: u32,

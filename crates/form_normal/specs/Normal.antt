@@ -7,9 +7,9 @@ use lib.Dec.{eqb, ltb}
 use lib.IntN.{ℤ}
 use lib.ListN.{length}
 use Rattle.horner.specs.definitions.Form.{Form, int, pop, pow, isZero}
-use Rattle.horner.specs.definitions.Integers.{ℤ-ring, isZeroℤ}
-use Rattle.text.specs.definitions.Answer.{Reading, read, refused}
-use Rattle.text.specs.definitions.FormText.{text}
+use Rattle.horner.specs.definitions.Rings.{ℤ-ring, isZeroℤ}
+use Rattle.text.specs.definitions.Bytes.{Reading, read, refused}
+use Rattle.text.specs.definitions.FormReading.{text}
 use Rattle.text_laws.specs.laws.Descent.{judgedAt}
 use Rattle.text_laws.specs.laws.Picks.{pick}
 use Rattle.form_head.specs.Heads.{Stands}
@@ -26,10 +26,12 @@ shapeOf (pow i p q) = cond (isZero ℤ-ring q) 3 4
 abbrev pub popSeen : (i p at next : ℕ) → Seen
 popSeen i p at next = pick (eqb i 0) (Wrong at) (pick (ltb p 3) (Wrong at) (Fine 2 next))
 
--- "each POW stands at a level below the row's length, has i of at least 1, and its p is neither 0 nor `(POW j r 0)`": left is the row's length less the level
+-- "each POW stands at a level below the row's length, has i of at least 1, and its p is neither 0 nor `(POW j r 0)`": left is the row's
+-- length less the level
 abbrev pub powSeen : (left i p q at next : ℕ) → Seen
 powSeen left i p q at next =
-    pick (eqb left 0) (Wrong at) (pick (eqb i 0) (Wrong at) (pick (eqb p 0) (Wrong at) (pick (eqb p 3) (Wrong at) (Fine (pick (eqb q 0) 3 4) next))))
+    pick (eqb left 0) (Wrong at)
+    (pick (eqb i 0) (Wrong at) (pick (eqb p 0) (Wrong at) (pick (eqb p 3) (Wrong at) (Fine (pick (eqb q 0) 3 4) next))))
 
 -- the place of the node that is refused, or the shape and the place behind
 abbrev pub seen : Reading (Form ℤ) → ℕ → ℕ → Seen
@@ -38,4 +40,6 @@ seen (refused bad) shape next = Wrong (bad .place)
 
 -- of whatever form stands at the place, at a level of a row of which `left` variables are left
 abbrev pub SeenAt : (left : ℕ) (s : List ℕ) (at : ℕ) → Seen → Type 0
-SeenAt left s at r = (m l : ℕ) (g : Form ℤ) (rest : List ℕ) → m - l ≡ left → Stands s at g rest → r ≡ seen (judgedAt m l at g) (shapeOf g) (at + length (text g))
+SeenAt left s at r =
+    (m l : ℕ) (g : Form ℤ) (rest : List ℕ) → m - l ≡ left → Stands s at g rest → r ≡ seen (judgedAt m l at g) (shapeOf g)
+    (at + length (text g))

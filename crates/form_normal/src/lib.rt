@@ -6,8 +6,8 @@ ghost use Rattle.text_laws.specs.laws.Picks.{pick};
 ghost use Rattle.form_head.specs.Heads.{Standing};
 ghost use Rattle.form_normal.specs.Normal.{popSeen, powSeen, SeenAt};
 
-// What is seen of a form: the place of the node that is not normal; or its shape (0 the integer 0, 1 another, 2 POP, 3 POW with q 0, 4 another POW) and the
-// place behind it.
+// What is seen of a form: the place of the node that is not normal; or its shape (0 the integer 0, 1 another, 2 POP, 3 POW with q 0, 4
+// another POW) and the place behind it.
 pub enum Seen {
     Wrong(usize),
     Fine(u32, usize),

@@ -6,8 +6,8 @@ use lib.IntN.{ℤ}
 use Rattle.refusal.specs.declared.Fault.{Fault}
 use Rattle.horner.specs.definitions.Form.{Form as HForm}
 use Rattle.code.specs.Coding.{Made}
-use Rattle.text.specs.definitions.Answer.{read, refused}
-use Rattle.text.specs.definitions.FormJudging.{acceptForm}
+use Rattle.text.specs.definitions.Bytes.{read, refused}
+use Rattle.text.specs.definitions.FormReading.{acceptForm}
 use Rattle.measure.specs.declared.Measures.{Measures}
 use Rattle.form_build.specs.Build.{overP}
 use Rattle.form_build.specs.Measure.{measuresOf}

@@ -6,7 +6,7 @@ use refusal::Fault;
 ghost use mathlib.Core.Path.{_≡_};
 ghost use Prim.Native.Nat.{_≤_};
 ghost use lib.ListN.{length};
-ghost use Rattle.text.specs.definitions.FormJudging.{acceptForm};
+ghost use Rattle.text.specs.definitions.FormReading.{acceptForm};
 ghost use Rattle.form_build.specs.Answer.{judgedOf};
 ghost use Rattle.form_read.specs.Read.{FormRead};
 

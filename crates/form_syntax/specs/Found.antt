@@ -1,13 +1,15 @@
--- What is found of the parts of a form's text: where the walk over the text (text/program/FormKinds) goes on behind a part, or the refusal that it ends in.
+-- What is found of the parts of a form's text: where the walk over the text (text/program/FormKinds) goes on behind a part, or the refusal
+-- that it ends in.
 use mathlib.Core.Path.{_≡_}
 use mathlib.Core.Bool.{Bool, false, _&&_, cond}
 use mathlib.Core.List.{List, _∷_}
 use Prim.Native.Nat.{ℕ, suc, _≤_, _<_}
 use lib.Dec.{eqb, ltb}
 use lib.ListN.{length, getD, drop}
-use Rattle.text.specs.definitions.Answer.{Reading, refused}
+use Rattle.text.specs.definitions.Bytes.{Reading, refused}
 use Rattle.text.specs.definitions.FormReading.{Kind, popKind, powKind}
-use Rattle.text.specs.program.FormKinds.{Stand, start, sign, digits, open0, openPO, openPOP, openPOW, before-i, zero-i, digits-i, done, Wait, popWait, restWait, moved, stuck, pushed, move, isWhole, check, walk}
+use Rattle.text.specs.program.FormKinds.{Stand, start, sign, digits, open0, openPO, openPOP, openPOW, before-i, zero-i, digits-i, done}
+use Rattle.text.specs.program.FormKinds.{Wait, popWait, restWait, moved, stuck, pushed, move, isWhole, check, walk}
 use Rattle.form_syntax.specs.declared.Part.{Part}
 use Rattle.form_syntax.specs.declared.Part.the-variants.{On, Off}
 

@@ -1,4 +1,5 @@
-// Whether a text is a form's text: one function for each part of a form, which answers the place behind the part, or the refusal. Nothing is built.
+// Whether a text is a form's text: one function for each part of a form, which answers the place behind the part, or the refusal. Nothing
+// is built.
 use refusal::Fault;
 ghost use mathlib.Core.Path.{_≡_};
 ghost use mathlib.Core.Bool.{false};
@@ -6,7 +7,8 @@ ghost use Prim.Native.Nat.{_≤_};
 ghost use lib.ListN.{length};
 ghost use Rattle.text.specs.definitions.FormReading.{readForm};
 ghost use Rattle.form_syntax.specs.Answer.{formSyntaxOf};
-ghost use Rattle.form_syntax.specs.Found.{isAt, Expects, DigitsAt, NaturalAt, IntAt, IndexAt, LettersAt, FormAt, LastAt, PopAt, PowAt};
+ghost use Rattle.form_syntax.specs.Found.{isAt, Expects, DigitsAt, NaturalAt, IntAt, IndexAt, LettersAt, FormAt, LastAt, PopAt};
+ghost use Rattle.form_syntax.specs.Found.{PowAt};
 
 // The text is a form's, or what is wrong with it.
 pub enum FormSyntax {

@@ -1,6 +1,6 @@
--- What write_text leaves of a node: its head, then the text of p through the rest of the buffer, and for a POW a space and the text of q through what is left.
--- l is the code, old the buffer before, a after the head, e and f what the calls left in their parts.
--- Assumes nothing.
+-- What write_text leaves of a node: its head, then the text of p through the rest of the buffer, and for a POW a space and the text of q
+-- through what is left. l is the code, old the buffer before, a after the head, e and f what the calls left in their parts. Assumes
+-- nothing.
 use mathlib.Core.List.{List, [], _∷_, _++_}
 use Prim.Native.Nat.{ℕ, _+_, _-_, _%_, _≤_}
 use native.Mathlib.Omega.{arith}
@@ -21,7 +21,8 @@ tail h a = take (length a - h) (drop h a)
 abbrev pub put : ℕ → List ℕ → List ℕ → List ℕ
 put h a e = putMid h (length a - h) a e
 
-module _ {l old a : List ℕ} {h : ℕ} (v : PopAt 0 l) (fits : length (textOf (dec 0 l)) ≤ length old) (head : Wrote h (headText 80 (getD l 0 0 % 64)) old a) where
+module _ {l old a : List ℕ} {h : ℕ} (v : PopAt 0 l) (fits : length (textOf (dec 0 l)) ≤ length old)
+    (head : Wrote h (headText 80 (getD l 0 0 % 64)) old a) where
   pub pop-room : length (textOf (dec 0 (inner l))) ≤ length (tail h a)
   pop-room = omega (arith, fits, pop-length v, head .size, wrote-room head)
 
@@ -32,7 +33,8 @@ module _ {l old a : List ℕ} {h : ℕ} (v : PopAt 0 l) (fits : length (textOf (
     pub wrote-pop : Wrote (h + n + 1) (textOf (dec 0 l)) old (set (put h a e) (h + n) 41)
     wrote-pop = wrote-as (wrote-byte (wrote-on head p) 41 (omega (arith, pop-size))) (text-pop-at v)
 
-module _ {l old a : List ℕ} {h : ℕ} (v : PowAt 0 l) (fits : length (textOf (dec 0 l)) ≤ length old) (head : Wrote h (headText 87 (getD l 0 0 % 64)) old a) where
+module _ {l old a : List ℕ} {h : ℕ} (v : PowAt 0 l) (fits : length (textOf (dec 0 l)) ≤ length old)
+    (head : Wrote h (headText 87 (getD l 0 0 % 64)) old a) where
   pub pow-room : length (textOf (dec 0 (first l))) ≤ length (tail h a)
   pow-room = omega (arith, fits, pow-length v, head .size, wrote-room head)
 

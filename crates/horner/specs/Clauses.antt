@@ -3,10 +3,8 @@
 use mathlib.Core.Path.{_≡_}
 use Prim.Native.Nat.{ℕ, suc, _+_, _-_, _<_}
 use lib.IntN.{ℤ}
-use Rattle.horner.specs.definitions.Form.{Form, int, pop, pow, lower, zeroForm, mkpop, mkpow, addInt, scale, sum, prod}
-use Rattle.horner.specs.definitions.Integers.{ℤ-ring}
-use Rattle.horner.specs.definitions.Normal.{Normal}
-use Rattle.horner.specs.definitions.Ring.{Ring}
+use Rattle.horner.specs.definitions.Form.{Form, int, pop, pow, lower, zeroForm, mkpop, mkpow, addInt, scale, sum, prod, Normal}
+use Rattle.horner.specs.definitions.Rings.{ℤ-ring, Ring}
 use Rattle.horner.specs.laws.Domain.{prod-4-ℤ}
 use Rattle.horner.specs.laws.Equations.{sum-int, sum-2, sum-3a, sum-3b, sum-3c, sum-pop-pow, sum-pow-pop, sum-6a, sum-6b, sum-6c}
 use Rattle.horner.specs.laws.Equations.{prod-int, prod-2, prod-3a, prod-3b, prod-3c, prod-pop-pow, prod-pow-pop, prod-pow-pow}

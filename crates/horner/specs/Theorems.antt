@@ -8,17 +8,15 @@ use Prim.Native.Nat.{ℕ, _+_, _-_, _*_, _^_, _≤_, _<_}
 use lib.Dec.{T}
 use lib.IntN.{ℤ, natAbs}
 use lib.ListN.{length}
-use Rattle.horner.specs.definitions.Coefficients.{coefAt}
-use Rattle.horner.specs.definitions.Form.{Form, pop, pow, size, isZero, mkpop, mkpow, sum, negate, prod, raise}
-use Rattle.horner.specs.definitions.Integers.{ℤ-ring}
-use Rattle.horner.specs.definitions.Measures.{maxs, sums, multiples, box, AllLe, weightOf, degreesOf, termsOf, Within}
-use Rattle.horner.specs.definitions.Measures.{weight, one-if, count, terms, degrees, Bounded, nest}
-use Rattle.horner.specs.definitions.Normal.{Normal}
+use Rattle.horner.specs.definitions.Measures.{coefAt, maxs, sums, multiples, box, AllLe, weightOf, degreesOf, termsOf, weight}
+use Rattle.horner.specs.definitions.Measures.{one-if, count, terms, degrees, nest}
+use Rattle.horner.specs.definitions.Form.{Form, pop, pow, size, isZero, mkpop, mkpow, sum, negate, prod, raise, Normal, evalh, nats}
+use Rattle.horner.specs.definitions.Rings.{ℤ-ring, Res, redℤ, prime, prime-pos, P-ring, Ring, power}
+use Rattle.horner.specs.laws.Within.{Within, Over}
+use Rattle.horner.specs.laws.Degree.{Bounded}
 use Rattle.horner.specs.definitions.Points.{InBox, Before, firstPoint, gap, sides, IsPoint}
-use Rattle.horner.specs.definitions.Residues.{Res, redℤ, lift, prime, prime-pos, P-ring}
-use Rattle.horner.specs.definitions.Ring.{Ring, power}
-use Rattle.horner.specs.definitions.Term.{Term, Over, evalp, norm, normℤ, evalℤ, normP, evalP}
-use Rattle.horner.specs.definitions.Value.{evalh, nats}
+use Rattle.horner.specs.laws.Residues.{lift}
+use Rattle.horner.specs.definitions.Term.{Term, evalp, norm, normℤ, evalℤ, normP, evalP}
 use Rattle.horner.specs.laws.Answer.{same-iff, gap-zero, degrees-normP, point-is, point-unique, point-before}
 use Rattle.horner.specs.laws.Cancel.{cancel}
 use Rattle.horner.specs.laws.Canonical.{canon-ℤ}

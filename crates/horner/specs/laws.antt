@@ -20,6 +20,7 @@ pub mod First
 pub mod Domain
 pub mod Prime
 pub mod Hom
+pub mod Within
 pub mod Term
 pub mod Measure
 pub mod Weight

@@ -10,7 +10,7 @@ use lib.ListN.{length, getD}
 use borrow.Author.Tests.{lt-ltb, le-ltb}
 use Rattle.horner.specs.definitions.Measures.{weightOf, degreesOf, termsOf, AllLe}
 use Rattle.horner.specs.laws.Compare.{lt-or-ge}
-use Rattle.text.specs.definitions.Limits.{exponentFits, passes}
+use Rattle.text.specs.definitions.Limits.{exponentFits, overLimit}
 use Rattle.text.specs.definitions.Tree.{Tree, termOf}
 use Rattle.text_laws.specs.laws.Measured.{Measure, within, power-over, weight-over, terms-over, measure}
 use Rattle.text_laws.specs.laws.Picks.{pick-yes, pick-no}
@@ -23,29 +23,36 @@ pub data Limited (m : Measures) : Type 0 where
   fits : limitM m ≡ 0 → Small m → Limited m
   degree-over : limitM m ≡ 8 → (m .d0 ≤ 63 → m .d1 ≤ 63 → m .d2 ≤ 63 → m .d3 ≤ 63 → ⊥) → Limited m
   weight-passed : limitM m ≡ 9 → (m .d0 ≤ 63) × ((m .d1 ≤ 63) × ((m .d2 ≤ 63) × (m .d3 ≤ 63))) → 1073741823 < m .weight → Limited m
-  terms-passed : limitM m ≡ 10 → (m .d0 ≤ 63) × ((m .d1 ≤ 63) × ((m .d2 ≤ 63) × (m .d3 ≤ 63))) → m .weight ≤ 1073741823 → 256 < m .terms → Limited m
+  terms-passed :
+      limitM m ≡ 10 → (m .d0 ≤ 63) × ((m .d1 ≤ 63) × ((m .d2 ≤ 63) × (m .d3 ≤ 63))) → m .weight ≤ 1073741823 → 256 < m .terms → Limited m
 
 pub limited : (m : Measures) → Limited m
 limited m = at-0 (lt-or-ge 63 (m .d0))
   where
     at-t : m .d0 ≤ 63 → m .d1 ≤ 63 → m .d2 ≤ 63 → m .d3 ≤ 63 → m .weight ≤ 1073741823 → (256 < m .terms) ⊎ (m .terms ≤ 256) → Limited m
     at-t a b c d w (inl h) =
-        terms-passed (pick-no _ _ (le-ltb _ _ a) ∙ pick-no _ _ (le-ltb _ _ b) ∙ pick-no _ _ (le-ltb _ _ c) ∙ pick-no _ _ (le-ltb _ _ d) ∙ pick-no _ _ (le-ltb _ _ w) ∙ pick-yes _ _ (lt-ltb _ _ h)) (a, (b, (c, d))) w h
+        terms-passed (pick-no _ _ (le-ltb _ _ a) ∙ pick-no _ _ (le-ltb _ _ b) ∙ pick-no _ _ (le-ltb _ _ c) ∙ pick-no _ _ (le-ltb _ _ d)
+        ∙ pick-no _ _ (le-ltb _ _ w) ∙ pick-yes _ _ (lt-ltb _ _ h)) (a, (b, (c, d))) w h
     at-t a b c d w (inr h) =
-        fits (pick-no _ _ (le-ltb _ _ a) ∙ pick-no _ _ (le-ltb _ _ b) ∙ pick-no _ _ (le-ltb _ _ c) ∙ pick-no _ _ (le-ltb _ _ d) ∙ pick-no _ _ (le-ltb _ _ w) ∙ pick-no _ _ (le-ltb _ _ h))
+        fits (pick-no _ _ (le-ltb _ _ a) ∙ pick-no _ _ (le-ltb _ _ b) ∙ pick-no _ _ (le-ltb _ _ c) ∙ pick-no _ _ (le-ltb _ _ d)
+        ∙ pick-no _ _ (le-ltb _ _ w) ∙ pick-no _ _ (le-ltb _ _ h))
         (record { weight-small = w; terms-small = h; small-0 = a; small-1 = b; small-2 = c; small-3 = d })
 
     at-w : m .d0 ≤ 63 → m .d1 ≤ 63 → m .d2 ≤ 63 → m .d3 ≤ 63 → (1073741823 < m .weight) ⊎ (m .weight ≤ 1073741823) → Limited m
     at-w a b c d (inl h) =
-        weight-passed (pick-no _ _ (le-ltb _ _ a) ∙ pick-no _ _ (le-ltb _ _ b) ∙ pick-no _ _ (le-ltb _ _ c) ∙ pick-no _ _ (le-ltb _ _ d) ∙ pick-yes _ _ (lt-ltb _ _ h)) (a, (b, (c, d))) h
+        weight-passed (pick-no _ _ (le-ltb _ _ a) ∙ pick-no _ _ (le-ltb _ _ b) ∙ pick-no _ _ (le-ltb _ _ c) ∙ pick-no _ _ (le-ltb _ _ d)
+        ∙ pick-yes _ _ (lt-ltb _ _ h)) (a, (b, (c, d))) h
     at-w a b c d (inr h) = at-t a b c d h (lt-or-ge 256 (m .terms))
 
     at-3 : m .d0 ≤ 63 → m .d1 ≤ 63 → m .d2 ≤ 63 → (63 < m .d3) ⊎ (m .d3 ≤ 63) → Limited m
-    at-3 a b c (inl h) = degree-over (pick-no _ _ (le-ltb _ _ a) ∙ pick-no _ _ (le-ltb _ _ b) ∙ pick-no _ _ (le-ltb _ _ c) ∙ pick-yes _ _ (lt-ltb _ _ h)) (λ p q r s. omega arith)
+    at-3 a b c (inl h) =
+        degree-over (pick-no _ _ (le-ltb _ _ a) ∙ pick-no _ _ (le-ltb _ _ b) ∙ pick-no _ _ (le-ltb _ _ c) ∙ pick-yes _ _ (lt-ltb _ _ h))
+        (λ p q r s. omega arith)
     at-3 a b c (inr h) = at-w a b c h (lt-or-ge 1073741823 (m .weight))
 
     at-2 : m .d0 ≤ 63 → m .d1 ≤ 63 → (63 < m .d2) ⊎ (m .d2 ≤ 63) → Limited m
-    at-2 a b (inl h) = degree-over (pick-no _ _ (le-ltb _ _ a) ∙ pick-no _ _ (le-ltb _ _ b) ∙ pick-yes _ _ (lt-ltb _ _ h)) (λ p q r s. omega arith)
+    at-2 a b (inl h) =
+        degree-over (pick-no _ _ (le-ltb _ _ a) ∙ pick-no _ _ (le-ltb _ _ b) ∙ pick-yes _ _ (lt-ltb _ _ h)) (λ p q r s. omega arith)
     at-2 a b (inr h) = at-3 a b h (lt-or-ge 63 (m .d3))
 
     at-1 : m .d0 ≤ 63 → (63 < m .d1) ⊎ (m .d1 ≤ 63) → Limited m
@@ -98,17 +105,23 @@ pub record Meets (row : List ℕ) (t : Tree) (m : Measures) : Type 0 where
   pub of-weight : min (m .weight) 1073741824 ≡ min (weightOf (termOf row t)) 1073741824
   pub of-terms : AllLe 63 (degreesOf (length row) (termOf row t)) → m .terms ≡ termsOf (length row) (termOf row t)
 
-module _ (row : List ℕ) (t : Tree) (short : length (degreesOf (length row) (termOf row t)) ≤ 4) (e : exponentFits t ≡ true) (m : Measures) (M : Meets row t m) where
+module _ (row : List ℕ) (t : Tree) (short : length (degreesOf (length row) (termOf row t)) ≤ 4) (e : exponentFits t ≡ true)
+    (m : Measures) (M : Meets row t m) where
   all-of : m .d0 ≤ 63 → m .d1 ≤ 63 → m .d2 ≤ 63 → m .d3 ≤ 63 → AllLe 63 (degreesOf (length row) (termOf row t))
   all-of p q r s =
-      all-63 (degreesOf (length row) (termOf row t)) short (subst (λ z. z ≤ 63) (M .at-0) p) (subst (λ z. z ≤ 63) (M .at-1) q) (subst (λ z. z ≤ 63) (M .at-2) r) (subst (λ z. z ≤ 63) (M .at-3) s)
+      all-63 (degreesOf (length row) (termOf row t)) short (subst (λ z. z ≤ 63) (M .at-0) p) (subst (λ z. z ≤ 63) (M .at-1) q)
+      (subst (λ z. z ≤ 63) (M .at-2) r) (subst (λ z. z ≤ 63) (M .at-3) s)
 
   each : AllLe 63 (degreesOf (length row) (termOf row t)) → (m .d0 ≤ 63) × ((m .d1 ≤ 63) × ((m .d2 ≤ 63) × (m .d3 ≤ 63)))
   each a = (
     subst (λ z. z ≤ 63) (sym (M .at-0)) (degree-63 (degreesOf (length row) (termOf row t)) 0 a),
     (
       subst (λ z. z ≤ 63) (sym (M .at-1)) (degree-63 (degreesOf (length row) (termOf row t)) 1 a),
-      (subst (λ z. z ≤ 63) (sym (M .at-2)) (degree-63 (degreesOf (length row) (termOf row t)) 2 a), subst (λ z. z ≤ 63) (sym (M .at-3)) (degree-63 (degreesOf (length row) (termOf row t)) 3 a)),
+      (
+        subst (λ z. z ≤ 63) (sym (M .at-2)) (degree-63 (degreesOf (length row) (termOf row t)) 2 a),
+        subst (λ z. z ≤ 63)
+            (sym (M .at-3)) (degree-63 (degreesOf (length row) (termOf row t)) 3 a),
+      ),
     ),
   )
 
@@ -118,7 +131,7 @@ module _ (row : List ℕ) (t : Tree) (short : length (degreesOf (length row) (te
       let k : m .terms ≡ termsOf (length row) (termOf row t) = M .of-terms (all-of (s .small-0) (s .small-1) (s .small-2) (s .small-3)) in
       λ i. of (w i) (k i) (M .at-0 i) (M .at-1 i) (M .at-2 i) (M .at-3 i)
 
-  number : Measure row t (passes row t) → Limited m → passes row t ≡ limitM m
+  number : Measure row t (overLimit row t) → Limited m → overLimit row t ≡ limitM m
   number (within z h) (fits z′ s) = z ∙ sym z′
   number (within z h) (degree-over z′ n) = let a = each (h .degrees) in absurd (n (a .0) (a .1 .0) (a .1 .1 .0) (a .1 .1 .1))
   number (within z h) (weight-passed z′ a l) = absurd (omega (arith, h .weight, M .of-weight))
@@ -136,7 +149,7 @@ module _ (row : List ℕ) (t : Tree) (short : length (degreesOf (length row) (te
   number (terms-over z x d w l) (weight-passed z′ a k) = absurd (omega (arith, M .of-weight))
   number (terms-over z x d w l) (terms-passed z′ a v k) = z ∙ sym z′
 
-  pub same-number : passes row t ≡ limitM m
+  pub same-number : overLimit row t ≡ limitM m
   same-number = number (measure row t) (limited m)
 
   -- within the limits nothing was cut

@@ -1,5 +1,5 @@
--- Document 01's table on measures, as code works it out: a subterm's from its parts'. Numbers that may be large are cut down above their limit, which changes no
--- comparison with it.
+-- Document 01's table on measures, as code works it out: a subterm's from its parts'. Numbers that may be large are cut down above their
+-- limit, which changes no comparison with it.
 use Prim.Native.Nat.{ℕ, _+_, _*_, _^_, _≤_, min, max}
 use lib.Dec.{ltb}
 use lib.ListN.{getD}

@@ -11,8 +11,9 @@ use lib.IntN.{ℤ, natAbs}
 use lib.ListN.{length, getD}
 use borrow.Author.Tests.{eq-eqb, ne-eqb, eqb-true, eqb-false}
 use Rattle.horner.specs.definitions.Measures.{degreesOf, termsOf, AllLe, box, sums, multiples, maxs, zeros}
-use Rattle.horner.specs.definitions.Term.{Term, Over}
-use Rattle.horner.specs.definitions.Value.{tl}
+use Rattle.horner.specs.laws.Within.{Over}
+use Rattle.horner.specs.definitions.Term.{Term}
+use Rattle.horner.specs.definitions.Form.{tl}
 use Rattle.horner.specs.laws.Highest.{tl-getD, first-getD, zeros-zero, maxs-getD}
 use Rattle.horner.specs.laws.Limits.{length-degreesOf}
 use Rattle.text.specs.definitions.Bytes.{indexIn}
@@ -70,14 +71,18 @@ box-four (a ∷ b ∷ c ∷ []) l = ap₂ _*_ (add-one a) (ap₂ _*_ (add-one b)
 box-four (a ∷ b ∷ c ∷ d ∷ []) l = ap₂ _*_ (add-one a) (ap₂ _*_ (add-one b) (ap₂ _*_ (add-one c) (add-one d ∙ sym (NatL.mul-one (suc d)))))
 box-four (a ∷ b ∷ c ∷ d ∷ e ∷ ds) l = absurd (omega arith)
 
-pub box-is : (ds : List ℕ) → length ds ≤ 4 → AllLe 63 ds → (a b c d : ℕ) → a ≡ getD ds 0 0 → b ≡ getD ds 1 0 → c ≡ getD ds 2 0 → d ≡ getD ds 3 0 → boxM a b c d ≡ box ds
+pub box-is :
+    (ds : List ℕ) → length ds ≤ 4 → AllLe 63 ds → (a b c d : ℕ) → a ≡ getD ds 0 0 → b ≡ getD ds 1 0 → c ≡ getD ds 2 0 → d ≡ getD ds 3 0 →
+    boxM a b c d ≡ box ds
 box-is ds l h a b c d ea eb ec ed =
     (λ i. boxM (ea i) (eb i) (ec i) (ed i))
-    ∙ box-uncut (getD ds 0 0) (getD ds 1 0) (getD ds 2 0) (getD ds 3 0) (degree-63 ds 0 h) (degree-63 ds 1 h) (degree-63 ds 2 h) (degree-63 ds 3 h) ∙ box-four ds l
+    ∙ box-uncut (getD ds 0 0) (getD ds 1 0) (getD ds 2 0) (getD ds 3 0) (degree-63 ds 0 h) (degree-63 ds 1 h) (degree-63 ds 2 h)
+    (degree-63 ds 3 h) ∙ box-four ds l
 
 pub box-le : (ds : List ℕ) → length ds ≤ 4 → AllLe 63 ds → box ds ≤ 16777216
 unfolding boxM
-box-le ds l h = subst (λ z. z ≤ 16777216) (box-is ds l h (getD ds 0 0) (getD ds 1 0) (getD ds 2 0) (getD ds 3 0) refl refl refl refl) (omega arith)
+box-le ds l h =
+    subst (λ z. z ≤ 16777216) (box-is ds l h (getD ds 0 0) (getD ds 1 0) (getD ds 2 0) (getD ds 3 0) refl refl refl refl) (omega arith)
 
 -- ---- the nodes
 module _ (row : List ℕ) (four : length row ≤ 4) where
@@ -92,7 +97,9 @@ module _ (row : List ℕ) (four : length row ≤ 4) where
         of-terms = λ h. refl;
       }
 
-  pub meets-letter : (p b : ℕ) (i : ℕ) → i ≡ indexIn row b → Meets row (letter p b) (of 1 1 (pick (eqb i 0) 1 0) (pick (eqb i 1) 1 0) (pick (eqb i 2) 1 0) (pick (eqb i 3) 1 0))
+  pub meets-letter :
+      (p b : ℕ) (i : ℕ) → i ≡ indexIn row b →
+      Meets row (letter p b) (of 1 1 (pick (eqb i 0) 1 0) (pick (eqb i 1) 1 0) (pick (eqb i 2) 1 0) (pick (eqb i 3) 1 0))
   meets-letter p b i e =
       record {
         at-0 = one 0;
@@ -107,21 +114,29 @@ module _ (row : List ℕ) (four : length row ≤ 4) where
       one j = ap (λ k. pick (eqb k j) 1 0) e ∙ sym (letter-getD (indexIn row b) (length row - suc (indexIn row b)) j)
 
   pub meets-neg : (p o c : ℕ) (x : Tree) (m : Measures) → Meets row x m → Meets row (neg p o c x) m
-  meets-neg p o c x m M = record { at-0 = M .at-0; at-1 = M .at-1; at-2 = M .at-2; at-3 = M .at-3; of-weight = M .of-weight; of-terms = M .of-terms }
+  meets-neg p o c x m M =
+      record { at-0 = M .at-0; at-1 = M .at-1; at-2 = M .at-2; at-3 = M .at-3; of-weight = M .of-weight; of-terms = M .of-terms }
 
   -- two subterms
   module _ (X Y : Term) (ox : Over (length row) X) (oy : Over (length row) Y) where
     lengths : length (degreesOf (length row) Y) ≡ length (degreesOf (length row) X)
     lengths = length-degreesOf (length row) Y oy ∙ sym (length-degreesOf (length row) X ox)
 
-    larger : (j : ℕ) → max (getD (degreesOf (length row) X) j 0) (getD (degreesOf (length row) Y) j 0) ≡ getD (maxs (degreesOf (length row) X) (degreesOf (length row) Y)) j 0
+    larger :
+        (j : ℕ) →
+        max (getD (degreesOf (length row) X) j 0) (getD (degreesOf (length row) Y) j 0) ≡ getD
+        (maxs (degreesOf (length row) X) (degreesOf (length row) Y)) j 0
     larger j = sym (maxs-getD (degreesOf (length row) X) (degreesOf (length row) Y) j lengths)
 
-    summed : (j : ℕ) → getD (degreesOf (length row) X) j 0 + getD (degreesOf (length row) Y) j 0 ≡ getD (sums (degreesOf (length row) X) (degreesOf (length row) Y)) j 0
+    summed :
+        (j : ℕ) →
+        getD (degreesOf (length row) X) j 0 + getD (degreesOf (length row) Y) j 0 ≡ getD
+        (sums (degreesOf (length row) X) (degreesOf (length row) Y)) j 0
     summed j = sym (sums-getD (degreesOf (length row) X) (degreesOf (length row) Y) j)
 
   pub meets-add : (p o c : ℕ) (g : Sign) (x y : Tree) → (g ≡ mul → ⊥) → Over (length row) (termOf row x) → Over (length row) (termOf row y)
-      → length (degreesOf (length row) (termOf row (two p o c g x y))) ≤ 4 → Meets row (two p o c g x y) (addM (measuresOf (length row) (termOf row x)) (measuresOf (length row) (termOf row y)))
+      → length (degreesOf (length row) (termOf row (two p o c g x y))) ≤ 4 → Meets row (two p o c g x y)
+      (addM (measuresOf (length row) (termOf row x)) (measuresOf (length row) (termOf row y)))
   meets-add p o c add x y k ox oy l =
       let L = larger (termOf row x) (termOf row y) ox oy in
       record {
@@ -130,7 +145,9 @@ module _ (row : List ℕ) (four : length row ≤ 4) where
         at-2 = L 2;
         at-3 = L 3;
         of-weight = refl;
-        of-terms = λ h. ap (min (termsOf (length row) (termOf row x) + termsOf (length row) (termOf row y))) (box-is (degreesOf (length row) (termOf row (two p o c add x y))) l h _ _ _ _ (L 0) (L 1) (L 2) (L 3));
+        of-terms =
+            λ h. ap (min (termsOf (length row) (termOf row x) + termsOf (length row) (termOf row y)))
+            (box-is (degreesOf (length row) (termOf row (two p o c add x y))) l h _ _ _ _ (L 0) (L 1) (L 2) (L 3));
       }
   meets-add p o c sub x y k ox oy l =
       let L = larger (termOf row x) (termOf row y) ox oy in
@@ -140,12 +157,15 @@ module _ (row : List ℕ) (four : length row ≤ 4) where
         at-2 = L 2;
         at-3 = L 3;
         of-weight = refl;
-        of-terms = λ h. ap (min (termsOf (length row) (termOf row x) + termsOf (length row) (termOf row y))) (box-is (degreesOf (length row) (termOf row (two p o c sub x y))) l h _ _ _ _ (L 0) (L 1) (L 2) (L 3));
+        of-terms =
+            λ h. ap (min (termsOf (length row) (termOf row x) + termsOf (length row) (termOf row y)))
+            (box-is (degreesOf (length row) (termOf row (two p o c sub x y))) l h _ _ _ _ (L 0) (L 1) (L 2) (L 3));
       }
   meets-add p o c mul x y k ox oy l = absurd (k refl)
 
   pub meets-mul : (p o c : ℕ) (x y : Tree) → Over (length row) (termOf row x) → Over (length row) (termOf row y)
-      → length (degreesOf (length row) (termOf row (two p o c mul x y))) ≤ 4 → Meets row (two p o c mul x y) (mulM (measuresOf (length row) (termOf row x)) (measuresOf (length row) (termOf row y)))
+      → length (degreesOf (length row) (termOf row (two p o c mul x y))) ≤ 4 → Meets row (two p o c mul x y)
+      (mulM (measuresOf (length row) (termOf row x)) (measuresOf (length row) (termOf row y)))
   meets-mul p o c x y ox oy l =
       let L = summed (termOf row x) (termOf row y) ox oy in
       record {
@@ -154,7 +174,9 @@ module _ (row : List ℕ) (four : length row ≤ 4) where
         at-2 = L 2;
         at-3 = L 3;
         of-weight = omega arith;
-        of-terms = λ h. ap (min (termsOf (length row) (termOf row x) * termsOf (length row) (termOf row y))) (box-is (degreesOf (length row) (termOf row (two p o c mul x y))) l h _ _ _ _ (L 0) (L 1) (L 2) (L 3));
+        of-terms =
+            λ h. ap (min (termsOf (length row) (termOf row x) * termsOf (length row) (termOf row y)))
+            (box-is (degreesOf (length row) (termOf row (two p o c mul x y))) l h _ _ _ _ (L 0) (L 1) (L 2) (L 3));
       }
 
   pub meets-power : (p o c : ℕ) (x : Tree) (q k : ℕ) → length (degreesOf (length row) (termOf row (power p o c x q k))) ≤ 4
@@ -168,5 +190,7 @@ module _ (row : List ℕ) (four : length row ≤ 4) where
         at-2 = L 2;
         at-3 = L 3;
         of-weight = omega arith;
-        of-terms = λ h. ap (min (min (termsOf (length row) (termOf row x) ^ k) 16777216)) (box-is (multiples k D) l h _ _ _ _ (L 0) (L 1) (L 2) (L 3)) ∙ omega (arith, box-le (multiples k D) l h);
+        of-terms =
+            λ h. ap (min (min (termsOf (length row) (termOf row x) ^ k) 16777216))
+            (box-is (multiples k D) l h _ _ _ _ (L 0) (L 1) (L 2) (L 3)) ∙ omega (arith, box-le (multiples k D) l h);
       }

@@ -11,7 +11,7 @@ use Rattle.reply.specs.declared.Remaindered.{Remaindered}
 use Rattle.reply.specs.declared.Remaindered.the-variants as R
 use Rattle.reply.specs.declared.Written.{Written}
 use Rattle.reply.specs.declared.Written.the-variants as W
-use Rattle.reply.specs.definitions.Compare.{Verdict, equal, different, Compares}
+use Rattle.reply.specs.definitions.Calls.{Verdict, equal, different, Compares}
 use Rattle.reply.specs.definitions.Reply.{Reply, gives, refuses, Work, Writes, Remainders}
 use Rattle.panel.specs.Panel.{refusalAnswer, compareAnswer, formAnswer, remainderAnswer}
 use Rattle.panel.specs.declared.PanelAnswer.{PanelAnswer}
@@ -26,7 +26,8 @@ compared-answer (gives equal) = refl
 compared-answer (gives (different N l r)) = refl
 compared-answer (refuses bad) = refl
 
-pub compared-is : {x : Reply Verdict} {r : Compared} {p p′ : List ℕ} {w w′ : Work} → Compares x r p p′ w w′ → ofCompared r ≡ compareAnswer x
+pub compared-is :
+    {x : Reply Verdict} {r : Compared} {p p′ : List ℕ} {w w′ : Work} → Compares x r p p′ w w′ → ofCompared r ≡ compareAnswer x
 compared-is {x} h = ap ofCompared (is-compared h) ∙ compared-answer x
 
 abbrev pub ofWritten : Written → PanelAnswer

@@ -7,9 +7,8 @@ use lib.ListN.{length}
 use Rattle.refusal.specs.declared.Refusal.{Refusal}
 use Rattle.refusal.specs.declared.Side.{Side}
 use Rattle.refusal.specs.declared.Side.the-variants.{Left, Right, Neither}
-use Rattle.reply.specs.definitions.Compare.{Verdict, equal, different, compareReply, pointAfter}
+use Rattle.reply.specs.definitions.Calls.{Verdict, equal, different, compareReply, pointAfter, formReply, remainderReply}
 use Rattle.reply.specs.definitions.Reply.{Reply, gives, refuses, Work, lengths, resultAfter, workAfter}
-use Rattle.reply.specs.definitions.Terms.{formReply, remainderReply}
 use Rattle.panel.specs.declared.PanelAnswer.{PanelAnswer}
 
 -- "The refusal says left, right or neither"

@@ -1,5 +1,5 @@
-// The calls that the panel's build tool makes from C: compare, form and remainder, on numbers and slices. An enum cannot cross, so each answers a struct of
-// numbers; specs/Panel says which. include/panel.h is the same for C.
+// The calls that the panel's build tool makes from C: compare, form and remainder, on numbers and slices. An enum cannot cross, so each
+// answers a struct of numbers; specs/Panel says which. include/panel.h is the same for C.
 use refusal::Refusal;
 use refusal::Side;
 use reply::Compared;
@@ -9,8 +9,8 @@ ghost use mathlib.Core.Path.{_≡_};
 ghost use Rattle.reply.specs.definitions.Reply.{work};
 ghost use Rattle.panel.specs.Panel.{sideNumber, refusalAnswer, PanelCompareCall, PanelFormCall, PanelRemainderCall};
 
-// kind: 0 same, written, or a remainder; 1 different; 2 refused. Then, of a refusal, its number, its side (0 neither, 1 left, 2 right) and its place; of 'different'
-// both remainders; of a text its length; of a remainder itself.
+// kind: 0 same, written, or a remainder; 1 different; 2 refused. Then, of a refusal, its number, its side (0 neither, 1 left, 2 right) and
+// its place; of 'different' both remainders; of a text its length; of a remainder itself.
 #[repr(C)]
 pub struct PanelAnswer {
     pub kind: u32,

@@ -3,7 +3,7 @@ use Prim.Native.Nat.{ℕ}
 use Rattle.refusal.specs.declared.Fault.{Fault}
 use Rattle.refusal.specs.declared.Refusal.{Refusal}
 use Rattle.refusal.specs.declared.Side.{Side}
-use Rattle.refusal.specs.declared.Side.the-variants.{Left, Right, Neither}
+use Rattle.refusal.specs.declared.Side.the-variants.{Neither}
 
 -- what is wrong with a text: "Places count bytes from 0 in the refused text or body"
 abbrev pub fault : (number place : ℕ) → Fault

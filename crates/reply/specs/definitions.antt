@@ -1,5 +1,3 @@
 -- Read in this order.
 pub mod Reply
-pub mod Terms
-pub mod Forms
-pub mod Compare
+pub mod Calls

@@ -5,8 +5,8 @@ use Prim.Native.Nat.{ℕ}
 use native.Mathlib.Omega.{arith}
 use Rattle.refusal.specs.Refusal.{fault}
 use Rattle.refusal.specs.declared.Fault.{Fault}
-use Rattle.text.specs.definitions.Answer.{Reading, read, refused}
-use Rattle.text.specs.definitions.Limits.{acceptTerm, thenMeasured, measured}
+use Rattle.text.specs.definitions.Bytes.{onward, Reading, read, refused}
+use Rattle.text.specs.definitions.Limits.{acceptTerm, measured}
 use Rattle.text.specs.definitions.Reading.{readTerm}
 use Rattle.text.specs.definitions.Tree.{Tree, placed}
 use Rattle.text_laws.specs.laws.Reading.{reads}
@@ -24,11 +24,11 @@ verdictOf (Done m nx) = Y.Term
 verdictOf Broken = Y.Refused (fault 4 0)
 
 module _ (row s : List ℕ) where
-  accept-is : acceptTerm row s ≡ thenMeasured row (readTerm row s)
+  accept-is : acceptTerm row s ≡ onward (readTerm row s) (measured row)
   unfolding acceptTerm
   accept-is = refl
 
-  not-term : (r : Reading Tree) (f : TermSyntax) → f ≡ syntaxOf r → (f ≡ Y.Term → ⊥) → f ≡ syntaxOf (thenMeasured row r)
+  not-term : (r : Reading Tree) (f : TermSyntax) → f ≡ syntaxOf r → (f ≡ Y.Term → ⊥) → f ≡ syntaxOf (onward r (measured row))
   not-term (refused bad) f h n = h
   not-term (read t) f h n = absurd (n h)
 
@@ -44,7 +44,7 @@ module _ (row s : List ℕ) where
   told-of t (Done m nx) F = ap syntaxOf (sym (F .0))
   told-of t Broken F = absurd F
 
-  by-measures : (r : Reading Tree) → readTerm row s ≡ r → Y.Term ≡ syntaxOf r → (m : Sub) → MeasuredAt row s 0 m → verdictOf m ≡ syntaxOf (thenMeasured row r)
+  by-measures : (r : Reading Tree) → readTerm row s ≡ r → Y.Term ≡ syntaxOf r → (m : Sub) → MeasuredAt row s 0 m → verdictOf m ≡ syntaxOf (onward r (measured row))
   by-measures (refused bad) h k m M = term-refused k
   by-measures (read t) h k m M =
       let I = reads row s t .0 h in

@@ -7,11 +7,8 @@ use Prim.Native.Nat.{ℕ, _+_, _≤_, _<_, min}
 use lib.Dec.{eqb}
 use lib.ListN.{length, getD}
 use Rattle.refusal.specs.Refusal.{fault}
-use Rattle.text.specs.definitions.Answer.{read, refused}
-use Rattle.text.specs.definitions.Bytes.{capital, inRow, indexIn}
+use Rattle.text.specs.definitions.Bytes.{read, refused, capital, inRow, indexIn, valueFrom, decimal, Token, closing, word}
 use Rattle.text.specs.definitions.Limits.{measured}
-use Rattle.text.specs.definitions.Numerals.{valueFrom, dec}
-use Rattle.text.specs.definitions.Tokens.{Token, closing, word}
 use Rattle.text.specs.definitions.Tree.{Tree, placed, letters, termOf}
 use Rattle.term_token.specs.declared.Reader.{Reader}
 use Rattle.term_token.specs.Views.{from}
@@ -65,7 +62,7 @@ Raises s a p k rest r = ((63 < k) × (r ≡ Refused (fault 8 p))) ⊎ ((k ≤ 63
 
 pub record Powers (s w : List ℕ) (at : ℕ) (a : Measures) (p : ℕ) (r : Sub) : Type 0 where
   pub safe : Safe s at r
-  pub found : (k c : ℕ) (rest : List Token) → w ≡ dec k → from s at ≡ closing c ∷ rest → Raises s a p k rest r
+  pub found : (k c : ℕ) (rest : List Token) → w ≡ decimal k → from s at ≡ closing c ∷ rest → Raises s a p k rest r
 
 -- the subterm x stands at a place, with the tokens rest behind it, and its letters are in the row
 pub record Stands (row s : List ℕ) (at : ℕ) (x : Tree) (rest : List Token) : Type 0 where
@@ -90,7 +87,7 @@ pub record ClosingAt (s : List ℕ) (at : ℕ) (r : Closing) : Type 0 where
 
 pub record ExponentAt (s : List ℕ) (at : ℕ) (a : Measures) (p : ℕ) (r : Sub) : Type 0 where
   pub safe : Safe s at r
-  pub found : (q k c : ℕ) (rest : List Token) → from s at ≡ word q (dec k) ∷ (closing c ∷ rest) → Raises s a p k rest r
+  pub found : (q k c : ℕ) (rest : List Token) → from s at ≡ word q (decimal k) ∷ (closing c ∷ rest) → Raises s a p k rest r
 
 -- whatever stands at the place
 pub record MeasuredAt (row s : List ℕ) (at : ℕ) (r : Sub) : Type 0 where

@@ -4,9 +4,7 @@ use mathlib.Core.Bool.{Bool, true, _&&_}
 use mathlib.Core.List.{List, [], _∷_, _++_, append-assoc}
 use Prim.Native.Nat.{ℕ}
 use native.Mathlib.Omega.{arith}
-use Rattle.text.specs.definitions.Bytes.{bytes, capital, inRow}
-use Rattle.text.specs.definitions.Numerals.{dec}
-use Rattle.text.specs.definitions.Tokens.{Token, opening, closing, word}
+use Rattle.text.specs.definitions.Bytes.{bytes, capital, inRow, decimal, Token, opening, closing, word}
 use Rattle.text.specs.definitions.Tree.{Sign, add, sub, mul, signText, Tree, num, letter, neg, two, power, placed, letters}
 use Rattle.text_laws.specs.laws.Bytes.{and-l, and-r}
 use Rattle.term_token.specs.Views.{from}
@@ -22,7 +20,7 @@ pub data Inside (row : List ℕ) (p : ℕ) (ks rest : List Token) : Tree → Typ
   is-neg : (p′ o c : ℕ) (x : Tree) → p ≡ p′ → ks ≡ word o (signText sub) ∷ placed x ++ (closing c ∷ rest) → letters (fit row) x ≡ true → Inside row p ks rest (neg p′ o c x)
   is-two : (p′ o c : ℕ) (g : Sign) (x y : Tree) → p ≡ p′ → ks ≡ word o (signText g) ∷ placed x ++ (placed y ++ (closing c ∷ rest)) → letters (fit row) x ≡ true → letters (fit row) y ≡ true
       → Inside row p ks rest (two p′ o c g x y)
-  is-power : (p′ o c : ℕ) (x : Tree) (q k : ℕ) → p ≡ p′ → ks ≡ word o (bytes "EXPT") ∷ placed x ++ (word q (dec k) ∷ closing c ∷ rest) → letters (fit row) x ≡ true
+  is-power : (p′ o c : ℕ) (x : Tree) (q k : ℕ) → p ≡ p′ → ks ≡ word o (bytes "EXPT") ∷ placed x ++ (word q (decimal k) ∷ closing c ∷ rest) → letters (fit row) x ≡ true
       → Inside row p ks rest (power p′ o c x q k)
 
 same-open : {p q : ℕ} {ks rest : List Token} → opening p ∷ ks ≡ opening q ∷ rest → (p ≡ q) × (ks ≡ rest)
@@ -41,7 +39,7 @@ inside row s at p ks rest (two q o c g x y) e S =
     (and-l (letters (fit row) x) (letters (fit row) y) (S .known)) (and-r (letters (fit row) x) (letters (fit row) y) (S .known))
 inside row s at p ks rest (power q o c x r k) e S =
     let h = same-open (sym e ∙ S .is) in
-    is-power q o c x r k (h .0) (h .1 ∙ ap (λ (z : List Token). word o (bytes "EXPT") ∷ z) (append-assoc (placed x) (word r (dec k) ∷ closing c ∷ []) rest)) (S .known)
+    is-power q o c x r k (h .0) (h .1 ∙ ap (λ (z : List Token). word o (bytes "EXPT") ∷ z) (append-assoc (placed x) (word r (decimal k) ∷ closing c ∷ []) rest)) (S .known)
 
 -- the codes of the signs
 pub sign-code : (g : Sign) (n : ℕ) → n ≡ operatorOf (signText g) → (n ≡ 4 → ⊥) × (n ≡ 0 → ⊥)

@@ -9,8 +9,7 @@ use lib.Dec.{eqb}
 use lib.IntN.{ℤ, pos, negsuc, natAbs}
 use lib.ListN.{length, getD, drop}
 use borrow.Author.Tests.{eq-eqb, ne-eqb}
-use Rattle.text.specs.definitions.Bytes.{all, digit}
-use Rattle.text.specs.definitions.Numerals.{canonical, readInt, readNat, valueFrom, below0, from0}
+use Rattle.text.specs.definitions.Bytes.{all, digit, canonical, readInt, readNat, valueFrom, below0, from0}
 use Rattle.text_laws.specs.laws.Prefixes.{canonical-digits}
 use Rattle.text_word.specs.Words.{isPositive, isInteger, integer-below, integer-natural}
 use Rattle.text_laws.specs.laws.Picks.{pick-yes, pick-no}

@@ -7,7 +7,7 @@ use native.Mathlib.Omega.{arith}
 use lib.Dec.{eqb}
 use lib.ListN.{length}
 use borrow.Author.Tests.{eqb-true, eqb-false}
-use Rattle.text.specs.definitions.Tokens.{Token, opening, closing, word}
+use Rattle.text.specs.definitions.Bytes.{Token, opening, closing, word}
 use Rattle.term_token.specs.declared.Reader.{Reader}
 use Rattle.term_token.specs.declared.Step.the-variants.{Open, Close, Word, End}
 use Rattle.term_token.specs.Steps.{stepOf}

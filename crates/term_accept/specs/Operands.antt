@@ -7,9 +7,7 @@ use native.Mathlib.Omega.{arith}
 use lib.Dec.{eqb, leb}
 use lib.ListN.{length, getD, take, drop}
 use borrow.Author.Tests.{leb-true}
-use Rattle.text.specs.definitions.Bytes.{capital, inRow, indexIn, digit}
-use Rattle.text.specs.definitions.Numerals.{readInt, isSome}
-use Rattle.text.specs.definitions.Tokens.{Token, word}
+use Rattle.text.specs.definitions.Bytes.{capital, inRow, indexIn, digit, readInt, isSome, Token, word}
 use Rattle.text.specs.definitions.Tree.{Tree, num, letter, neg, two, power, placed}
 use Rattle.text_laws.specs.laws.Bytes.{and-l, digit-range}
 use Rattle.text_laws.specs.laws.Descent.{measured-num, measured-letter}

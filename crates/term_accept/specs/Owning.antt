@@ -7,10 +7,8 @@ use native.Mathlib.Omega.{arith}
 use lib.ListN.{length}
 use Rattle.horner.specs.definitions.Measures.{degreesOf}
 use Rattle.horner.specs.laws.Limits.{length-degreesOf}
-use Rattle.text.specs.definitions.Answer.{Reading, read, refused, refusedAt, fine}
-use Rattle.text.specs.definitions.Bytes.{capital, inRow}
-use Rattle.text.specs.definitions.Limits.{exponentFits, passes, measured}
-use Rattle.text.specs.definitions.Tokens.{Token}
+use Rattle.text.specs.definitions.Bytes.{Reading, read, refused, refusedAt, fine, capital, inRow, Token}
+use Rattle.text.specs.definitions.Limits.{exponentFits, overLimit, measured}
 use Rattle.text.specs.definitions.Tree.{Tree, startOf, letters, termOf}
 use Rattle.text_laws.specs.laws.Rows.{letters-over}
 use Rattle.term_token.specs.Views.{from}
@@ -31,7 +29,7 @@ fine-refused (suc n) p r k = refl
 
 module _ (row s : List ℕ) (four : length row ≤ 4) where
   abbrev pub own : Tree → Reading Tree
-  own t = fine (passes row t) (startOf t) (λ u. read t)
+  own t = fine (overLimit row t) (startOf t) (λ u. read t)
 
   -- what is found of the node itself, its parts being within the limits
   abbrev pub Owns : Tree → List Token → Sub → Type 0
@@ -50,10 +48,10 @@ module _ (row s : List ℕ) (four : length row ≤ 4) where
   module _ (t : Tree) (l : letters (λ b. capital b && inRow row b) t ≡ true) (x : exponentFits t ≡ true) (m : Measures) (M : Meets row t m) (p : ℕ) (e : p ≡ startOf t) (rest : List Token) where
     pub owns : (r : Sub) → Judges s m p rest r → Owns t rest r
     owns (Refused bad) J =
-        let z : passes row t ≡ limitM m = same-number row t (short t l) x m M in
-        let a : own t ≡ refusedAt (passes row t) (startOf t) = fine-refused (passes row t) (startOf t) (λ u. read t) (λ h. J .1 .1 (sym z ∙ h)) in
+        let z : overLimit row t ≡ limitM m = same-number row t (short t l) x m M in
+        let a : own t ≡ refusedAt (overLimit row t) (startOf t) = fine-refused (overLimit row t) (startOf t) (λ u. read t) (λ h. J .1 .1 (sym z ∙ h)) in
         a ∙ ap (λ k. refusedAt k (startOf t)) (z ∙ sym (J .1 .0)) ∙ ap (refusedAt (bad .number)) (sym e ∙ sym (J .0))
     owns (Done m′ nx) J =
-        let z : passes row t ≡ 0 = same-number row t (short t l) x m M ∙ J .1 .0 in
-        (fine-zero (passes row t) (startOf t) (λ u. read t) z, (J .0 ∙ is-exact row t (short t l) x m M (J .1 .0), J .1 .1))
+        let z : overLimit row t ≡ 0 = same-number row t (short t l) x m M ∙ J .1 .0 in
+        (fine-zero (overLimit row t) (startOf t) (λ u. read t) z, (J .0 ∙ is-exact row t (short t l) x m M (J .1 .0), J .1 .1))
     owns Broken J = absurd J

@@ -5,8 +5,7 @@ use mathlib.Core.List.{List, [], _∷_, _++_}
 use Prim.Native.Nat.{ℕ, _-_, _≤_, _<_}
 use native.Mathlib.Omega.{arith}
 use lib.ListN.{length, take, drop}
-use Rattle.text.specs.definitions.Numerals.{dec}
-use Rattle.text.specs.definitions.Tokens.{Token, opening, closing, word}
+use Rattle.text.specs.definitions.Bytes.{decimal, Token, opening, closing, word}
 use Rattle.text.specs.definitions.Tree.{Tree, num, letter, neg, two, power, placed}
 use Rattle.term_token.specs.declared.Reader.{Reader}
 use Rattle.term_token.specs.declared.Step.the-variants.{Open, Close, Word, End}
@@ -99,7 +98,7 @@ module _ (s : List ℕ) (at : ℕ) (l : at ≤ length s) where
         }
 
     no-exponent : ((o : ℕ) (w : List ℕ) (rest : List Token) → from s at ≡ word o w ∷ rest → ⊥) → ExponentAt s at a p Broken
-    no-exponent n = record { safe = tt; found = λ q k c rest h. absurd (n q (dec k) (closing c ∷ rest) h) }
+    no-exponent n = record { safe = tt; found = λ q k c rest h. absurd (n q (decimal k) (closing c ∷ rest) h) }
 
     pub exponent-open : (q : ℕ) (nx : Reader) → stepOf (from s at) ≡ Open q nx → ExponentAt s at a p Broken
     exponent-open q nx e = no-exponent (λ o w rest h. open-word (sym (told s at l (Open q nx) e .first) ∙ h))

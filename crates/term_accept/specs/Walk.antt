@@ -10,11 +10,8 @@ use lib.ListN.{length}
 use borrow.Author.Tests.{eq-eqb, ne-eqb, eqb-false, le-leb, lt-leb}
 use Rattle.refusal.specs.declared.Fault.{Fault}
 use Rattle.horner.specs.definitions.Measures.{degreesOf}
-use Rattle.text.specs.definitions.Answer.{Reading, read, refused, refusedAt, fine}
-use Rattle.text.specs.definitions.Bytes.{bytes, all}
-use Rattle.text.specs.definitions.Limits.{weightFits, termsFit, passes, measured}
-use Rattle.text.specs.definitions.Numerals.{dec}
-use Rattle.text.specs.definitions.Tokens.{Token, opening, closing, word}
+use Rattle.text.specs.definitions.Bytes.{Reading, read, refused, refusedAt, fine, bytes, all, decimal, Token, opening, closing, word}
+use Rattle.text.specs.definitions.Limits.{weightFits, termsFit, overLimit, measured}
 use Rattle.text.specs.definitions.Tree.{Sign, add, sub, mul, signText, Tree, neg, two, power, placed, letters, termOf}
 use Rattle.text_laws.specs.laws.Descent.{andThen, measured-neg, measured-two, measured-power}
 use Rattle.text_laws.specs.laws.Bytes.{and-i}
@@ -67,7 +64,7 @@ module _ (row s : List ℕ) (four : length row ≤ 4) (at p : ℕ) (n₁ : Reade
       by : (t : Tree) (rest : List Token) → Inside row p (from s (n₁ .at)) rest t → ⊥
       by t rest (is-neg p′ o c x e k l) = let f = O .found o (signText sub) (placed x ++ (closing c ∷ rest)) k .0 in sign-code sub (op .code) f .1 z
       by t rest (is-two p′ o c g x y e k l m) = let f = O .found o (signText g) (placed x ++ (placed y ++ (closing c ∷ rest))) k .0 in sign-code g (op .code) f .1 z
-      by t rest (is-power p′ o c x q n e k l) = let f : op .code ≡ 4 = O .found o (bytes "EXPT") (placed x ++ (word q (dec n) ∷ closing c ∷ rest)) k .0 in omega arith
+      by t rest (is-power p′ o c x q n e k l) = let f : op .code ≡ 4 = O .found o (bytes "EXPT") (placed x ++ (word q (decimal n) ∷ closing c ∷ rest)) k .0 in omega arith
 
   -- the first part
   module _ (before : at ≤ op .next .at) (r : Sub) (R : MeasuredAt row s (op .next .at) r) where
@@ -78,9 +75,9 @@ module _ (row s : List ℕ) (four : length row ≤ 4) (at p : ℕ) (n₁ : Reade
         → Finds row s x (placed y ++ (closing c ∷ rest)) r
     first-two o c g x y rest k l = R .found x (placed y ++ (closing c ∷ rest)) (record { is = O .found o (signText g) (placed x ++ (placed y ++ (closing c ∷ rest))) k .1; known = l })
 
-    first-power : (o c : ℕ) (x : Tree) (q n : ℕ) (rest : List Token) → from s (n₁ .at) ≡ word o (bytes "EXPT") ∷ placed x ++ (word q (dec n) ∷ closing c ∷ rest) → letters (fit row) x ≡ true
-        → Finds row s x (word q (dec n) ∷ closing c ∷ rest) r
-    first-power o c x q n rest k l = R .found x (word q (dec n) ∷ closing c ∷ rest) (record { is = O .found o (bytes "EXPT") (placed x ++ (word q (dec n) ∷ closing c ∷ rest)) k .1; known = l })
+    first-power : (o c : ℕ) (x : Tree) (q n : ℕ) (rest : List Token) → from s (n₁ .at) ≡ word o (bytes "EXPT") ∷ placed x ++ (word q (decimal n) ∷ closing c ∷ rest) → letters (fit row) x ≡ true
+        → Finds row s x (word q (decimal n) ∷ closing c ∷ rest) r
+    first-power o c x q n rest k l = R .found x (word q (decimal n) ∷ closing c ∷ rest) (record { is = O .found o (bytes "EXPT") (placed x ++ (word q (decimal n) ∷ closing c ∷ rest)) k .1; known = l })
 
     pub first-stops : Stops r → MeasuredAt row s at r
     first-stops S = record { safe = later s at (op .next .at) before r (R .safe); found = λ t rest T. by r S t rest (inside row s at p (from s (n₁ .at)) rest t opens T) refl }
@@ -93,11 +90,11 @@ module _ (row s : List ℕ) (four : length row ≤ 4) (at p : ℕ) (n₁ : Reade
             let m : measured row x ≡ refused bad = subst (Finds row s x (placed y ++ (closing c ∷ rest))) f (first-two o c g x y rest k l) in
             subst (Finds row s t rest) (sym f) (measured-two row p′ o c g x y ∙ ap (λ (z : Reading Tree). andThen z (andThen (measured row y) (own row s four (two p′ o c g x y)))) m)
         by r′ (by-refusal bad) t rest (is-power p′ o c x q′ n h k l) f =
-            let m : measured row x ≡ refused bad = subst (Finds row s x (word q′ (dec n) ∷ closing c ∷ rest)) f (first-power o c x q′ n rest k l) in
+            let m : measured row x ≡ refused bad = subst (Finds row s x (word q′ (decimal n) ∷ closing c ∷ rest)) f (first-power o c x q′ n rest k l) in
             subst (Finds row s t rest) (sym f) (measured-power row p′ o c x q′ n ∙ ap (λ (z : Reading Tree). andThen z (own row s four (power p′ o c x q′ n))) m)
         by r′ by-break t rest (is-neg p′ o c x h k l) f = absurd (subst (Finds row s x (closing c ∷ rest)) f (first-neg o c x rest k l))
         by r′ by-break t rest (is-two p′ o c g x y h k l m′) f = absurd (subst (Finds row s x (placed y ++ (closing c ∷ rest))) f (first-two o c g x y rest k l))
-        by r′ by-break t rest (is-power p′ o c x q′ n h k l) f = absurd (subst (Finds row s x (word q′ (dec n) ∷ closing c ∷ rest)) f (first-power o c x q′ n rest k l))
+        by r′ by-break t rest (is-power p′ o c x q′ n h k l) f = absurd (subst (Finds row s x (word q′ (decimal n) ∷ closing c ∷ rest)) f (first-power o c x q′ n rest k l))
 
     -- the first part is done, with the measures a
     module _ (a : Measures) (past : Reader) (done : r ≡ Done a past) where
@@ -120,7 +117,7 @@ module _ (row s : List ℕ) (four : length row ≤ 4) (at p : ℕ) (n₁ : Reade
           → Owns row s four (power p′ o c x q n) rest e
       power-owns p′ o c x q n h l f rest e (inl (g, z)) =
           let t = power p′ o c x q n in
-          subst (Owns row s four t rest) (sym z) (fine-8 (passes row t) p′ (λ u. read t) (first-8 (leb n 63) (all (λ d. leb d 63) (degreesOf (length row) (termOf row t))) (weightFits row t) (termsFit row t) (lt-leb n 63 g)) ∙ ap (refusedAt 8) (sym h))
+          subst (Owns row s four t rest) (sym z) (fine-8 (overLimit row t) p′ (λ u. read t) (first-8 (leb n 63) (all (λ d. leb d 63) (degreesOf (length row) (termOf row t))) (weightFits row t) (termsFit row t) (lt-leb n 63 g)) ∙ ap (refusedAt 8) (sym h))
       power-owns p′ o c x q n h l f rest e (inr (g, J)) =
           let t = power p′ o c x q n in
           let M : Meets row t (powM a n) = subst (λ m. Meets row t (powM m n)) (sym f) (meets-power row four p′ o c x q n (short row s four t l)) in
@@ -133,14 +130,14 @@ module _ (row s : List ℕ) (four : length row ≤ 4) (at p : ℕ) (n₁ : Reade
           by t rest (is-neg p′ o c x h k l) = absurd (sign-code sub (op .code) (O .found o (signText sub) (placed x ++ (closing c ∷ rest)) k .0) .0 z)
           by t rest (is-two p′ o c g x y h k l m) = absurd (sign-code g (op .code) (O .found o (signText g) (placed x ++ (placed y ++ (closing c ∷ rest))) k .0) .0 z)
           by t rest (is-power p′ o c x q n h k l) =
-              let F : Finds row s x (word q (dec n) ∷ closing c ∷ rest) (Done a past) = subst (Finds row s x (word q (dec n) ∷ closing c ∷ rest)) done (first-power o c x q n rest k l) in
+              let F : Finds row s x (word q (decimal n) ∷ closing c ∷ rest) (Done a past) = subst (Finds row s x (word q (decimal n) ∷ closing c ∷ rest)) done (first-power o c x q n rest k l) in
               let f = measured-power row p′ o c x q n ∙ ap (λ (z : Reading Tree). andThen z (own row s four (power p′ o c x q n))) (F .0) in
               finds row s four (power p′ o c x q n) rest f e (power-owns p′ o c x q n h l (F .1 .0) rest e (E .found q n c rest (F .1 .1)))
 
       -- another operator, and what stands behind the first part
       module _ (no : op .code ≡ 4 → ⊥) (end : Closing) (E : ClosingAt s (past .at) end) where
-        not-power : {P : Type 0} (o c : ℕ) (x : Tree) (q n : ℕ) (rest : List Token) → from s (n₁ .at) ≡ word o (bytes "EXPT") ∷ placed x ++ (word q (dec n) ∷ closing c ∷ rest) → P
-        not-power o c x q n rest k = absurd (no (O .found o (bytes "EXPT") (placed x ++ (word q (dec n) ∷ closing c ∷ rest)) k .0))
+        not-power : {P : Type 0} (o c : ℕ) (x : Tree) (q n : ℕ) (rest : List Token) → from s (n₁ .at) ≡ word o (bytes "EXPT") ∷ placed x ++ (word q (decimal n) ∷ closing c ∷ rest) → P
+        not-power o c x q n rest k = absurd (no (O .found o (bytes "EXPT") (placed x ++ (word q (decimal n) ∷ closing c ∷ rest)) k .0))
 
         not-two : {P : Type 0} (o c : ℕ) (g : Sign) (x y : Tree) (rest : List Token) → end .yes ≡ true → from s (n₁ .at) ≡ word o (signText g) ∷ placed x ++ (placed y ++ (closing c ∷ rest))
             → letters (fit row) x ≡ true → P

@@ -12,8 +12,7 @@ use Rattle.code.specs.laws.Codes.{dec-enc, coded}
 use Rattle.code.proofs.Lists.{begins-le}
 use Rattle.code.proofs.Making.{made-codes}
 use Rattle.horner.specs.definitions.Term.{normP}
-use Rattle.text.specs.definitions.Bytes.{isRow}
-use Rattle.text.specs.definitions.Tokens.{Token}
+use Rattle.text.specs.definitions.Bytes.{isRow, Token}
 use Rattle.text.specs.definitions.Tree.{Tree, termOf}
 use Rattle.code_pair.specs.Pair.{left, right, Pair}
 use Rattle.code_combine.specs.Combine.{combined, Combining}

@@ -6,13 +6,12 @@ use mathlib.Core.Path.{_≡_}
 use Prim.Native.Nat.{ℕ, _≤_}
 use lib.IntN.{ℤ, natAbs}
 use Rattle.horner.specs.definitions.Form.{Form, int}
-use Rattle.horner.specs.definitions.Residues.{Res, redℤ, prime, prime-pos}
+use Rattle.horner.specs.definitions.Rings.{Res, redℤ, prime, prime-pos}
 use Rattle.horner.specs.definitions.Term.{normP}
 use Rattle.code.specs.Coding.{Made}
 use Rattle.code.specs.Widths.{Leaf}
-use Rattle.text.specs.definitions.Bytes.{isRow, capital, inRow}
-use Rattle.text.specs.definitions.Numerals.{writeInt, readInt}
-use Rattle.text.specs.definitions.Parts.{Fits}
+use Rattle.text.specs.definitions.Bytes.{isRow, capital, inRow, writeInt, readInt}
+use Rattle.text.specs.definitions.Meaning.{Fits}
 use Rattle.text.specs.definitions.Tree.{Tree, termOf, letters}
 use Rattle.term_head.specs.Standing.{kindOf, leafWord}
 

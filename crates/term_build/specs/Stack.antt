@@ -8,11 +8,9 @@ use Rattle.horner.specs.definitions.Measures.{termsOf}
 use Rattle.horner.specs.definitions.Term.{normP, expt}
 use Rattle.code.specs.Coding.{Made, enc}
 use Rattle.code_room.specs.Tables.{Tables}
-use Rattle.text.specs.definitions.Answer.{read}
-use Rattle.text.specs.definitions.Bytes.{isRow}
+use Rattle.text.specs.definitions.Bytes.{read, isRow, Token}
 use Rattle.text.specs.definitions.Limits.{acceptTerm}
-use Rattle.text.specs.definitions.Parts.{Part, Fits}
-use Rattle.text.specs.definitions.Tokens.{Token}
+use Rattle.text.specs.definitions.Meaning.{Part, Fits}
 use Rattle.text.specs.definitions.Tree.{Tree, num, letter, neg, two, power, placed, termOf, letters}
 use Rattle.term_token.specs.Views.{from}
 use Rattle.term_build.specs.Leaves.{fit}

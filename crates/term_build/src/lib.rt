@@ -6,7 +6,7 @@ ghost use Rattle.horner.specs.definitions.Form.{int};
 ghost use Rattle.horner.specs.definitions.Term.{normP};
 ghost use Rattle.code.specs.Coding.{Made};
 ghost use Rattle.code.specs.Widths.{leaf};
-ghost use Rattle.text.specs.definitions.Answer.{read};
+ghost use Rattle.text.specs.definitions.Bytes.{read};
 ghost use Rattle.text.specs.definitions.Limits.{acceptTerm};
 ghost use Rattle.text.specs.definitions.Tree.{Tree, termOf};
 ghost use Rattle.term_build.specs.Leaves.{IsInteger, OneLeaf, integerOf, LeafMade};
@@ -100,7 +100,8 @@ pub fn build_term(
 ) -> usize
     requires { ⌜ Given (now row) (now s) ⌝ }
     requires { ⌜ Lent (length (now stack)) (length (now out)) (length (now t)) (length (now u)) ⌝ }
-    ensures { λ r. ⌜ ((x : Tree) → acceptTerm (now (row .entry)) (now (s .entry)) ≡ read x → Made 0 (normP (termOf (now (row .entry)) x)) r (now (stack .exit))) ⌝ }
+    ensures { λ r. ⌜ ((x : Tree) → acceptTerm (now (row .entry)) (now (s .entry))
+        ≡ read x → Made 0 (normP (termOf (now (row .entry)) x)) r (now (stack .exit))) ⌝ }
 {
     let built = build(row, s, 0, stack, out, t, u);
     built.words

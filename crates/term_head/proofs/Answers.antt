@@ -5,7 +5,7 @@ use mathlib.Core.Path.{_≡_, ap, subst, _∙_}
 use Prim.Native.Nat.{ℕ}
 use types.Run.{OneOf, miss}
 use denote.Enum.Declared.{tagOf}
-use Rattle.text.specs.definitions.Tokens.{Token, closing, word}
+use Rattle.text.specs.definitions.Bytes.{Token, closing, word}
 use Rattle.term_token.specs.declared.Step.{Step}
 use Rattle.term_token.specs.Steps.{stepOf}
 use Rattle.term_token.proofs.Step.{the-type}

@@ -4,8 +4,7 @@ use mathlib.Core.List.{List, [], _∷_, _++_}
 use mathlib.Core.Path.{_≡_}
 use Prim.Native.Nat.{ℕ, zero, suc, _+_, _-_, _≤_, _<_, min}
 use lib.ListN.{length, take, drop}
-use Rattle.text.specs.definitions.Numerals.{dec, writeInt}
-use Rattle.text.specs.definitions.Tokens.{Token, opening, closing, word}
+use Rattle.text.specs.definitions.Bytes.{decimal, writeInt, Token, opening, closing, word}
 use Rattle.text.specs.definitions.Tree.{Sign, add, sub, mul, Tree, num, letter, neg, two, power, placed}
 use Rattle.term_token.specs.Views.{from}
 use Rattle.text_word.specs.Words.{operatorOf}
@@ -54,14 +53,14 @@ inner (num p z) = []
 inner (letter p b) = []
 inner (neg p o c x) = placed x ++ (closing c ∷ [])
 inner (two p o c g x y) = placed x ++ (placed y ++ (closing c ∷ []))
-inner (power p o c x q n) = placed x ++ (word q (dec n) ∷ closing c ∷ [])
+inner (power p o c x q n) = placed x ++ (word q (decimal n) ∷ closing c ∷ [])
 
 abbrev pub tailOf : Tree → List Token
 tailOf (num p z) = []
 tailOf (letter p b) = []
 tailOf (neg p o c x) = closing c ∷ []
 tailOf (two p o c g x y) = placed y ++ (closing c ∷ [])
-tailOf (power p o c x q n) = word q (dec n) ∷ closing c ∷ []
+tailOf (power p o c x q n) = word q (decimal n) ∷ closing c ∷ []
 
 abbrev pub isZero : ℕ → Bool
 isZero zero = true
@@ -142,8 +141,8 @@ pub record Raised (s : List ℕ) (at : ℕ) : Type 0 where
   pub q : ℕ
   pub n : ℕ
   pub ks : List Token
-  pub tokens : from s at ≡ word q (dec n) ∷ ks
+  pub tokens : from s at ≡ word q (decimal n) ∷ ks
   pub inside : at ≤ length s
 
 abbrev pub ExponentRead : (s : List ℕ) (at value next : ℕ) → Type 0
-ExponentRead s at value next = (q n : ℕ) (ks : List Token) → from s at ≡ word q (dec n) ∷ ks → (value ≡ min n 63) × Onto s at next ks
+ExponentRead s at value next = (q n : ℕ) (ks : List Token) → from s at ≡ word q (decimal n) ∷ ks → (value ≡ min n 63) × Onto s at next ks

@@ -5,7 +5,7 @@ use Prim.Native.Nat.{ℕ}
 use Rattle.refusal.specs.declared.Fault.{Fault}
 use Rattle.horner.specs.definitions.Term.{normP}
 use Rattle.code.specs.Coding.{Made}
-use Rattle.text.specs.definitions.Answer.{read, refused}
+use Rattle.text.specs.definitions.Bytes.{read, refused}
 use Rattle.text.specs.definitions.Limits.{acceptTerm}
 use Rattle.text.specs.definitions.Tree.{Tree, termOf}
 use Rattle.term_read.specs.declared.TermReading.{TermReading}

@@ -1,9 +1,7 @@
 -- What the syntax pass answers: the reading of a term without what was read.
 use mathlib.Core.List.{List, [], _∷_}
-use Prim.Native.Nat.{ℕ}
 use Rattle.refusal.specs.Refusal.{fault}
-use Rattle.text.specs.definitions.Answer.{Reading, read, refused}
-use Rattle.text.specs.definitions.Tokens.{Token, placeOf}
+use Rattle.text.specs.definitions.Bytes.{Reading, read, refused, Token, placeOf}
 use Rattle.text.specs.definitions.Tree.{Tree}
 use Rattle.term_syntax.specs.declared.TermSyntax.{TermSyntax}
 use Rattle.term_syntax.specs.declared.TermSyntax.the-variants.{Term, Refused}

@@ -1,29 +1,23 @@
 -- The machine's numbers stand for the states of the reading, and its moves for the steps.
-use mathlib.Core.Path.{_≡_, refl, sym, ap, _∙_, subst}
-use mathlib.Core.Bool.{Bool, true, false, cond, not, _&&_}
+use mathlib.Core.Path.{_≡_, refl, sym, _∙_, subst}
+use mathlib.Core.Bool.{Bool, true, false, cond}
 use mathlib.Core.List.{List, [], _∷_}
-use mathlib.Core.Option.{Option, none, some}
-use Prim.Native.Nat.{ℕ, zero, suc, _+_, _-_, _*_, _/_, _%_, _^_, _≤_, _<_}
+use Prim.Native.Nat.{ℕ, zero, suc, _+_, _-_, _*_, _/_, _%_, _≤_, _<_}
 use native.Mathlib.Omega.{arith}
 use native.Mathlib.Nat as NatL
 use lib.Dec.{eqb, ltb}
-use lib.ListN.{length, getD}
+use lib.ListN.{length}
 use borrow.Author.Tests.{eq-eqb, ne-eqb, lt-ltb, le-ltb}
-use Rattle.text.specs.definitions.Bytes.{bytes, same, capital, inRow, indexIn}
-use Rattle.text.specs.definitions.Numerals.{canonical, readInt, readNat, valueFrom, dec, writeInt, isSome}
-use Rattle.text.specs.definitions.Tokens.{Token, opening, closing, word}
-use Rattle.text.specs.definitions.Tree.{Sign, add, sub, mul, Tree, num, letter, neg, two, power}
-use Rattle.text.specs.definitions.Reading.{Frame, first, second, base, Spot, operand, operator, exponent, ending, raised, Next, on, whole, off, deliver, lone, intOr, leaf, deliverSome, operatorWord, raise, closeShort, step, caseNext, letterCheck, check}
-use Rattle.text_laws.specs.laws.Bytes.{same-eq}
-use Rattle.text_laws.specs.laws.Numerals.{int-read, dec-read}
-use Rattle.text_laws.specs.laws.Words.{check-num}
-use Rattle.text_word.specs.Words.{isInteger, operatorOf}
-use Rattle.text_word.specs.Laws.{integer-some, in-row, operator-0}
+use Rattle.text.specs.definitions.Bytes.{Token, opening, closing}
+use Rattle.text.specs.definitions.Tree.{Sign, add, sub, mul, Tree, neg, two, power}
+use Rattle.text.specs.definitions.Reading.{Frame, first, second, base, Spot, operand, operator, exponent, ending, raised, Next, on, whole}
+use Rattle.text.specs.definitions.Reading.{off, deliver, closeShort, step}
+use Rattle.text.specs.definitions.Reading.{check}
 use Rattle.term_syntax.specs.declared.State.{State}
 use Rattle.term_syntax.specs.declared.Moved.{Moved}
 use Rattle.term_syntax.specs.declared.Moved.the-variants.{On, Whole, Off}
-use Rattle.text_laws.specs.laws.Picks.{pick, pick-yes, pick-no}
-use Rattle.term_syntax.specs.Machine.{goes, deliverC, closeShortC, closeC, letterC, leafC, pushC, operatorC, exponentC, wordC, openC}
+use Rattle.text_laws.specs.laws.Picks.{pick-yes, pick-no}
+use Rattle.term_syntax.specs.Machine.{goes, deliverC, closeShortC, closeC, openC}
 
 -- ---- the numbers
 abbrev pub signCode : Sign → ℕ

@@ -7,31 +7,29 @@ use mathlib.Core.Option.{Option, none, some}
 use Prim.Native.Nat.{ℕ, zero, suc, _+_, _-_, _*_, _^_, _≤_, _<_}
 use native.Mathlib.Omega.{arith}
 use native.Mathlib.Nat as NatL
-use native.Mathlib.Numerals.{add-one}
-use lib.Dec.{ltb, leb}
+use lib.Dec.{ltb}
 use lib.ListN.{length, take, drop}
 use borrow.Author.Tests.{ltb-true, le-leb}
-use Rattle.text.specs.definitions.Answer.{Reading, read, refusedAt, fine}
-use Rattle.text.specs.definitions.Bytes.{bytes, same, inRow}
-use Rattle.text.specs.definitions.Numerals.{readNat}
-use Rattle.text.specs.definitions.Tokens.{Token, opening, closing, word, placeOf, tokens}
+use Rattle.text.specs.definitions.Bytes.{Reading, refusedAt, fine, bytes, same, inRow, readNat, Token, opening, closing, word}
+use Rattle.text.specs.definitions.Bytes.{placeOf, tokens}
 use Rattle.text.specs.definitions.Tree.{add, sub, mul, Tree, neg, two, power}
-use Rattle.text.specs.definitions.Reading.{Frame, first, second, base, Spot, operand, operator, exponent, ending, raised, Next, on, whole, off, deliver, deliverSome, leaf, operatorWord, raise, closeShort, letterCheck, step, caseNext, check, onlyEnd, run, readTerm}
+use Rattle.text.specs.definitions.Reading.{Frame, first, second, base, Spot, operand, operator, exponent, ending, raised, Next, on, whole}
+use Rattle.text.specs.definitions.Reading.{off, deliver, deliverSome, leaf, operatorWord, raise, closeShort, letterCheck, step, caseNext}
+use Rattle.text.specs.definitions.Reading.{check, onlyEnd, run, readTerm}
 use Rattle.term_token.specs.declared.Reader.{Reader}
 use Rattle.term_token.specs.declared.Step.{Step}
 use Rattle.term_token.specs.declared.Step.the-variants.{Open, Close, Word, End}
 use Rattle.term_token.specs.Steps.{stepOf}
 use Rattle.term_token.specs.Views.{from, Past, Opened, Closed, Worded}
 use Rattle.term_syntax.specs.declared.State.{State}
-use Rattle.term_syntax.specs.declared.Moved.{Moved}
-use Rattle.term_syntax.specs.declared.Moved.the-variants.{On, Whole, Off}
+use Rattle.term_syntax.specs.declared.Moved.the-variants.{On, Whole}
 use Rattle.term_syntax.specs.declared.Turning.{Turning}
 use Rattle.term_syntax.specs.declared.Turning.the-variants as T
-use Rattle.term_syntax.specs.declared.TermSyntax.{TermSyntax}
-use Rattle.term_syntax.specs.declared.TermSyntax.the-variants.{Term, Refused}
+use Rattle.term_syntax.specs.declared.TermSyntax.the-variants.{Refused}
 use Rattle.term_syntax.specs.Answer.{syntaxOf, endOf}
-use Rattle.term_syntax.specs.Machine.{Small, Sane, openC, closeC, wordC, turnOf, turnC}
-use Rattle.term_syntax.specs.Codes.{frameCode, frame-range, stackCode, spotCode, stateOf, Turned, go, done, stop, nextA, checked, movedA, turnA, code-open, code-close}
+use Rattle.term_syntax.specs.Machine.{Sane, openC, closeC, wordC, turnOf, turnC}
+use Rattle.term_syntax.specs.Codes.{frame-range, stackCode, spotCode, stateOf, Turned, go, done, stop, nextA, checked}
+use Rattle.term_syntax.specs.Codes.{movedA, turnA, code-open, code-close}
 use Rattle.term_syntax.specs.Words.{code-word}
 use Rattle.term_syntax.specs.Turns.{told}
 

@@ -5,9 +5,7 @@ use Prim.Native.Nat.{ℕ, _+_, _-_, _*_, _/_, _%_, _<_}
 use lib.Dec.{eqb, ltb}
 use lib.ListN.{length, getD}
 use Rattle.refusal.specs.Refusal.{fault}
-use Rattle.text.specs.definitions.Bytes.{capital, indexIn}
-use Rattle.text.specs.definitions.Numerals.{canonical}
-use Rattle.text.specs.definitions.Tokens.{Token, opening, closing, word}
+use Rattle.text.specs.definitions.Bytes.{capital, indexIn, canonical, Token, opening, closing, word}
 use Rattle.term_token.specs.declared.Reader.{Reader}
 use Rattle.text_laws.specs.laws.Picks.{pick}
 use Rattle.text_word.specs.Words.{isInteger, operatorOf}

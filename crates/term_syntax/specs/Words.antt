@@ -6,25 +6,26 @@ use mathlib.Core.Option.{Option, none, some}
 use Prim.Native.Nat.{ℕ, zero, suc, _+_, _*_}
 use native.Mathlib.Omega.{arith}
 use native.Mathlib.Numerals.{add-one}
-use lib.Dec.{eqb, ltb}
+use lib.Dec.{eqb}
 use lib.IntN.{ℤ, pos}
 use lib.ListN.{length, getD}
 use borrow.Author.Tests.{ne-eqb}
-use Rattle.text.specs.definitions.Bytes.{bytes, same, capital, inRow, indexIn}
-use Rattle.text.specs.definitions.Numerals.{canonical, readInt, readNat, valueFrom, dec, writeInt, isSome}
-use Rattle.text.specs.definitions.Tokens.{Token, word}
-use Rattle.text.specs.definitions.Tree.{Sign, add, sub, mul, Tree, num, letter}
-use Rattle.text.specs.definitions.Reading.{Frame, first, second, base, Spot, operand, operator, exponent, ending, raised, Next, on, off, deliver, lone, intOr, leaf, deliverSome, operatorWord, raise, step, letterCheck, check}
+use Rattle.text.specs.definitions.Bytes.{bytes, same, capital, inRow, canonical, readInt, readNat, valueFrom}
+use Rattle.text.specs.definitions.Bytes.{isSome, word}
+use Rattle.text.specs.definitions.Tree.{add, sub, mul, Tree, num, letter}
+use Rattle.text.specs.definitions.Reading.{Frame, first, second, base, Spot, operand, operator, exponent, ending, raised, on, off}
+use Rattle.text.specs.definitions.Reading.{deliver, lone, intOr, deliverSome, operatorWord, raise, letterCheck}
 use Rattle.text_laws.specs.laws.Bytes.{same-eq, same-refl, not-both}
-use Rattle.text_laws.specs.laws.Numerals.{int-read, dec-read}
+use Rattle.text_laws.specs.laws.Numerals.{int-read, decimal-read}
 use Rattle.text_laws.specs.laws.Words.{check-num}
-use Rattle.text_word.specs.Words.{isInteger, operatorOf}
+use Rattle.text_word.specs.Words.{operatorOf}
 use Rattle.text_word.specs.Laws.{integer-some, in-row, operator-0}
 use Rattle.term_syntax.specs.declared.Moved.{Moved}
-use Rattle.term_syntax.specs.declared.Moved.the-variants.{On, Whole, Off}
+use Rattle.term_syntax.specs.declared.Moved.the-variants.{Off}
 use Rattle.text_laws.specs.laws.Picks.{pick, pick-yes, pick-no}
-use Rattle.term_syntax.specs.Machine.{goes, deliverC, letterC, leafC, pushC, operatorC, exponentC, wordC}
-use Rattle.term_syntax.specs.Codes.{signCode, stackCode, stateOf, Turned, go, done, stop, nextA, checked, movedA, turnA, code-deliver}
+use Rattle.term_syntax.specs.Machine.{goes, letterC, leafC, pushC, operatorC, exponentC, wordC}
+use Rattle.term_syntax.specs.Codes.{stackCode, stateOf, go, stop, nextA, checked, movedA, turnA}
+use Rattle.term_syntax.specs.Codes.{code-deliver}
 
 -- ---- an operand
 module _ (row : List ℕ) (room : ℕ → Bool) (fs : List Frame) (p : ℕ) where
@@ -118,7 +119,7 @@ module _ (known room : ℕ → Bool) (fs : List Frame) (p o : ℕ) (x : Tree) (q
       at : (b : Bool) → canonical w ≡ b → movedA (checked (letterCheck known room w) (nextA (raise p o x q (cond b (some (valueFrom 0 w)) none) fs))) ≡ exponentC w (stackCode fs) (length fs)
       at true e =
           ap (λ c. movedA (checked c (go (raised p o x q (valueFrom 0 w)) fs)))
-          (ap (letterCheck known room) (sym (dec-read w (valueFrom 0 w) (ap (λ b. cond b (some (valueFrom 0 w)) none) e))) ∙ check-num known room (pos (valueFrom 0 w)))
+          (ap (letterCheck known room) (sym (decimal-read w (valueFrom 0 w) (ap (λ b. cond b (some (valueFrom 0 w)) none) e))) ∙ check-num known room (pos (valueFrom 0 w)))
           ∙ sym (pick-yes _ _ e)
       at false e = off-4 known room fs p o (letterCheck known room w) ∙ sym (pick-no _ _ e)
 

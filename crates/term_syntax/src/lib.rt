@@ -5,13 +5,13 @@ use term_token::Step;
 ghost use mathlib.Core.Path.{_≡_};
 ghost use Prim.Native.Nat.{_≤_, _<_};
 ghost use lib.ListN.{length, drop};
-ghost use Rattle.text.specs.definitions.Tokens.{tokens};
+ghost use Rattle.text.specs.definitions.Bytes.{tokens};
 ghost use Rattle.text.specs.definitions.Reading.{readTerm};
 ghost use Rattle.term_syntax.specs.Machine.{deliverC, closeC, wordC, turnC, Small, Sane};
 ghost use Rattle.term_syntax.specs.Answer.{syntaxOf, endOf};
 
-// What may come (0 an operand, 1 an operator, 2 an exponent, 3 a closing parenthesis), the open parentheses, the last one lowest (1 to 3 an operator that
-// waits for its first operand, 4 to 6 for its second, 7 EXPT for its base), and how many they are.
+// What may come (0 an operand, 1 an operator, 2 an exponent, 3 a closing parenthesis), the open parentheses, the last one lowest (1 to 3
+// an operator that waits for its first operand, 4 to 6 for its second, 7 EXPT for its base), and how many they are.
 pub struct State {
     pub spot: u32,
     pub stack: u64,
@@ -195,7 +195,8 @@ fn turn_of(m: Moved, p: usize, next: Reader) -> Turning
 // One token.
 fn turn(row: &[u8], s: &[u8], state: State, reader: Reader) -> Turning
     requires { ⌜ (reader .at ≤ length (now s)) × Sane state ⌝ }
-    ensures { λ r. ⌜ r ≡ turnC (now (row .entry)) (length (now (s .entry))) state (tokens (reader .at) (drop (reader .at) (now (s .entry)))) ⌝ }
+    ensures { λ r. ⌜ r ≡ turnC (now (row .entry)) (length (now (s .entry))) state
+        (tokens (reader .at) (drop (reader .at) (now (s .entry)))) ⌝ }
 {
     let step = reader.next(s);
     match step {

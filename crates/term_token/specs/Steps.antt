@@ -4,8 +4,7 @@ use mathlib.Core.List.{List, [], _∷_}
 use Prim.Native.Nat.{ℕ, suc, _+_}
 use lib.Dec.{eqb}
 use lib.ListN.{length}
-use Rattle.text.specs.definitions.Bytes.{blank}
-use Rattle.text.specs.definitions.Tokens.{Token, opening, closing, word}
+use Rattle.text.specs.definitions.Bytes.{blank, Token, opening, closing, word}
 use Rattle.term_token.specs.declared.Step.{Step}
 use Rattle.term_token.specs.declared.Step.the-variants.{Open, Close, Word, End}
 

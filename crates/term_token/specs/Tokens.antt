@@ -1,16 +1,14 @@
 -- The tokens from a place on, by what stands there: a blank is passed over, a parenthesis is a token, and a longest run is a word.
 use mathlib.Core.Path.{_≡_, refl, sym, ap, _∙_, subst}
-use mathlib.Core.Bool.{Bool, true, false, not, _&&_, true≢false}
+use mathlib.Core.Bool.{Bool, true, false, true≢false}
 use mathlib.Core.List.{List, [], _∷_}
-use Prim.Native.Nat.{ℕ, zero, suc, _+_, _-_, _≤_, _<_}
+use Prim.Native.Nat.{ℕ, zero, suc, _+_, _≤_}
 use native.Mathlib.Omega.{arith}
-use native.Mathlib.Numerals.{add-one}
 use lib.Dec.{eqb}
-use lib.ListN.{length, take, drop, getD, drop-of-length-le, length-drop}
-use lib.Seq.{drop-cons, drop-drop, length-take-le}
+use lib.ListN.{take, drop}
 use borrow.Author.Tests.{eq-eqb, ne-eqb, eqb-true}
-use Rattle.text.specs.definitions.Bytes.{blank}
-use Rattle.text.specs.definitions.Tokens.{Token, opening, closing, word, placeOf, Class, gap, left, right, plain as plainClass, classOf, join, put, tokens}
+use Rattle.text.specs.definitions.Bytes.{blank, Token, opening, closing, word, placeOf, Class, gap, left, right, plain as plainClass}
+use Rattle.text.specs.definitions.Bytes.{classOf, join, put, tokens}
 use Rattle.term_token.specs.Steps.{plain, more, lead}
 
 -- ---- the class of a byte
@@ -115,7 +113,9 @@ join-last p x [] h = refl
 join-last p x (y ∷ ys) h = at (plain y) refl
   where
     of : Other y → join p x (tokens (suc p) (y ∷ ys)) ≡ word p (x ∷ []) ∷ tokens (suc p) (y ∷ ys)
-    of (a-gap g) = subst (λ ks. join p x ks ≡ word p (x ∷ []) ∷ ks) (sym (tokens-gap (suc p) y ys g)) (join-apart p x (tokens (suc (suc p)) ys) (starts (suc (suc p)) ys))
+    of (a-gap g) =
+        subst (λ ks. join p x ks ≡ word p (x ∷ []) ∷ ks) (sym (tokens-gap (suc p) y ys g))
+        (join-apart p x (tokens (suc (suc p)) ys) (starts (suc (suc p)) ys))
     of (a-left e) = subst (λ ks. join p x ks ≡ word p (x ∷ []) ∷ ks) (sym (tokens-open (suc p) y ys e)) refl
     of (a-right e) = subst (λ ks. join p x ks ≡ word p (x ∷ []) ∷ ks) (sym (tokens-close (suc p) y ys e)) refl
 
@@ -123,7 +123,8 @@ join-last p x (y ∷ ys) h = at (plain y) refl
     at true e = absurd (omega (arith, sym h ∙ ap (λ b. more b (lead plain ys)) e))
     at false e = of (other y e)
 
-pub tokens-word : (p : ℕ) (xs : List ℕ) (n : ℕ) → lead plain xs ≡ suc n → tokens p xs ≡ word p (take (suc n) xs) ∷ tokens (p + suc n) (drop (suc n) xs)
+pub tokens-word :
+    (p : ℕ) (xs : List ℕ) (n : ℕ) → lead plain xs ≡ suc n → tokens p xs ≡ word p (take (suc n) xs) ∷ tokens (p + suc n) (drop (suc n) xs)
 unfolding lead
 tokens-word p [] n h = absurd (omega arith)
 tokens-word p (x ∷ xs) n h = at (plain x) refl n refl (λ m. tokens-word (suc p) xs m)
@@ -134,10 +135,17 @@ tokens-word p (x ∷ xs) n h = at (plain x) refl n refl (λ m. tokens-word (suc 
     at false e k f r = absurd (omega (arith, sym h ∙ ap (λ b. more b (lead plain xs)) e))
     at true e zero f r =
         let l : lead plain xs ≡ 0 = omega (arith, sym h ∙ ap (λ b. more b (lead plain xs)) e) in
-        tokens-join p x xs e ∙ join-last p x xs l ∙ subst (λ n. word p (x ∷ []) ∷ tokens (suc p) xs ≡ word p (x ∷ take n xs) ∷ tokens (p + suc n) (drop n xs)) f
+        tokens-join p x xs e ∙ join-last p x xs l
+        ∙ subst (λ n. word p (x ∷ []) ∷ tokens (suc p) xs ≡ word p (x ∷ take n xs) ∷ tokens (p + suc n) (drop n xs)) f
         (ap (λ q. word p (x ∷ []) ∷ tokens q xs) (omega arith))
     at true e (suc m) f r =
         let l : lead plain xs ≡ suc m = omega (arith, sym h ∙ ap (λ b. more b (lead plain xs)) e) in
-        tokens-join p x xs e ∙ ap (join p x) (r m l) ∙ subst (λ n. join p x (word (suc p) (take (suc m) xs) ∷ tokens (suc p + suc m) (drop (suc m) xs)) ≡ word p (x ∷ take n xs) ∷ tokens (p + suc n) (drop n xs)) f
-        (ap (λ b. elim b [ true ↦ word p (x ∷ take (suc m) xs) ∷ tokens (suc p + suc m) (drop (suc m) xs) | false ↦ word p (x ∷ []) ∷ word (suc p) (take (suc m) xs) ∷ tokens (suc p + suc m) (drop (suc m) xs) ]) (eq-eqb (suc p) (suc p) refl)
+        tokens-join p x xs e ∙ ap (join p x) (r m l)
+        ∙ subst (λ n. join p x (word (suc p) (take (suc m) xs) ∷ tokens (suc p + suc m) (drop (suc m) xs)) ≡ word p (x ∷ take n xs) ∷
+        tokens (p + suc n) (drop n xs)) f
+        (ap (λ b. elim b [
+          | true ↦ word p (x ∷ take (suc m) xs) ∷ tokens (suc p + suc m) (drop (suc m) xs)
+          | false ↦ word p (x ∷ []) ∷
+              word (suc p) (take (suc m) xs) ∷ tokens (suc p + suc m) (drop (suc m) xs)
+        ]) (eq-eqb (suc p) (suc p) refl)
         ∙ ap (λ q. word p (x ∷ take (suc m) xs) ∷ tokens q (drop (suc m) xs)) (omega arith))

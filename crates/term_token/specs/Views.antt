@@ -1,9 +1,9 @@
 -- What stands at a place of a text, and what each answer of the token reader says of it.
 use mathlib.Core.Path.{_≡_, refl, sym, ap, _∙_, subst}
 use mathlib.Core.Logic.{_⊎_, inl, inr}
-use mathlib.Core.Bool.{Bool, true, false, not, _&&_, true≢false}
+use mathlib.Core.Bool.{Bool, true, false, not, _&&_}
 use mathlib.Core.List.{List, [], _∷_}
-use Prim.Native.Nat.{ℕ, zero, suc, _+_, _-_, _≤_, _<_}
+use Prim.Native.Nat.{ℕ, suc, _+_, _-_, _≤_, _<_}
 use native.Mathlib.Omega.{arith}
 use native.Mathlib.Numerals.{add-one}
 use lib.Dec.{eqb}
@@ -11,8 +11,7 @@ use lib.ListN.{length, take, drop, getD, drop-of-length-le, length-drop}
 use lib.Seq.{drop-cons, drop-drop, length-take-le, getD-drop}
 use borrow.Author.Tests.{ne-eqb, eqb-true, eqb-false}
 use Rattle.horner.specs.laws.Compare.{lt-or-ge}
-use Rattle.text.specs.definitions.Bytes.{blank}
-use Rattle.text.specs.definitions.Tokens.{Token, opening, closing, word, tokens}
+use Rattle.text.specs.definitions.Bytes.{blank, Token, opening, closing, word, tokens}
 use Rattle.term_token.specs.declared.Reader.{Reader}
 use Rattle.term_token.specs.declared.Step.{Step}
 use Rattle.term_token.specs.declared.Step.the-variants.{Open, Close, Word, End}
@@ -35,7 +34,9 @@ unfolding lead
 lead-stop t [] h = absurd (omega arith)
 lead-stop t (x ∷ xs) h = at (t x) refl h (lead-stop t xs)
   where
-    at : (b : Bool) → t x ≡ b → more b (lead t xs) < suc (length xs) → (lead t xs < length xs → t (getD xs (lead t xs) 0) ≡ false) → t (getD (x ∷ xs) (more b (lead t xs)) 0) ≡ false
+    at :
+        (b : Bool) → t x ≡ b → more b (lead t xs) < suc (length xs) → (lead t xs < length xs → t (getD xs (lead t xs) 0) ≡ false) →
+        t (getD (x ∷ xs) (more b (lead t xs)) 0) ≡ false
     at true e g r = r (omega arith)
     at false e g r = e
 
@@ -73,7 +74,8 @@ module _ (s : List ℕ) where
     from-close e = from-cons ∙ tokens-close b (getD s b 0) (drop (suc b) s) e
 
     from-word : (n : ℕ) → lead plain (drop b s) ≡ suc n → from b ≡ word b (take (suc n) (drop b s)) ∷ from (b + suc n)
-    from-word n e = tokens-word b (drop b s) n e ∙ ap (λ ys. word b (take (suc n) (drop b s)) ∷ tokens (b + suc n) ys) (drop-drop (suc n) b s)
+    from-word n e =
+        tokens-word b (drop b s) n e ∙ ap (λ ys. word b (take (suc n) (drop b s)) ∷ tokens (b + suc n) ys) (drop-drop (suc n) b s)
 
   from-end : (b : ℕ) → length s ≤ b → from b ≡ []
   unfolding tokens
@@ -137,11 +139,19 @@ module _ (s : List ℕ) (at : ℕ) (l : at ≤ length s) where
 
   pub says-open : begin s at < length s → getD s (begin s at) 0 ≡ 40 → Opened s at (begin s at) (record { at = begin s at + 1 })
   says-open h e =
-      record { first = from-begin s at ∙ from-open s (begin s at) h e ∙ ap (λ q. opening (begin s at) ∷ from s q) (sym (add-one (begin s at))); past = one-past h }
+      record {
+        first = from-begin s at ∙ from-open s (begin s at) h e
+            ∙ ap (λ q. opening (begin s at) ∷ from s q) (sym (add-one (begin s at)));
+        past = one-past h;
+      }
 
   pub says-close : begin s at < length s → getD s (begin s at) 0 ≡ 41 → Closed s at (begin s at) (record { at = begin s at + 1 })
   says-close h e =
-      record { first = from-begin s at ∙ from-close s (begin s at) h e ∙ ap (λ q. closing (begin s at) ∷ from s q) (sym (add-one (begin s at))); past = one-past h }
+      record {
+        first = from-begin s at ∙ from-close s (begin s at) h e
+            ∙ ap (λ q. closing (begin s at) ∷ from s q) (sym (add-one (begin s at)));
+        past = one-past h;
+      }
 
   -- the run from the first place that has no blank
   abbrev pub width : ℕ
@@ -158,7 +168,8 @@ module _ (s : List ℕ) (at : ℕ) (l : at ≤ length s) where
       record {
         first =
             from-begin s at ∙ from-word s (begin s at) h (lead plain (drop (suc (begin s at)) s)) e
-            ∙ ap (λ q. word (begin s at) (take (suc (lead plain (drop (suc (begin s at)) s))) (drop (begin s at) s)) ∷ from s (begin s at + q)) (sym e)
+            ∙ ap (λ q. word (begin s at) (take (suc (lead plain (drop (suc (begin s at)) s))) (drop (begin s at) s)) ∷ from s
+            (begin s at + q)) (sym e)
             ∙ ap (λ q. word (begin s at) (take q (drop (begin s at) s)) ∷ from s (begin s at + width)) (sym f);
         past = record { later = omega arith; more = omega arith; inside = width-le };
       }
@@ -174,7 +185,8 @@ module _ (s : List ℕ) (at p : ℕ) (nx : Reader) where
   pub step-word : Worded s at p nx → stepOf (from s at) ≡ Word p (record { at = nx .at })
   step-word o =
       ap stepOf (o .first)
-      ∙ ap (λ q. Word p (record { at = q })) (ap (λ m. p + m) (length-take-le (nx .at - p) (drop p s) (omega (arith, length-drop p s, o .past .inside))) ∙ omega (arith, o .past .more))
+      ∙ ap (λ q. Word p (record { at = q })) (ap (λ m. p + m)
+      (length-take-le (nx .at - p) (drop p s) (omega (arith, length-drop p s, o .past .inside))) ∙ omega (arith, o .past .more))
 
 pub step-end : (s : List ℕ) (at : ℕ) → from s at ≡ [] → stepOf (from s at) ≡ End
 step-end s at e = ap stepOf e

@@ -1,10 +1,8 @@
 // The tokens of a text, one after the other, and what a word is.
 ghost use mathlib.Core.Path.{_≡_};
-ghost use Prim.Native.Nat.{_≤_, _<_, min};
+ghost use Prim.Native.Nat.{_≤_, _<_};
 ghost use lib.ListN.{length, drop};
-ghost use Rattle.text.specs.definitions.Bytes.{blank, digit, capital, inRow, all};
-ghost use Rattle.text.specs.definitions.Tokens.{tokens};
-ghost use Rattle.text.specs.definitions.Numerals.{canonical};
+ghost use Rattle.text.specs.definitions.Bytes.{blank, tokens};
 ghost use Rattle.term_token.specs.Steps.{plain, lead, stepOf};
 
 // How far a text has been read. Each method consumes it, and hands on the token together with the advanced reader.

@@ -6,16 +6,15 @@ use Prim.Native.String.{String}
 use lib.Dec.{T, eqb}
 use lib.ListN.{length}
 use Rattle.horner.specs.definitions.Points.{firstPoint, gap, sides}
-use Rattle.horner.specs.definitions.Residues.{P-ring}
+use Rattle.horner.specs.definitions.Rings.{P-ring}
 use Rattle.horner.specs.definitions.Term.{Term, normℤ, evalP}
-use Rattle.text.specs.definitions.Answer.{Reading, read, refused}
-use Rattle.text.specs.definitions.Bytes.{bytes, same}
-use Rattle.text.specs.definitions.FormText.{text}
+use Rattle.text.specs.definitions.Bytes.{Reading, read, refused, bytes, same, decimal}
+use Rattle.text.specs.definitions.FormReading.{text}
 use Rattle.text.specs.definitions.Limits.{acceptTerm}
-use Rattle.text.specs.definitions.Numerals.{dec}
 use Rattle.text.specs.definitions.Tree.{Tree, termOf}
 
--- over a row: a term's text and its form's text; a term's text and its refusal; two terms' texts, the first point at which their remainders differ, and those
+-- over a row: a term's text and its form's text; a term's text and its refusal; two terms' texts, the first point at which their
+-- remainders differ, and those
 pub data Case : Type 0 where
   has : (row term form : String) → Case
   refuses : (row term : String) (number place : ℕ) → Case
@@ -39,13 +38,13 @@ areDifferent row (refused bad) (read u) N l r = false
 areDifferent row (refused bad) (refused bad′) N l r = false
 
 abbrev pub holds : Case → Bool
-unfolding acceptTerm dec
+unfolding acceptTerm decimal
 holds (has row s t) = isText (bytes row) (acceptTerm (bytes row) (bytes s)) (bytes t)
 holds (refuses row s e p) = isRefused (acceptTerm (bytes row) (bytes s)) e p
 holds (differ row s t N l r) = areDifferent (bytes row) (acceptTerm (bytes row) (bytes s)) (acceptTerm (bytes row) (bytes t)) N l r
 
 abbrev pub allHold : List Case → Bool
-unfolding acceptTerm dec
+unfolding acceptTerm decimal
 allHold [] = true
 allHold (c ∷ cs) = holds c && allHold cs
 
@@ -66,5 +65,5 @@ cases =
     []
 
 pub cases-hold : T (allHold cases)
-unfolding acceptTerm dec
+unfolding acceptTerm decimal
 cases-hold = tt

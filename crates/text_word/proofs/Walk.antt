@@ -1,19 +1,17 @@
 -- Laws for loops that walk over the bytes of a text: what is left from i on, and from i + 1 on.
-use mathlib.Core.Path.{_≡_, refl, sym, ap, _∙_}
+use mathlib.Core.Path.{_≡_, sym, ap, _∙_}
 use mathlib.Core.Logic.{_⊎_, inl, inr}
-use mathlib.Core.Bool.{Bool, true, false, cond, _&&_}
+use mathlib.Core.Bool.{Bool, true, false, _&&_}
 use mathlib.Core.List.{List, [], _∷_}
-use Prim.Native.Nat.{ℕ, zero, suc, _+_, _-_, _*_, _≤_, _<_, min}
+use Prim.Native.Nat.{ℕ, suc, _+_, _-_, _*_, _≤_, _<_, min}
 use native.Mathlib.Omega.{arith}
 use native.Mathlib.Numerals.{add-one}
-use lib.Dec.{eqb}
 use lib.ListN.{length, getD, drop, drop-of-length-le}
 use lib.Seq.{drop-cons}
 use borrow.Author.Tests.{eq-eqb, ne-eqb}
 use Rattle.horner.specs.laws.Compare.{lt-or-ge}
-use Rattle.text.specs.definitions.Bytes.{all, digit, indexIn}
-use Rattle.text.specs.definitions.Numerals.{valueFrom}
-use Rattle.text_laws.specs.laws.Bytes.{and-l, and-r, digit-range}
+use Rattle.text.specs.definitions.Bytes.{all, indexIn, valueFrom}
+use Rattle.text_laws.specs.laws.Bytes.{and-l, and-r}
 
 -- the bytes from i on are the one at i and those from i + 1 on
 pub one-on : (s : List ℕ) (i : ℕ) → i < length s → drop i s ≡ getD s i 0 ∷ drop (i + 1) s
@@ -42,7 +40,8 @@ module _ (row : List ℕ) (b i : ℕ) where
   pub index-on : i < length row → (getD row i 0 ≡ b → ⊥) → i + indexIn (drop i row) b ≡ (i + 1) + indexIn (drop (i + 1) row) b
   index-on h n =
       ap (λ l. i + indexIn l b) (one-on row i h)
-      ∙ ap (λ c. i + elim c [ true ↦ 0 | false ↦ suc (indexIn (drop (i + 1) row) b) ]) (ne-eqb b (getD row i 0) (λ e. n (sym e))) ∙ omega arith
+      ∙ ap (λ c. i + elim c [ true ↦ 0 | false ↦ suc (indexIn (drop (i + 1) row) b) ]) (ne-eqb b (getD row i 0) (λ e. n (sym e)))
+      ∙ omega arith
 
   pub index-here : i < length row → getD row i 0 ≡ b → i + indexIn (drop i row) b ≡ i
   index-here h e =
@@ -65,7 +64,9 @@ value-cut a L xs = at (lt-or-ge L a)
     at (inr h) = ap (λ m. min (valueFrom m xs) L) (omega arith)
 
 -- one more digit
-pub value-on : (w : List ℕ) (i a L : ℕ) → i < length w → min (valueFrom a (drop i w)) L ≡ min (valueFrom (min (a * 10 + (getD w i 0 - 48)) L) (drop (i + 1) w)) L
+pub value-on :
+    (w : List ℕ) (i a L : ℕ) → i < length w →
+    min (valueFrom a (drop i w)) L ≡ min (valueFrom (min (a * 10 + (getD w i 0 - 48)) L) (drop (i + 1) w)) L
 value-on w i a L h = ap (λ l. min (valueFrom a l) L) (one-on w i h) ∙ sym (value-cut (a * 10 + (getD w i 0 - 48)) L (drop (i + 1) w))
 
 pub value-end : (w : List ℕ) (i a : ℕ) → length w ≤ i → valueFrom a (drop i w) ≡ a

@@ -1,6 +1,6 @@
 -- The tests on words are the definitions' own.
 use mathlib.Core.Path.{_≡_, refl, sym, ap, _∙_, subst}
-use mathlib.Core.Bool.{Bool, true, false, cond, not, _&&_, _||_, true≢false}
+use mathlib.Core.Bool.{Bool, true, false, cond, _||_}
 use mathlib.Core.List.{List, [], _∷_}
 use Prim.Native.Nat.{ℕ, zero, suc, _+_, _-_, _*_, _≤_, _<_}
 use native.Mathlib.Omega.{arith}
@@ -10,13 +10,12 @@ use lib.ListN.{length}
 use mathlib.Core.Logic.{_⊎_, inl, inr}
 use native.Mathlib.Nat as NatL
 use Rattle.horner.specs.laws.Compare.{lt-or-ge}
-use mathlib.Core.Option.{Option, none, some}
-use borrow.Author.Tests.{eq-eqb, ne-eqb, eqb-true, eqb-false, lt-ltb, le-ltb}
-use Rattle.text.specs.definitions.Bytes.{bytes, same, all, digit, inRow, indexIn}
-use Rattle.text.specs.definitions.Numerals.{canonical, readInt, readNat, valueFrom, below0, from0, isEmpty}
-use Rattle.text.specs.definitions.Numerals.{isSome}
-use Rattle.text_laws.specs.laws.Bytes.{same-eq, same-refl, digit-range, and-l, and-r}
-use Rattle.text_word.specs.Words.{isPositive, isInteger, operatorShort, operatorLong, operatorOf}
+use mathlib.Core.Option.{none, some}
+use borrow.Author.Tests.{eqb-true, eqb-false, lt-ltb, le-ltb}
+use Rattle.text.specs.definitions.Bytes.{bytes, all, digit, inRow, indexIn, canonical, readInt, readNat, valueFrom, below0, from0}
+use Rattle.text.specs.definitions.Bytes.{isEmpty, isSome}
+use Rattle.text_laws.specs.laws.Bytes.{digit-range, and-l}
+use Rattle.text_word.specs.Words.{isPositive, isInteger, operatorOf}
 
 -- ---- integers
 -- digits that do not begin with 0 stand for more than 0
@@ -35,19 +34,29 @@ module _ (x : ℕ) (xs : List ℕ) where
 
       at : (ys : List ℕ) → isSome (below0 (cond (canonical (x ∷ ys)) (some (valueFrom 0 (x ∷ ys))) none)) ≡ false
       at [] = subst (λ z. isSome (below0 (cond (canonical (z ∷ [])) (some (valueFrom 0 (z ∷ []))) none)) ≡ false) (sym x-is) refl
-      at (y ∷ ys) = subst (λ z. isSome (below0 (cond (canonical (z ∷ y ∷ ys)) (some (valueFrom 0 (z ∷ y ∷ ys))) none)) ≡ false) (sym x-is) refl
+      at (y ∷ ys) =
+          subst (λ z. isSome (below0 (cond (canonical (z ∷ y ∷ ys)) (some (valueFrom 0 (z ∷ y ∷ ys))) none)) ≡ false) (sym x-is) refl
 
   nat-digits : eqb x 48 ≡ false → isSome (below0 (readNat (x ∷ xs))) ≡ all digit (x ∷ xs)
   unfolding readNat
   nat-digits e =
-      ap (λ b. isSome (below0 (cond (elim b [ true ↦ isEmpty xs | false ↦ all digit (x ∷ xs) ]) (some (valueFrom 0 (x ∷ xs))) none))) e ∙ at (all digit (x ∷ xs)) refl
+      ap (λ b. isSome (below0 (cond (elim b [ true ↦ isEmpty xs | false ↦ all digit (x ∷ xs) ]) (some (valueFrom 0 (x ∷ xs))) none))) e
+      ∙ at (all digit (x ∷ xs)) refl
     where
       some-more : (n : ℕ) → 1 ≤ n → isSome (below0 (some n)) ≡ true
       some-more zero h = absurd (omega arith)
       some-more (suc n) h = refl
 
       at : (b : Bool) → all digit (x ∷ xs) ≡ b → isSome (below0 (cond b (some (valueFrom 0 (x ∷ xs))) none)) ≡ b
-      at true f = some-more (valueFrom 0 (x ∷ xs)) (omega (arith, digit-range x (and-l (digit x) (all digit xs) f), eqb-false x 48 e, value-le (0 * 10 + (x - 48)) xs, not-48 (eqb-false x 48 e) (digit-range x (and-l (digit x) (all digit xs) f) .0)))
+      at true f =
+          some-more (valueFrom 0 (x ∷ xs)) (omega (
+            arith,
+            digit-range x (and-l (digit x) (all digit xs) f),
+            eqb-false x 48 e,
+            value-le (0 * 10 + (x - 48)) xs,
+            not-48
+                (eqb-false x 48 e) (digit-range x (and-l (digit x) (all digit xs) f) .0),
+          ))
         where
           not-48 : (x ≡ 48 → ⊥) → 48 ≤ x → 49 ≤ x
           not-48 n l = by (NatL.eq-or-lt-of-le l)
@@ -79,7 +88,10 @@ unfolding readInt
 integer-some [] = refl
 integer-some (x ∷ xs) = at (eqb x 45)
   where
-    at : (b : Bool) → elim b [ true ↦ isPositive xs | false ↦ canonical (x ∷ xs) ] ≡ isSome {A = ℤ} (elim b [ true ↦ below0 (readNat xs) | false ↦ from0 (readNat (x ∷ xs)) ])
+    at :
+        (b : Bool) →
+        elim b [ true ↦ isPositive xs | false ↦ canonical (x ∷ xs) ] ≡ isSome {A = ℤ}
+        (elim b [ true ↦ below0 (readNat xs) | false ↦ from0 (readNat (x ∷ xs)) ])
     at true = positive-some xs
     at false = natural-some (x ∷ xs)
 
@@ -88,11 +100,15 @@ pub in-row : (row : List ℕ) (b : ℕ) → inRow row b ≡ ltb (indexIn row b) 
 in-row [] b = sym (le-ltb 0 0 (omega arith))
 in-row (c ∷ cs) b = at (eqb b c) (in-row cs b)
   where
-    at : (t : Bool) → inRow cs b ≡ ltb (indexIn cs b) (length cs) → (t || inRow cs b) ≡ ltb (elim t [ true ↦ 0 | false ↦ suc (indexIn cs b) ]) (suc (length cs))
+    at :
+        (t : Bool) → inRow cs b ≡ ltb (indexIn cs b) (length cs) →
+        (t || inRow cs b) ≡ ltb (elim t [ true ↦ 0 | false ↦ suc (indexIn cs b) ]) (suc (length cs))
     at true e = sym (lt-ltb 0 (suc (length cs)) (omega arith))
     at false e = e ∙ up (lt-or-ge (indexIn cs b) (length cs))
       where
-        up : (indexIn cs b < length cs) ⊎ (length cs ≤ indexIn cs b) → ltb (indexIn cs b) (length cs) ≡ ltb (suc (indexIn cs b)) (suc (length cs))
+        up :
+            (indexIn cs b < length cs) ⊎ (length cs ≤ indexIn cs b) →
+            ltb (indexIn cs b) (length cs) ≡ ltb (suc (indexIn cs b)) (suc (length cs))
         up (inl h) = lt-ltb (indexIn cs b) (length cs) h ∙ sym (lt-ltb (suc (indexIn cs b)) (suc (length cs)) (omega arith))
         up (inr h) = le-ltb (indexIn cs b) (length cs) h ∙ sym (le-ltb (suc (indexIn cs b)) (suc (length cs)) (omega arith))
 
@@ -104,7 +120,9 @@ operator-0 (a ∷ []) p m t e = at (eqb a 43) refl (eqb a 45) refl (eqb a 42) re
     one : (n : ℕ) → eqb a n ≡ true → a ∷ [] ≡ n ∷ []
     one n q = ap (λ z. z ∷ []) (eqb-true a n q)
 
-    at : (x : Bool) → eqb a 43 ≡ x → (y : Bool) → eqb a 45 ≡ y → (z : Bool) → eqb a 42 ≡ z → _≡_ {A = ℕ} (elim x [ true ↦ 1 | false ↦ elim y [ true ↦ 2 | false ↦ elim z [ true ↦ 3 | false ↦ 0 ] ] ]) 0
+    at :
+        (x : Bool) → eqb a 43 ≡ x → (y : Bool) → eqb a 45 ≡ y → (z : Bool) → eqb a 42 ≡ z →
+        _≡_ {A = ℕ} (elim x [ true ↦ 1 | false ↦ elim y [ true ↦ 2 | false ↦ elim z [ true ↦ 3 | false ↦ 0 ] ] ]) 0
     at true f y g z h = absurd (p (one 43 f))
     at false f true g z h = absurd (m (one 45 g))
     at false f false g true h = absurd (t (one 42 h))
@@ -114,7 +132,8 @@ operator-0 (a ∷ b ∷ c ∷ []) p m t e = refl
 operator-0 (a ∷ b ∷ c ∷ d ∷ []) p m t e = at (eqb a 69) refl (eqb b 88) refl (eqb c 80) refl (eqb d 84) refl
   where
     at : (x : Bool) → eqb a 69 ≡ x → (y : Bool) → eqb b 88 ≡ y → (z : Bool) → eqb c 80 ≡ z → (w : Bool) → eqb d 84 ≡ w
-        → _≡_ {A = ℕ} (elim x [ true ↦ elim y [ true ↦ elim z [ true ↦ elim w [ true ↦ 4 | false ↦ 0 ] | false ↦ 0 ] | false ↦ 0 ] | false ↦ 0 ]) 0
+        → _≡_ {A = ℕ}
+        (elim x [ true ↦ elim y [ true ↦ elim z [ true ↦ elim w [ true ↦ 4 | false ↦ 0 ] | false ↦ 0 ] | false ↦ 0 ] | false ↦ 0 ]) 0
     at true f true g true h true k = absurd (e (λ i. eqb-true a 69 f i ∷ eqb-true b 88 g i ∷ eqb-true c 80 h i ∷ eqb-true d 84 k i ∷ []))
     at true f true g true h false k = refl
     at true f true g false h w k = refl

@@ -1,15 +1,13 @@
 -- Tests on words, as code runs them, and that they are the definitions' own.
 use mathlib.Core.Path.{_≡_, refl, sym, ap, _∙_}
-use mathlib.Core.Bool.{Bool, true, false, cond, not, _&&_}
+use mathlib.Core.Bool.{Bool, true, false, _&&_}
 use mathlib.Core.List.{List, [], _∷_}
-use Prim.Native.Nat.{ℕ, zero, suc, _+_, _<_}
+use Prim.Native.Nat.{ℕ, suc, _<_}
 use native.Mathlib.Omega.{arith}
-use lib.Dec.{eqb, ltb}
+use lib.Dec.{eqb}
 use lib.ListN.{length, getD, drop}
 use borrow.Author.Tests.{eq-eqb, ne-eqb}
-use Rattle.text.specs.definitions.Bytes.{same, bytes, all, digit, inRow, indexIn}
-use Rattle.text.specs.definitions.Numerals.{canonical, readInt, readNat, isEmpty}
-use Rattle.text.specs.definitions.Numerals.{isSome}
+use Rattle.text.specs.definitions.Bytes.{all, digit, canonical, isEmpty}
 
 -- digits that do not begin with 0
 abbrev pub isPositive : List ℕ → Bool
@@ -25,7 +23,11 @@ operatorShort b = elim (eqb b 43) [ true ↦ 1 | false ↦ elim (eqb b 45) [ tru
 
 abbrev pub operatorLong : ℕ → ℕ → ℕ → ℕ → ℕ
 operatorLong a b c d =
-    elim (eqb a 69) [ true ↦ elim (eqb b 88) [ true ↦ elim (eqb c 80) [ true ↦ elim (eqb d 84) [ true ↦ 4 | false ↦ 0 ] | false ↦ 0 ] | false ↦ 0 ] | false ↦ 0 ]
+    elim (eqb a 69) [
+      | true ↦ elim (eqb b 88)
+          [ true ↦ elim (eqb c 80) [ true ↦ elim (eqb d 84) [ true ↦ 4 | false ↦ 0 ] | false ↦ 0 ] | false ↦ 0 ]
+      | false ↦ 0
+    ]
 
 -- 1 for `+`, 2 for `-`, 3 for `*`, 4 for `EXPT`, else 0
 abbrev pub operatorOf : List ℕ → ℕ
@@ -44,7 +46,9 @@ natural-none (x ∷ w) h = absurd (omega arith)
 pub natural-zero : (w : List ℕ) → 0 < length w → getD w 0 0 ≡ 48 → canonical w ≡ eqb (length w) 1
 natural-zero [] h e = absurd (omega arith)
 natural-zero (x ∷ []) h e = ap (λ b. elim b [ true ↦ true | false ↦ digit x && true ]) (eq-eqb x 48 e)
-natural-zero (x ∷ y ∷ w) h e = ap (λ b. elim b [ true ↦ false | false ↦ digit x && all digit (y ∷ w) ]) (eq-eqb x 48 e) ∙ sym (ne-eqb (suc (suc (length w))) 1 (λ f. omega arith))
+natural-zero (x ∷ y ∷ w) h e =
+    ap (λ b. elim b [ true ↦ false | false ↦ digit x && all digit (y ∷ w) ]) (eq-eqb x 48 e)
+    ∙ sym (ne-eqb (suc (suc (length w))) 1 (λ f. omega arith))
 
 pub natural-digits : (w : List ℕ) → 0 < length w → (getD w 0 0 ≡ 48 → ⊥) → canonical w ≡ all digit w
 natural-digits [] h n = absurd (omega arith)

@@ -1,10 +1,8 @@
 // What a word is: an integer, an operator, a letter of the row; and rows.
 ghost use mathlib.Core.Path.{_≡_};
 ghost use mathlib.Core.Bool.{true};
-ghost use Prim.Native.Nat.{_≤_, _<_, min};
-ghost use lib.ListN.{length, drop};
-ghost use Rattle.text.specs.definitions.Bytes.{digit, capital, indexIn, isRow, all};
-ghost use Rattle.text.specs.definitions.Numerals.{canonical, valueFrom};
+ghost use Prim.Native.Nat.{_<_, min};
+ghost use Rattle.text.specs.definitions.Bytes.{digit, capital, indexIn, all, canonical, valueFrom};
 ghost use Rattle.text_word.specs.Words.{isInteger, operatorOf, operatorLong};
 
 pub fn is_digit(b: u8) -> bool

@@ -1,5 +1,6 @@
-// What is lent to a call in try k. 0: tables of 16,384 words. 1 to 4: that table is a word short. 5: all are 7 words longer, and a point is one longer. 6: no letter.
-// 7: five letters. 8: the result or the point is one short, the counters' width none. 9: it is exact. 10: the left text is refused. 11: the right one is.
+// What is lent to a call in try k. 0: tables of 16,384 words. 1 to 4: that table is a word short. 5: all are 7 words longer, and a point
+// is one longer. 6: no letter. 7: five letters. 8: the result or the point is one short, the counters' width none. 9: it is exact. 10: the
+// left text is refused. 11: the right one is.
 ghost use Prim.Native.Nat.{_≤_};
 
 // n, or most where that is less, so that a part of this length is always there.

@@ -1,7 +1,7 @@
 -- The whole answer, and the call.
-use mathlib.Core.Bool.{Bool, true, false}
+use mathlib.Core.Bool.{true, false}
 use mathlib.Core.List.{List, [], _∷_, _++_}
-use mathlib.Core.Path.{_≡_, refl, sym, ap, ap₂, subst, _∙_}
+use mathlib.Core.Path.{_≡_, refl, sym, ap, ap₂, _∙_}
 use Prim.Native.Nat.{ℕ, _<_, _≤_}
 use native.Mathlib.Omega.{arith}
 use borrow.Author.Tests.{le-leb, lt-leb, leb-true}
@@ -10,11 +10,10 @@ use lib.ListN.{length, take, drop}
 use lib.Seq.{take-at}
 use Rattle.refusal.specs.Refusal.{ofNeither}
 use Rattle.refusal.specs.declared.Fault.{Fault}
-use Rattle.text.specs.definitions.Answer.{Reading, read, refused}
+use Rattle.text.specs.definitions.Bytes.{Reading, read, refused}
 use Rattle.text_laws.specs.laws.Bytes.{and-l, and-r}
 use Rattle.reply.specs.definitions.Reply.{Reply, gives, refuses, asked, enough, fitted, work, Writes}
-use Rattle.book.specs.definitions.Reading.{Book, readBook}
-use Rattle.book.specs.definitions.Answer.{answer, printed, printReply}
+use Rattle.book.specs.definitions.Book.{Book, readBook, answer, printed, printReply}
 use Rattle.form_write.specs.Write.{Wrote}
 use Rattle.door.specs.laws.Ending.{Zeros}
 use Rattle.door_result.specs.laws.Whole.{refused-whole, answered-whole}
@@ -71,8 +70,11 @@ module _ (x : Reply (List ℕ)) (o a b c d : List ℕ) where
     pub whole-11 : x ≡ refuses (ofNeither 11) → Writes x (W.Refused (ofNeither 11)) o o (work a b c d) (work a′ b′ c′ d′)
     whole-11 k = answered-whole x (refuses (ofNeither 11)) o a b c d k refl refl refl z
 
-    pub whole-text : {n r : ℕ} {w v o′ : List ℕ} → x ≡ gives w → n ≡ length w → v ≡ w → Wrote r v o o′ → Writes x (W.Text n) o o′ (work a b c d) (work a′ b′ c′ d′)
-    whole-text {w = w} k e f g = answered-whole x (gives w) o a b c d k refl (ap W.Text e) (g .is ∙ ap₂ (λ u m. u ++ drop m o) f (g .size ∙ ap length f)) z
+    pub whole-text :
+        {n r : ℕ} {w v o′ : List ℕ} → x ≡ gives w → n ≡ length w → v ≡ w → Wrote r v o o′ →
+        Writes x (W.Text n) o o′ (work a b c d) (work a′ b′ c′ d′)
+    whole-text {w = w} k e f g =
+        answered-whole x (gives w) o a b c d k refl (ap W.Text e) (g .is ∙ ap₂ (λ u m. u ++ drop m o) f (g .size ∙ ap length f)) z
 
 -- the text that was written in front
 pub front : {n : ℕ} {w old new : List ℕ} → Wrote n w old new → take n new ≡ w

@@ -1,32 +1,31 @@
 -- A body's two fields, case by case.
-use mathlib.Core.Bool.{Bool, true, false}
 use mathlib.Core.List.{List}
-use mathlib.Core.Path.{_≡_, refl, sym, ap, _∙_}
+use mathlib.Core.Path.{_≡_, sym, _∙_}
 use Prim.Native.Nat.{ℕ, _+_, _<_, _≤_}
 use native.Mathlib.Omega.{arith}
 use borrow.Author.Tests.{le-leb, lt-leb, leb-true, eq-eqb, ne-eqb}
 use lib.Dec.{leb, eqb}
 use lib.ListN.{length}
 use Rattle.refusal.specs.declared.Fault.{Fault}
-use Rattle.text.specs.definitions.Answer.{Reading, read, refused, refusedAt}
-use Rattle.book.specs.definitions.Reading.{right, whole, onward, number16, body}
-use Rattle.book_read.specs.Heads.{bodyOf, bothOf}
+use Rattle.text.specs.definitions.Bytes.{Reading, read, refused, refusedAt}
+use Rattle.book.specs.definitions.Book.{must, whole, number16, body}
+use Rattle.book_read.specs.Heads.{bodyOf}
 use Rattle.book_read.specs.declared.Body.{Body}
 use Rattle.book_read.specs.declared.Body.the-variants as B
-use Rattle.book_read.specs.laws.Fields.{is-right, is-wrong, is-whole, is-cut, right-read}
+use Rattle.book_read.specs.laws.Fields.{is-must, is-wrong, is-whole, is-cut, right-read}
 
 module _ (book : List ℕ) (p at : ℕ) where
   abbrev length-right : Unit {0} → Reading ℕ
   length-right x = read (number16 book (p + 2))
 
   abbrev length-field : Unit {0} → Reading ℕ
-  length-field w = right (leb (at + number16 book (p + 2)) (length book)) (p + 2) length-right
+  length-field w = must (leb (at + number16 book (p + 2)) (length book)) (p + 2) length-right
 
   abbrev offset-right : Unit {0} → Reading ℕ
   offset-right v = whole book (p + 2) 2 length-field
 
   abbrev offset-field : Unit {0} → Reading ℕ
-  offset-field u = right (eqb (number16 book p) at) p offset-right
+  offset-field u = must (eqb (number16 book p) at) p offset-right
 
   pub offset-cut : length book < p + 2 → body book p at ≡ refusedAt 13 (length book)
   offset-cut h = is-cut offset-field book p 2 h
@@ -40,7 +39,7 @@ module _ (book : List ℕ) (p at : ℕ) where
 
     module _ (is-offset : number16 book p ≡ at) where
       offset-fine : body book p at ≡ offset-right tt
-      offset-fine = offset-there ∙ is-right offset-right p (eq-eqb (number16 book p) at is-offset)
+      offset-fine = offset-there ∙ is-must offset-right p (eq-eqb (number16 book p) at is-offset)
 
       pub length-cut : length book < p + 2 + 2 → body book p at ≡ refusedAt 13 (length book)
       length-cut h = offset-fine ∙ is-cut length-field book (p + 2) 2 h
@@ -53,7 +52,7 @@ module _ (book : List ℕ) (p at : ℕ) where
         length-wrong h = length-there ∙ is-wrong length-right (p + 2) (lt-leb (at + number16 book (p + 2)) (length book) h)
 
         pub length-fine : at + number16 book (p + 2) ≤ length book → body book p at ≡ read (number16 book (p + 2))
-        length-fine h = length-there ∙ is-right length-right (p + 2) (le-leb (at + number16 book (p + 2)) (length book) h)
+        length-fine h = length-there ∙ is-must length-right (p + 2) (le-leb (at + number16 book (p + 2)) (length book) h)
 
 -- what was answered of a reading
 pub was-read : (x : Reading ℕ) {r : Body} {n : ℕ} → r ≡ bodyOf x → r ≡ B.Length n → x ≡ read n
@@ -78,4 +77,12 @@ body-is book p at n e =
     let d = right-read (length-right book p at) (leb (at + number16 book (p + 2)) (length book)) (p + 2) (c .1) in
     let f : read (number16 book (p + 2)) ≡ read n = d .1 in
     let g : n ≡ number16 book (p + 2) = cc in
-    record { field = leb-true (p + 2 + 2) (length book) (c .0); inside = omega (arith, g, leb-true (at + number16 book (p + 2)) (length book) (d .0)); size = g }
+    record {
+      field = leb-true (p + 2 + 2) (length book) (c .0);
+      inside = omega (
+        arith,
+        g,
+        leb-true (at + number16 book (p + 2)) (length book) (d .0),
+      );
+      size = g;
+    }

@@ -1,5 +1,4 @@
 -- Entries, one by one.
-use mathlib.Core.Bool.{Bool, true, false}
 use mathlib.Core.List.{List, [], _∷_}
 use mathlib.Core.Path.{_≡_, refl, sym, ap, ap₂, _∙_}
 use Prim.Native.Nat.{ℕ, zero, suc, _+_, _-_, _<_, _≤_}
@@ -8,20 +7,19 @@ use borrow.Author.Tests.{le-leb, lt-leb}
 use lib.ListN.{length}
 use Rattle.refusal.specs.Refusal.{fault}
 use Rattle.refusal.specs.declared.Fault.{Fault}
-use Rattle.text.specs.definitions.Answer.{Reading, read, refused}
-use Rattle.book.specs.definitions.Reading.{Entry, onward, right, body, entries, part}
+use Rattle.text.specs.definitions.Bytes.{onward, Reading, read, refused}
+use Rattle.book.specs.definitions.Book.{Entry, body, entries, part}
 use Rattle.book_read.specs.Heads.{headOf, bodyOf, bothOf}
-use Rattle.book_read.specs.declared.Head.{Head}
 use Rattle.book_read.specs.declared.Head.the-variants as H
 use Rattle.book_read.specs.declared.Body.{Body}
 use Rattle.book_read.specs.declared.Body.the-variants as B
-use Rattle.book_read.specs.laws.Fields.{is-right, is-wrong, no-read}
-use Rattle.book_read.specs.laws.Bodies.{IsBody, body-is, was-read, was-refused}
+use Rattle.book_read.specs.laws.Fields.{is-must, is-wrong, no-read}
+use Rattle.book_read.specs.laws.Bodies.{body-is, was-read, was-refused}
 
 module _ (book : List ℕ) (p at : ℕ) where
   -- ---- no entry is left
   pub end-fine : {k : ℕ} → k ≡ 0 → length book ≤ at → headOf (entries book p at k) ≡ H.Fine
-  end-fine {k} e h = ap (λ n. headOf (entries book p at n)) e ∙ ap headOf (is-right (λ u. read []) at (le-leb (length book) at h))
+  end-fine {k} e h = ap (λ n. headOf (entries book p at n)) e ∙ ap headOf (is-must (λ u. read []) at (le-leb (length book) at h))
 
   pub end-long : {k : ℕ} → k ≡ 0 → at < length book → headOf (entries book p at k) ≡ H.Refused (fault 13 at)
   end-long {k} e h = ap (λ n. headOf (entries book p at n)) e ∙ ap headOf (is-wrong (λ u. read []) at (lt-leb (length book) at h))
@@ -33,7 +31,8 @@ module _ (book : List ℕ) (p at : ℕ) where
   pub cloud-then : (m : ℕ) → body book p at ≡ read m → bothOf book p at ≡ onward (body book (p + 4) (at + m)) (λ n. read (m + n))
   cloud-then m h = ap (λ x. onward x (λ m. onward (body book (p + 4) (at + m)) (λ n. read (m + n)))) h
 
-  pub cloud-refused : (m : ℕ) {bad : Fault} → body book p at ≡ read m → body book (p + 4) (at + m) ≡ refused bad → bothOf book p at ≡ refused bad
+  pub cloud-refused :
+      (m : ℕ) {bad : Fault} → body book p at ≡ read m → body book (p + 4) (at + m) ≡ refused bad → bothOf book p at ≡ refused bad
   cloud-refused m h i = cloud-then m h ∙ ap (λ x. onward x (λ n. read (m + n))) i
 
   pub both-read : (m n : ℕ) → body book p at ≡ read m → body book (p + 4) (at + m) ≡ read n → bothOf book p at ≡ read (m + n)
@@ -67,7 +66,8 @@ module _ (book : List ℕ) (p at : ℕ) where
 
   -- ---- the first of k entries
   abbrev rest : (k m n : ℕ) → Reading (List Entry)
-  rest k m n = onward (entries book (p + 8) (at + m + n) k) (λ es. read (record { panel = part book at m; cloud = part book (at + m) n } ∷ es))
+  rest k m n =
+      onward (entries book (p + 8) (at + m + n) k) (λ es. read (record { panel = part book at m; cloud = part book (at + m) n } ∷ es))
 
   abbrev clouds : (k m : ℕ) → Reading (List Entry)
   clouds k m = onward (body book (p + 4) (at + m)) (rest k m)
@@ -78,8 +78,11 @@ module _ (book : List ℕ) (p at : ℕ) where
   both-refused : (k : ℕ) {bad : Fault} → bothOf book p at ≡ refused bad → entries book p at (suc k) ≡ refused bad
   both-refused k {bad} b = first (body book p at) refl
     where
-      second : (m : ℕ) → body book p at ≡ read m → (y : Reading ℕ) → body book (p + 4) (at + m) ≡ y → entries book p at (suc k) ≡ refused bad
-      second m h (refused worse) i = ap (λ x. onward x (clouds k)) h ∙ ap (λ x. onward x (rest k m)) i ∙ (let f : refused worse ≡ refused bad = sym (cloud-refused m h i) ∙ b in cc)
+      second :
+          (m : ℕ) → body book p at ≡ read m → (y : Reading ℕ) → body book (p + 4) (at + m) ≡ y → entries book p at (suc k) ≡ refused bad
+      second m h (refused worse) i =
+          ap (λ x. onward x (clouds k)) h ∙ ap (λ x. onward x (rest k m)) i
+          ∙ (let f : refused worse ≡ refused bad = sym (cloud-refused m h i) ∙ b in cc)
       second m h (read n) i = no-read (sym b ∙ both-read m n h i)
 
       first : (x : Reading ℕ) → body book p at ≡ x → entries book p at (suc k) ≡ refused bad
@@ -113,14 +116,19 @@ head-onward : {A B : Type 0} (x : Reading A) (f : A → B) → headOf (onward x 
 head-onward (read a) f = refl
 head-onward (refused bad) f = refl
 
-pub entries-refused : (book : List ℕ) (p at k : ℕ) {b : Body} {bad : Fault} → (k ≡ 0 → ⊥) → b ≡ bodyOf (bothOf book p at) → b ≡ B.Refused bad → H.Refused bad ≡ headOf (entries book p at k)
+pub entries-refused :
+    (book : List ℕ) (p at k : ℕ) {b : Body} {bad : Fault} → (k ≡ 0 → ⊥) → b ≡ bodyOf (bothOf book p at) → b ≡ B.Refused bad →
+    H.Refused bad ≡ headOf (entries book p at k)
 entries-refused book p at zero h i j = absurd (h refl)
 entries-refused book p at (suc k) h i j = ap headOf (sym (both-refused book p at k (was-refused (bothOf book p at) i j)))
 
-pub entries-on : (book : List ℕ) (p at k : ℕ) {b : Body} {n : ℕ} → (k ≡ 0 → ⊥) → b ≡ bodyOf (bothOf book p at) → b ≡ B.Length n → headOf (entries book (p + 8) (at + n) (k - 1)) ≡ headOf (entries book p at k)
+pub entries-on :
+    (book : List ℕ) (p at k : ℕ) {b : Body} {n : ℕ} → (k ≡ 0 → ⊥) → b ≡ bodyOf (bothOf book p at) → b ≡ B.Length n →
+    headOf (entries book (p + 8) (at + n) (k - 1)) ≡ headOf (entries book p at k)
 entries-on book p at zero h i j = absurd (h refl)
 entries-on book p at (suc k) {b} {n} h i j =
     let w = both-is book p at n (was-read (bothOf book p at) i j) in
-    ap₂ (λ z j. headOf (entries book (p + 8) z j)) (let g : at + n ≡ at + w .panel + w .cloud = omega (arith, w .total) in g) (let g : suc k - 1 ≡ k = omega arith in g)
+    ap₂ (λ z j. headOf (entries book (p + 8) z j)) (let g : at + n ≡ at + w .panel + w .cloud = omega (arith, w .total) in g)
+    (let g : suc k - 1 ≡ k = omega arith in g)
     ∙ sym (head-onward (entries book (p + 8) (at + w .panel + w .cloud) k) _)
     ∙ ap headOf (sym (entries-then book p at k (w .panel) (w .cloud) (w .first) (w .second)))

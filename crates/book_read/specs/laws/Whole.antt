@@ -1,7 +1,7 @@
 -- The letters, the contents and the whole book, case by case.
 use mathlib.Core.Bool.{Bool, true, false, _&&_}
 use mathlib.Core.List.{List}
-use mathlib.Core.Path.{_≡_, refl, sym, ap, ap₂, _∙_}
+use mathlib.Core.Path.{_≡_, refl, sym, ap, _∙_}
 use Prim.Native.Nat.{ℕ, zero, suc, _+_, _-_, _*_, _<_, _≤_}
 use native.Mathlib.Omega.{arith}
 use borrow.Author.Tests.{le-leb, lt-leb}
@@ -9,13 +9,12 @@ use lib.Dec.{leb}
 use lib.ListN.{length, take, drop, getD}
 use Rattle.refusal.specs.Refusal.{fault}
 use Rattle.refusal.specs.declared.Fault.{Fault}
-use Rattle.text.specs.definitions.Answer.{Reading, read, refused, refusedAt}
-use Rattle.text.specs.definitions.Bytes.{isRow}
-use Rattle.book.specs.definitions.Reading.{Book, Entry, right, whole, onward, letters, entries, part, contents, headed, readBook}
+use Rattle.text.specs.definitions.Bytes.{onward, Reading, read, refused, refusedAt, isRow}
+use Rattle.book.specs.definitions.Book.{Book, must, letters, entries, part, contents, headed, readBook}
 use Rattle.book_read.specs.Heads.{headOf}
 use Rattle.book_read.specs.declared.Head.{Head}
 use Rattle.book_read.specs.declared.Head.the-variants as H
-use Rattle.book_read.specs.laws.Fields.{is-right, is-wrong, is-whole, is-cut}
+use Rattle.book_read.specs.laws.Fields.{is-must, is-wrong, is-whole, is-cut}
 
 -- from 1 to m
 within : (m n : ℕ) → 1 ≤ n → n ≤ m → (leb 1 n && leb n m) ≡ true
@@ -33,7 +32,7 @@ module _ (book : List ℕ) (i : ℕ) where
   others k v = letters book (1 + i) k
 
   abbrev letter : ℕ → Unit {0} → Reading (Unit {0})
-  letter k u = right (isRow (take (1 + i) (drop 1 book))) (1 + i) (others k)
+  letter k u = must (isRow (take (1 + i) (drop 1 book))) (1 + i) (others k)
 
   -- the letters so far, as the part that is lent on
   pub letters-part : {r : Bool} → r ≡ isRow (take (1 + i + 1 - 1) (drop 1 book)) → r ≡ isRow (take (1 + i) (drop 1 book))
@@ -46,15 +45,19 @@ module _ (book : List ℕ) (i : ℕ) where
   letters-cut zero h l = absurd (h refl)
   letters-cut (suc k) h l = ap headOf (is-cut (letter k) book (1 + i) 1 l)
 
-  pub letters-wrong : (k : ℕ) → (k ≡ 0 → ⊥) → 1 + i + 1 ≤ length book → isRow (take (1 + i) (drop 1 book)) ≡ false → headOf (letters book i k) ≡ H.Refused (fault 13 (1 + i))
+  pub letters-wrong :
+      (k : ℕ) → (k ≡ 0 → ⊥) → 1 + i + 1 ≤ length book → isRow (take (1 + i) (drop 1 book)) ≡ false →
+      headOf (letters book i k) ≡ H.Refused (fault 13 (1 + i))
   letters-wrong zero h l e = absurd (h refl)
   letters-wrong (suc k) h l e = ap headOf (is-whole (letter k) book (1 + i) 1 l ∙ is-wrong (others k) (1 + i) e)
 
-  pub letters-on : (k : ℕ) → (k ≡ 0 → ⊥) → 1 + i + 1 ≤ length book → isRow (take (1 + i) (drop 1 book)) ≡ true → headOf (letters book (1 + i) (k - 1)) ≡ headOf (letters book i k)
+  pub letters-on :
+      (k : ℕ) → (k ≡ 0 → ⊥) → 1 + i + 1 ≤ length book → isRow (take (1 + i) (drop 1 book)) ≡ true →
+      headOf (letters book (1 + i) (k - 1)) ≡ headOf (letters book i k)
   letters-on zero h l e = absurd (h refl)
   letters-on (suc k) h l e =
       ap (λ n. headOf (letters book (1 + i) n)) (let g : suc k - 1 ≡ k = omega arith in g)
-      ∙ ap headOf (sym (is-whole (letter k) book (1 + i) 1 l ∙ is-right (others k) (1 + i) e))
+      ∙ ap headOf (sym (is-whole (letter k) book (1 + i) 1 l ∙ is-must (others k) (1 + i) e))
 
 -- ---- contents
 head-onward : {A B : Type 0} (x : Reading A) (f : A → B) → headOf (onward x (λ a. read (f a))) ≡ headOf x
@@ -69,7 +72,7 @@ module _ (book : List ℕ) (n : ℕ) where
   listed v = onward (entries book (2 + n) (2 + n + 8 * count) count) (λ es. read (record { row = part book 1 n; all = es }))
 
   abbrev pub counted : Unit {0} → Reading Book
-  counted u = right (leb 1 count && leb count 64) (1 + n) listed
+  counted u = must (leb 1 count && leb count 64) (1 + n) listed
 
   pub contents-cut : length book < 1 + n + 1 → headOf (contents book n) ≡ H.Refused (fault 13 (length book))
   contents-cut h = ap headOf (is-cut counted book (1 + n) 1 h)
@@ -85,7 +88,7 @@ module _ (book : List ℕ) (n : ℕ) where
     contents-on i h =
         ap (λ p. headOf (entries book p (p + 8 * count) count)) (let g : 1 + n + 1 ≡ 2 + n = omega arith in g)
         ∙ sym (head-onward (entries book (2 + n) (2 + n + 8 * count) count) (λ es. record { row = part book 1 n; all = es }))
-        ∙ ap headOf (sym (is-whole counted book (1 + n) 1 there ∙ is-right listed (1 + n) (within 64 count i h)))
+        ∙ ap headOf (sym (is-whole counted book (1 + n) 1 there ∙ is-must listed (1 + n) (within 64 count i h)))
 
 -- ---- the whole book
 module _ (book : List ℕ) where
@@ -105,7 +108,7 @@ module _ (book : List ℕ) where
     lettered v = onward (letters book 0 variables) (λ w. contents book variables)
 
     abbrev pub numbered : Unit {0} → Reading Book
-    numbered u = right (leb 1 variables && leb variables 4) 0 lettered
+    numbered u = must (leb 1 variables && leb variables 4) 0 lettered
 
     pub book-cut : length book < 1 → headOf (readBook book) ≡ H.Refused (fault 13 (length book))
     book-cut h = ap headOf (book-headed ∙ is-cut numbered book 0 1 h)
@@ -119,9 +122,10 @@ module _ (book : List ℕ) where
 
       module _ (some : 1 ≤ variables) (most : variables ≤ 4) where
         pub book-lettered : readBook book ≡ onward (letters book 0 variables) (λ w. contents book variables)
-        book-lettered = book-headed ∙ is-whole numbered book 0 1 there ∙ is-right lettered 0 (within 4 variables some most)
+        book-lettered = book-headed ∙ is-whole numbered book 0 1 there ∙ is-must lettered 0 (within 4 variables some most)
 
-        pub book-letters : {h : Head} {bad : Fault} → h ≡ headOf (letters book 0 variables) → h ≡ H.Refused bad → headOf (readBook book) ≡ H.Refused bad
+        pub book-letters :
+            {h : Head} {bad : Fault} → h ≡ headOf (letters book 0 variables) → h ≡ H.Refused bad → headOf (readBook book) ≡ H.Refused bad
         book-letters {h} {bad} a b = ap headOf book-lettered ∙ go (letters book 0 variables) (sym a ∙ b)
           where
             go : (x : Reading (Unit {0})) → headOf x ≡ H.Refused bad → headOf (onward x (λ w. contents book variables)) ≡ H.Refused bad

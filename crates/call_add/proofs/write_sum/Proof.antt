@@ -6,9 +6,9 @@ use denote.Ref.{now}
 use lib.ListN.{length}
 use lib.Seq.{length-take-le}
 use Rattle.horner.specs.definitions.Form.{sum}
-use Rattle.horner.specs.definitions.Integers.{ℤ-ring}
+use Rattle.horner.specs.definitions.Rings.{ℤ-ring}
 use Rattle.reply.specs.definitions.Reply.{resultAfter, fitted}
-use Rattle.reply.specs.definitions.Forms.{ofSum}
+use Rattle.reply.specs.definitions.Calls.{ofSum}
 use Rattle.code.proofs.Lists.{begins-le}
 use Rattle.code.specs.laws.Codes.{coded}
 use Rattle.measure.specs.Measure.{limitM}
@@ -28,73 +28,91 @@ use Rattle.measure.proofs.add.Reads as add-reads′
 use Rattle.measure.proofs.limit_of.Reads as limit-of-reads
 use Rattle.refusal.proofs.of_neither.Reads as of-neither-reads
 
+-- the places that are looked at, each seen from a later one
+abbrev start : tie.After-add → tie.Start
+start c = c .before .before .before .before .before .before .before
+
 add-requires : tie.Need-add-requires
 add-requires c κs =
-    let start = (c .before .before .before .before .before .before) in
-    (form-small (start .pre .0 .0) (start .pre .1 .of-left), form-small (start .pre .0 .0) (start .pre .1 .of-right))
-
-limit-of-requires : tie.Need-limit-of-requires
-limit-of-requires c κs = search needs
-
-of-neither-requires : tie.Need-of-neither-requires
-of-neither-requires c κs = search needs
+    let s : tie.Start = c .before .before .before .before .before .before in
+    (form-small (s .pre .0 .0) (s .pre .1 .of-left), form-small (s .pre .0 .0) (s .pre .1 .of-right))
 
 returns : tie.Need-returns
 returns c =
-    let start = (c .before .before .before .before .before .before .before .before .before .before) in
-    let e = two-stopped (ofSum (length (now (start .args .row)))) (sum ℤ-ring) (now (start .args .row)) (now (start .args .s)) (now (start .args .t)) (length (now (start .args .result))) (start .pre .1) (meets (start .pre .0 .0) (start .pre .1)) (now (start .args .result)) ((c .before .before .limit-of) .ensures ∙ ap limitM ((c .before .before .before .add) .ensures)) ((c .before .if1) .taken) in
+    let at-add : tie.After-add = c .before .before .before in
+    let s = start at-add in
+    let e = two-stopped (ofSum (length (now (s .args .row)))) (sum ℤ-ring) (now (s .args .row)) (now (s .args .s)) (now (s .args .t))
+    (length (now (s .args .result))) (s .pre .1) (meets (s .pre .0 .0) (s .pre .1)) (now (s .args .result))
+    ((c .before .before .limit-of) .ensures ∙ ap limitM ((at-add .add) .ensures)) ((c .before .if1) .taken) in
     (ap Refused ((c .of-neither) .ensures) ∙ e .0, e .1)
-
-slice-relend-prefix-add : tie.Need-slice-relend-prefix-add
-slice-relend-prefix-add c = search needs
 
 slice-aggregate-add : tie.Need-slice-aggregate-add
 slice-aggregate-add c =
-    let start = (c .before .before .before .before .before .before .before .before .before .before .before) in
-    sym (length-take-le 16384 (start .args .b .now) (start .pre .0 .1 .1))
+    let s : tie.Start = start (c .before .before .before .before) in
+    sym (length-take-le 16384 (s .args .b .now) (s .pre .0 .1 .1))
 
 add-requires-2 : tie.Need-add-requires-2
 add-requires-2 c κs =
-    let start = (c .before .before .before .before .before .before .before .before .before .before .before) in
-    (side-by-side (start .pre .0 .0) (start .pre .1), omega (arith, length-take-le 16384 (start .args .b .now) (start .pre .0 .1 .1), form-words (start .pre .0 .0) (start .pre .1 .of-left), form-words (start .pre .0 .0) (start .pre .1 .of-right)))
+    let s : tie.Start = start (c .before .before .before .before) in (
+      side-by-side (s .pre .0 .0) (s .pre .1),
+      omega (
+        arith,
+        length-take-le 16384 (s .args .b .now) (s .pre .0 .1 .1),
+        form-words (s .pre .0 .0) (s .pre .1 .of-left),
+        form-words (s .pre .0 .0) (s .pre .1 .of-right),
+      ),
+    )
 
 slice-reshare-prefix-write-result : tie.Need-slice-reshare-prefix-write-result
-slice-reshare-prefix-write-result c = begins-le ((c .before .before .before .before .add2) .ensures)
+slice-reshare-prefix-write-result c =
+    let at-add2 : tie.After-add2 = c .before .before .before .before in
+    begins-le ((at-add2 .add2) .ensures)
 
 slice-aggregate-write-result : tie.Need-slice-aggregate-write-result
 slice-aggregate-write-result c =
-    let add2 = (c .before .before .before .before .before .add2) in
+    let at-add2 : tie.After-add2 = c .before .before .before .before .before in
+    let add2 = (at-add2 .add2) in
     sym (length-take-le (add2 .result) (add2 .last .0) (begins-le (add2 .ensures)))
 
 write-result-requires : tie.Need-write-result-requires
 write-result-requires c κs =
-    let add2 = (c .before .before .before .before .before .before .add2) in
-    let if1 = (c .before .before .before .before .before .before .before .before .before .if1) in
-    let limit-of = (c .before .before .before .before .before .before .before .before .before .before .limit-of) in
-    let add = (c .before .before .before .before .before .before .before .before .before .before .before .add) in
-    let start = (c .before .before .before .before .before .before .before .before .before .before .before .before .before .before .before .before .before .before) in
-    let z = sym (limit-of .ensures ∙ ap limitM (add .ensures)) ∙ if1 .left in
-    (coded (sum-codes (start .pre .0 .0) (start .pre .1) z (add2 .ensures)), omega (arith, length-take-le (add2 .result) (add2 .last .0) (begins-le (add2 .ensures)), sum-words (start .pre .0 .0) (start .pre .1) z (add2 .ensures)))
-
-same-length : tie.Need-same-length
-same-length c = search needs
-
-same-length-2 : tie.Need-same-length-2
-same-length-2 c = search needs
-
-same-length-3 : tie.Need-same-length-3
-same-length-3 c = search needs
+    let at-add2 : tie.After-add2 = c .before .before .before .before .before .before in
+    let at-else1 : tie.Else1 = at-add2 .before .before .before in
+    let s = start (at-else1 .before .before) in
+    let add2 = (at-add2 .add2) in
+    let if1 = (at-else1 .if1) in
+    let limit-of = (at-else1 .before .limit-of) in
+    let add = (at-else1 .before .before .add) in
+    let z = sym (limit-of .ensures ∙ ap limitM (add .ensures)) ∙ if1 .left in (
+      coded (sum-codes (s .pre .0 .0) (s .pre .1) z (add2 .ensures)),
+      omega (
+        arith,
+        length-take-le (add2 .result) (add2 .last .0) (begins-le (add2 .ensures)),
+        sum-words (s .pre .0 .0) (s .pre .1) z (add2 .ensures),
+      ),
+    )
 
 returns-2 : tie.Need-returns-2
 returns-2 c =
-    let add2 = (c .before .before .before .before .before .before .before .before .before .add2) in
-    let if1 = (c .before .before .before .before .before .before .before .before .before .before .before .before .if1) in
-    let limit-of = (c .before .before .before .before .before .before .before .before .before .before .before .before .before .limit-of) in
-    let add = (c .before .before .before .before .before .before .before .before .before .before .before .before .before .before .add) in
-    let start = (c .before .before .before .before .before .before .before .before .before .before .before .before .before .before .before .before .before .before .before .before .before) in
+    let at-add2 : tie.After-add2 = c .before .before .before .before .before .before .before .before .before in
+    let at-else1 : tie.Else1 = at-add2 .before .before .before in
+    let at-limit-of = at-else1 .before in
+    let at-add = at-limit-of .before in
+    let s = start at-add in
+    let add2 = (at-add2 .add2) in
+    let if1 = (at-else1 .if1) in
+    let limit-of = (at-limit-of .limit-of) in
+    let add = (at-add .add) in
     let z = sym (limit-of .ensures ∙ ap limitM (add .ensures)) ∙ if1 .left in
-    let e = ap (fitted (length (now (start .args .result)))) (sum-text (start .pre .0 .0) (start .pre .1) z (add2 .ensures)) ∙ sym (two-goes (ofSum (length (now (start .args .row)))) (sum ℤ-ring) (now (start .args .row)) (now (start .args .s)) (now (start .args .t)) (length (now (start .args .result))) (start .pre .1) (meets (start .pre .0 .0) (start .pre .1)) z) in
-    ((c .before .before .write-result) .ensures .0 ∙ ap writtenOf e, (c .before .before .write-result) .ensures .1 ∙ ap (λ x. resultAfter x (now (start .args .result))) e)
+    let e = ap (fitted (length (now (s .args .result)))) (sum-text (s .pre .0 .0) (s .pre .1) z (add2 .ensures))
+    ∙ sym (two-goes (ofSum (length (now (s .args .row)))) (sum ℤ-ring) (now (s .args .row)) (now (s .args .s)) (now (s .args .t))
+    (length (now (s .args .result))) (s .pre .1) (meets (s .pre .0 .0) (s .pre .1)) z) in (
+      (c .before .before .write-result) .ensures .0 ∙ ap writtenOf e,
+      (c .before .before .write-result) .ensures .1 ∙ ap (λ x. resultAfter x (now (s .args .result))) e,
+    )
 
 pub write-sum-spec : {M : Type 1} → statement M
-write-sum-spec = tie.close (tie.spec add-requires limit-of-requires of-neither-requires returns slice-relend-prefix-add slice-aggregate-add add-requires-2 slice-reshare-prefix-write-result slice-aggregate-write-result write-result-requires same-length same-length-2 same-length-3 returns-2)
+write-sum-spec =
+    tie.close (tie.spec add-requires (λ c κs. search needs) (λ c κs. search needs) returns (λ c. search needs) slice-aggregate-add
+    add-requires-2 slice-reshare-prefix-write-result slice-aggregate-write-result write-result-requires (λ c. search needs)
+    (λ c. search needs) (λ c. search needs) returns-2)

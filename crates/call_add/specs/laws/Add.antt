@@ -7,7 +7,7 @@ use lib.ListN.{length, take}
 use Rattle.door.specs.declared.Entry.the-variants as Closed
 use Rattle.refusal.specs.declared.Refusal.{Refusal}
 use Rattle.horner.specs.definitions.Form.{sum}
-use Rattle.horner.specs.definitions.Integers.{ℤ-ring}
+use Rattle.horner.specs.definitions.Rings.{ℤ-ring}
 use Rattle.horner.specs.definitions.Measures.{degrees, maxs}
 use Rattle.horner.specs.laws.Carry.{carry-sum}
 use Rattle.horner.specs.laws.Degree.{bounded-mono, length-maxs, maxs-left, maxs-right}
@@ -15,9 +15,9 @@ use Rattle.horner.specs.laws.Normal.{normal-sum}
 use Rattle.horner.specs.laws.Table.{sum-fits}
 use Rattle.code.specs.Coding.{Codes, Made, dec}
 use Rattle.code.specs.Operations.{sumOf}
-use Rattle.text.specs.definitions.FormText.{text}
+use Rattle.text.specs.definitions.FormReading.{text}
 use Rattle.form_write.specs.Write.{textOf}
-use Rattle.reply.specs.definitions.Forms.{ofSum, twoOf, addReply}
+use Rattle.reply.specs.definitions.Calls.{ofSum, twoOf, addReply}
 use Rattle.reply.specs.definitions.Reply.{refuses}
 use Rattle.measure.specs.declared.Measures.{Measures}
 use Rattle.measure.specs.Measure.{addM, limitM}
@@ -54,7 +54,8 @@ module _ {m : ℕ} {s t l : List ℕ} {x y : Measures} {n k : ℕ} (few : m ≤ 
         let f = P .of-left .f in
         let g = P .of-right .f in
         ap₂ (sumOf 0) (decoded few wx (P .of-left .made)) (decoded few wy (P .of-right .made))
-        ∙ carry-sum m f g (wx .normal) (wy .normal) (maxs (degrees m f) (degrees m g)) (length-maxs (degrees m f) (degrees m g) ∙ wx .sized) (I .low)
+        ∙ carry-sum m f g (wx .normal) (wy .normal) (maxs (degrees m f) (degrees m g))
+        (length-maxs (degrees m f) (degrees m g) ∙ wx .sized) (I .low)
         (bounded-mono f (degrees m f) _ (maxs-left (degrees m f) (degrees m g)) (wx .bounded))
         (bounded-mono g (degrees m g) _ (maxs-right (degrees m f) (degrees m g) (wy .sized ∙ sym (wx .sized))) (wy .bounded))
         (omega (arith, I .light))

@@ -2,29 +2,27 @@
 use mathlib.Core.Bool.{true}
 use mathlib.Core.List.{List, _++_}
 use mathlib.Core.Logic.{_⊎_, inl, inr}
-use mathlib.Core.Path.{_≡_, refl, sym, ap, ap₂, _∙_, subst}
+use mathlib.Core.Path.{_≡_, sym, ap, ap₂, _∙_, subst}
 use Prim.Native.Nat.{ℕ, _+_, _-_, _≤_}
 use native.Mathlib.Omega.{arith}
 use lib.ListN.{length, take, drop, length-drop}
 use lib.Seq.{length-take-le}
 use Rattle.refusal.specs.declared.Side.the-variants.{Left, Right}
-use Rattle.horner.specs.definitions.Measures.{Within}
+use Rattle.horner.specs.laws.Within.{Within}
 use Rattle.horner.specs.definitions.Term.{Term, normP}
 use Rattle.code.proofs.Lists.{begins-le}
 use Rattle.code.proofs.Regions.{region-sub}
-use Rattle.code.specs.Coding.{Codes, Coded, dec}
+use Rattle.code.specs.Coding.{Codes, dec}
 use Rattle.code.specs.Operations.{sumOf, negateOf, valueOf}
 use Rattle.code.specs.laws.Codes.{coded, dec-enc, tail-part}
 use Rattle.code.specs.laws.Good.{sum-good, negate-good}
 use Rattle.code_point.specs.Points.{pointOf, Ready}
-use Rattle.text.specs.definitions.Answer.{Reading, read}
-use Rattle.text.specs.definitions.Bytes.{isRow}
+use Rattle.text.specs.definitions.Bytes.{Reading, isRow}
 use Rattle.text.specs.definitions.Limits.{acceptTerm}
 use Rattle.text.specs.definitions.Tree.{Tree, termOf}
 use Rattle.text_laws.specs.laws.Rows.{row-length, accepted-within}
-use Rattle.reply.specs.definitions.Reply.{over}
-use Rattle.reply.specs.definitions.Compare.{Verdict, equal, different, verdictOf, compareOf, pointAfter}
-use Rattle.reply.specs.definitions.Reply.{Reply, gives, readAs}
+use Rattle.reply.specs.definitions.Reply.{gives, readAs}
+use Rattle.reply.specs.definitions.Calls.{Verdict, equal, different, verdictOf, compareOf, pointAfter}
 use Rattle.term_read.specs.Read.{IsTerm}
 use Rattle.term_read.specs.laws.Terms.{term-codes, term-words}
 use Rattle.door_terms.specs.Terms.{IsPair}
@@ -87,14 +85,21 @@ module _ {row s t d : List ℕ} {k m : ℕ} (r : isRow row ≡ true) (Q : IsPair
   gap-is = ap₂ (λ x y. sumOf 0 x (negateOf 0 y)) (sym (dec-enc pair-left)) (sym (dec-enc pair-right))
 
   pub pair-apart : Apart (length row) k l
-  pair-apart = record { ready = λ h. subst (Ready (length row)) gap-is (parted-ready (length row) f g F G few (λ e. h (dec-enc pair-left ∙ e ∙ sym (dec-enc pair-right)))) }
+  pair-apart =
+      record {
+        ready = λ h. subst (Ready (length row)) gap-is
+            (parted-ready (length row) f g F G few (λ e. h (dec-enc pair-left ∙ e ∙ sym (dec-enc pair-right))));
+      }
 
   reply : compareOf row s t ≡ gives (verdictOf (length row) f g)
   reply =
-      ap (λ (x : Reading Tree). readAs Left x (λ u. readAs Right (acceptTerm row t) (λ v. gives (verdictOf (length row) (termOf row u) (termOf row v))))) (Q .left-accepted)
+      ap (λ (x : Reading Tree). readAs Left x
+      (λ u. readAs Right (acceptTerm row t) (λ v. gives (verdictOf (length row) (termOf row u) (termOf row v))))) (Q .left-accepted)
       ∙ ap (λ (x : Reading Tree). readAs Right x (λ v. gives (verdictOf (length row) f (termOf row v)))) (Q .right-accepted)
 
-  by-verdict : {x : Compared} {p′ : List ℕ} (p : List ℕ) (v : Verdict) → verdictOf (length row) f g ≡ v → x ≡ comparedOf (gives v) → p′ ≡ pointAfter (gives v) p
+  by-verdict :
+      {x : Compared} {p′ : List ℕ} (p : List ℕ) (v : Verdict) → verdictOf (length row) f g ≡ v → x ≡ comparedOf (gives v) →
+      p′ ≡ pointAfter (gives v) p
       → (x ≡ comparedOf (compareOf row s t)) × (p′ ≡ pointAfter (compareOf row s t) p)
   by-verdict p v e i j =
       let z = sym (reply ∙ ap gives e) in
@@ -108,7 +113,9 @@ module _ {row s t d : List ℕ} {k m : ℕ} (r : isRow row ≡ true) (Q : IsPair
       n = length row
 
       U : Told n (normP f) (normP g) x p p′
-      U = subst (λ z. Told n z (normP g) x p p′) (dec-enc pair-left) (subst (λ z. Told n (dec 0 (take k l)) z x p p′) (dec-enc pair-right) T)
+      U =
+          subst (λ z. Told n z (normP g) x p p′) (dec-enc pair-left)
+          (subst (λ z. Told n (dec 0 (take k l)) z x p p′) (dec-enc pair-right) T)
 
       go : (normP f ≡ normP g) ⊎ (normP f ≡ normP g → ⊥) → (x ≡ comparedOf (compareOf row s t)) × (p′ ≡ pointAfter (compareOf row s t) p)
       go (inl e) = by-verdict p equal (verdict-same n f g F G e) (U .same e .0) (U .same e .1)

@@ -7,18 +7,17 @@ use lib.ListN.{length}
 use Rattle.refusal.specs.declared.Side.the-variants.{Left, Right}
 use Rattle.refusal.specs.declared.Refusal.{Refusal}
 use Rattle.horner.specs.definitions.Form.{Form}
-use Rattle.horner.specs.definitions.Measures.{Within}
+use Rattle.horner.specs.laws.Within.{Within}
 use Rattle.horner.specs.definitions.Points.{firstPoint, gap, sides}
-use Rattle.horner.specs.definitions.Residues.{P-ring, Res, prime}
+use Rattle.horner.specs.definitions.Rings.{P-ring, Res, prime}
 use Rattle.horner.specs.definitions.Term.{Term, normℤ}
 use Rattle.horner.specs.laws.Answer.{length-sides}
-use Rattle.text.specs.definitions.Answer.{Reading, read, refused}
-use Rattle.text.specs.definitions.Bytes.{same}
-use Rattle.text.specs.definitions.FormText.{text}
+use Rattle.text.specs.definitions.Bytes.{Reading, read, refused, same}
+use Rattle.text.specs.definitions.FormReading.{text}
 use Rattle.text.specs.definitions.Limits.{acceptTerm}
 use Rattle.text.specs.definitions.Tree.{Tree, termOf}
 use Rattle.text_laws.specs.laws.Rows.{accepted-within}
-use Rattle.reply.specs.definitions.Compare.{Verdict, equal, different, verdictOf, compareOf}
+use Rattle.reply.specs.definitions.Calls.{Verdict, equal, different, verdictOf, compareOf}
 use Rattle.reply.specs.definitions.Reply.{Reply, gives, refuses, readAs}
 
 pub data Sized (n : ℕ) : Reply Verdict → Type 0 where
@@ -46,6 +45,7 @@ compare-sized row s t = first (acceptTerm row s) refl
     second f F (refused bad) h = refusal
 
     first : (x : Reading Tree) → acceptTerm row s ≡ x →
-        Sized (length row) (readAs Left x (λ f. readAs Right (acceptTerm row t) (λ g. gives (verdictOf (length row) (termOf row f) (termOf row g)))))
+        Sized (length row)
+        (readAs Left x (λ f. readAs Right (acceptTerm row t) (λ g. gives (verdictOf (length row) (termOf row f) (termOf row g)))))
     first (read f) e = second f (accepted-within row s f e) (acceptTerm row t) refl
     first (refused bad) h = refusal

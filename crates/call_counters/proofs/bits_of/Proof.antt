@@ -5,11 +5,9 @@ use Rattle.call_counters.proofs.bits_of.Tie as tie
 use Rattle.call_counters.proofs.bits_of.Reads as reads
 use Rattle.call_counters.proofs.bits_of.Lts as lts
 
--- src/lib.rt:43:9
 returns : tie.Need-returns
 returns c = bits-8 (c .before .args .width) (c .if1 .taken)
 
--- src/lib.rt:39:1
 returns-2 : tie.Need-returns-2
 returns-2 c = bits-16 (c .before .args .width) (c .if1 .left)
 

@@ -5,15 +5,12 @@ use Rattle.call_counters.proofs.is_width.Tie as tie
 use Rattle.call_counters.proofs.is_width.Reads as reads
 use Rattle.call_counters.proofs.is_width.Lts as lts
 
--- src/lib.rt:30:9
 returns : tie.Need-returns
 returns c = width-0 (c .before .args .width) (c .if1 .taken)
 
--- src/lib.rt:33:9
 returns-2 : tie.Need-returns-2
 returns-2 c = width-8 (c .before .before .args .width) (c .before .if1 .left) (c .if2 .taken)
 
--- src/lib.rt:26:1
 returns-3 : tie.Need-returns-3
 returns-3 c = width-16 (c .before .before .args .width) (c .before .if1 .left) (c .if2 .left)
 

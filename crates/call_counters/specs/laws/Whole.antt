@@ -6,16 +6,15 @@ use Prim.Native.Nat.{ℕ, _+_, _≤_, _^_}
 use lib.ListN.{length, take, drop}
 use Rattle.refusal.specs.Refusal.{ofNeither}
 use Rattle.refusal.specs.declared.Side.the-variants.{Left, Right}
-use Rattle.horner.specs.definitions.Coefficients.{multiplesOf}
+use Rattle.horner.specs.definitions.Measures.{multiplesOf}
 use Rattle.horner.specs.definitions.Term.{diff, normℤ}
 use Rattle.code.specs.Coding.{dec}
 use Rattle.code.specs.laws.Codes.{dec-enc}
-use Rattle.text.specs.definitions.Answer.{Reading}
-use Rattle.text.specs.definitions.Bytes.{isRow}
+use Rattle.text.specs.definitions.Bytes.{Reading, isRow}
 use Rattle.text.specs.definitions.Limits.{acceptTerm}
 use Rattle.text.specs.definitions.Tree.{Tree, termOf}
 use Rattle.text_laws.specs.laws.Rows.{accepted-within}
-use Rattle.reply.specs.definitions.Compare.{isWidth, bits, countersOf, countersReply, toldCounted, Counts}
+use Rattle.reply.specs.definitions.Calls.{isWidth, bits, countersOf, countersReply, toldCounted, Counts}
 use Rattle.reply.specs.definitions.Reply.{Reply, gives, refuses, asked, readAs, work, untouched}
 use Rattle.code_counters.specs.Same.{sameOf}
 use Rattle.code_counters.specs.laws.Counters.{counters-same}
@@ -40,7 +39,9 @@ abbrev verdict : List ℕ → ℕ → Tree → Tree → Reply Bool
 verdict row w f g = gives (multiplesOf (2 ^ bits w) (normℤ (diff (termOf row f) (termOf row g))))
 
 -- one text is refused
-pub text-refused : {row s t l : List ℕ} {q : TermPair} {bad : Refusal} (w : ℕ) → q ≡ B.Refused bad → PairRead row s t q l → Refused bad ≡ countedOf (countersOf row w s t)
+pub text-refused :
+    {row s t l : List ℕ} {q : TermPair} {bad : Refusal} (w : ℕ) → q ≡ B.Refused bad → PairRead row s t q l →
+    Refused bad ≡ countedOf (countersOf row w s t)
 text-refused {row} w h R = ap countedOf (sym (pair-refused (verdict row w) h R))
 
 -- both are read
@@ -50,7 +51,8 @@ pair-counted {row} {s} {t} w r Q =
     let f = termOf row (Q .f) in
     let g = termOf row (Q .g) in
     let e = ap₂ (sameOf (bits w)) (dec-enc (pair-left r Q)) (dec-enc (pair-right r Q))
-    ∙ counters-same (length row) (bits w) f g (accepted-within row s (Q .f) (Q .left-accepted)) (accepted-within row t (Q .g) (Q .right-accepted))
+    ∙ counters-same (length row) (bits w) f g (accepted-within row s (Q .f) (Q .left-accepted))
+    (accepted-within row t (Q .g) (Q .right-accepted))
     ∙ ap (λ m. multiplesOf m (normℤ (diff f g))) (modulus-bits w) in
     let z = ap (λ (x : Reading Tree). readAs Left x (λ u. readAs Right (acceptTerm row t) (verdict row w u))) (Q .left-accepted)
     ∙ ap (λ (x : Reading Tree). readAs Right x (verdict row w (Q .f))) (Q .right-accepted) in
@@ -79,10 +81,13 @@ module _ (row ts : List ℕ) (w : ℕ) (s t : List ℕ) where
       (λ f. read-clears Right (acceptTerm row t) (verdict row w f) (term-number row t) (λ g. refl))
 
 -- ---- the answer and the tables
-pub refused-whole : (x : Reply Bool) {bad : Refusal} (a b c d : List ℕ) → bad .number ≤ 2 → x ≡ refuses bad → Counts x (Refused bad) (work a b c d) (work a b c d)
+pub refused-whole :
+    (x : Reply Bool) {bad : Refusal} (a b c d : List ℕ) → bad .number ≤ 2 → x ≡ refuses bad →
+    Counts x (Refused bad) (work a b c d) (work a b c d)
 refused-whole x a b c d l k = record { answer = sym k; tables = tables-kept x (work a b c d) k l }
 
-pub answered-whole : (x y : Reply Bool) {r : Counted} (a b c d : List ℕ) {a′ b′ c′ d′ : List ℕ} → x ≡ y → untouched y ≡ false → r ≡ countedOf y
+pub answered-whole :
+    (x y : Reply Bool) {r : Counted} (a b c d : List ℕ) {a′ b′ c′ d′ : List ℕ} → x ≡ y → untouched y ≡ false → r ≡ countedOf y
     → Zeros a b c d a′ b′ c′ d′ → Counts x r (work a b c d) (work a′ b′ c′ d′)
 answered-whole x y a b c d h u i z =
     record { answer = ap toldCounted i ∙ tells-counted y ∙ sym h; tables = tables-cleared x a b c d (ap untouched h ∙ u) z }

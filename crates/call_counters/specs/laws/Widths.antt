@@ -4,7 +4,7 @@ use mathlib.Core.Path.{_≡_, refl, sym}
 use Prim.Native.Nat.{ℕ, _^_}
 use borrow.Author.Tests.{eq-eqb, ne-eqb}
 use lib.Dec.{eqb}
-use Rattle.reply.specs.definitions.Compare.{isWidth, bits}
+use Rattle.reply.specs.definitions.Calls.{isWidth, bits}
 use Rattle.code.specs.Widths.{modulus}
 
 pub width-0 : (w : ℕ) → w ≡ 0 → true ≡ isWidth w

@@ -1,7 +1,7 @@
 -- What `form` answers, by what is read of the term.
 use mathlib.Core.Bool.{true, false}
 use mathlib.Core.List.{List}
-use mathlib.Core.Path.{_≡_, refl, sym, ap, _∙_}
+use mathlib.Core.Path.{_≡_, sym, ap, _∙_}
 use Prim.Native.Nat.{ℕ}
 use lib.ListN.{length, take}
 use Rattle.refusal.specs.Refusal.{onSide}
@@ -10,16 +10,15 @@ use Rattle.refusal.specs.declared.Refusal.{Refusal}
 use Rattle.horner.specs.definitions.Term.{normℤ}
 use Rattle.code.specs.Coding.{dec}
 use Rattle.code.specs.laws.Codes.{dec-enc}
-use Rattle.text.specs.definitions.Answer.{Reading, read}
-use Rattle.text.specs.definitions.Bytes.{isRow}
+use Rattle.text.specs.definitions.Bytes.{Reading, isRow}
 use Rattle.text.specs.definitions.Limits.{acceptTerm}
-use Rattle.text.specs.definitions.FormText.{text}
+use Rattle.text.specs.definitions.FormReading.{text}
 use Rattle.text.specs.definitions.Tree.{Tree, termOf}
 use Rattle.text_laws.specs.laws.Rows.{accepted-within}
 use Rattle.form_write.specs.Write.{textOf}
 use Rattle.form_write.specs.laws.Integers.{text-normP}
 use Rattle.reply.specs.definitions.Reply.{refuses, readAs, fitted, untouched}
-use Rattle.reply.specs.definitions.Terms.{formOf, formReply}
+use Rattle.reply.specs.definitions.Calls.{formOf, formReply}
 use Rattle.door.specs.Door.{readyOf}
 use Rattle.door.specs.declared.Entry.the-variants as Closed
 use Rattle.term_read.specs.Read.{IsTerm, TermRead}
@@ -34,7 +33,8 @@ use Rattle.term_read.specs.laws.Terms.{term-codes}
 
 module _ {row s l : List ℕ} where
   -- the text is refused
-  pub form-refused : {bad : Fault} {r : TermReading} (n : ℕ) → r ≡ Refused bad → TermRead row s r l → formOf row s n ≡ refuses (onSide Left bad)
+  pub form-refused :
+      {bad : Fault} {r : TermReading} (n : ℕ) → r ≡ Refused bad → TermRead row s r l → formOf row s n ≡ refuses (onSide Left bad)
   form-refused n h t = ap (λ (x : Reading Tree). readAs Left x (λ t. fitted n (text (normℤ (termOf row t))))) (read-refusal h t)
 
   -- the form is written
@@ -55,4 +55,6 @@ module _ (row ts s : List ℕ) (n : ℕ) where
   form-not-open h = not-open row ts (λ u. formOf row s n) h
 
   pub form-clears : untouched (formOf row s n) ≡ false
-  form-clears = read-clears Left (acceptTerm row s) (λ t. fitted n (text (normℤ (termOf row t)))) (term-number row s) (λ t. fitted-clears n (text (normℤ (termOf row t))))
+  form-clears =
+      read-clears Left (acceptTerm row s) (λ t. fitted n (text (normℤ (termOf row t)))) (term-number row s)
+      (λ t. fitted-clears n (text (normℤ (termOf row t))))

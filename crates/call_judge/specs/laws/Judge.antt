@@ -9,10 +9,9 @@ use Rattle.horner.specs.definitions.Form.{Form as HForm}
 use Rattle.refusal.specs.Refusal.{onSide, ofNeither}
 use Rattle.refusal.specs.declared.Fault.{Fault}
 use Rattle.refusal.specs.declared.Side.the-variants.{Left}
-use Rattle.text.specs.definitions.Answer.{Reading}
-use Rattle.text.specs.definitions.Bytes.{isRow}
-use Rattle.text.specs.definitions.FormJudging.{acceptForm}
-use Rattle.reply.specs.definitions.Forms.{judgeReply}
+use Rattle.text.specs.definitions.Bytes.{Reading, isRow}
+use Rattle.text.specs.definitions.FormReading.{acceptForm}
+use Rattle.reply.specs.definitions.Calls.{judgeReply}
 use Rattle.reply.specs.definitions.Reply.{gives, refuses, readAs}
 use Rattle.measure.specs.declared.Measures.{Measures}
 use Rattle.form_build.specs.Answer.{judgedOf}
@@ -28,8 +27,11 @@ module _ (row s : List ℕ) where
   unfolding judgeReply
   goes-on h e = ap (λ (z : Reading (HForm ℤ)). readAs Left z (λ f. gives tt)) (sym e) ∙ rw h refl
 
-  pub text-refused : isRow row ≡ true → {bad : Fault} → judgedOf (length row) (acceptForm (length row) s) ≡ J.Refused bad → refuses (onSide Left bad) ≡ judgeReply row s
+  pub text-refused :
+      isRow row ≡ true → {bad : Fault} → judgedOf (length row) (acceptForm (length row) s) ≡ J.Refused bad →
+      refuses (onSide Left bad) ≡ judgeReply row s
   text-refused h {bad} k = goes-on h (form-refused (length row) s bad (sym k))
 
-  pub text-stands : isRow row ≡ true → {a : Measures} → judgedOf (length row) (acceptForm (length row) s) ≡ J.Form a → gives tt ≡ judgeReply row s
+  pub text-stands :
+      isRow row ≡ true → {a : Measures} → judgedOf (length row) (acceptForm (length row) s) ≡ J.Form a → gives tt ≡ judgeReply row s
   text-stands h {a} k = goes-on h (form-accepted (length row) s a (sym k) .is)

@@ -6,9 +6,9 @@ use denote.Ref.{now}
 use lib.ListN.{length}
 use lib.Seq.{length-take-le}
 use Rattle.horner.specs.definitions.Form.{prod}
-use Rattle.horner.specs.definitions.Integers.{ℤ-ring}
+use Rattle.horner.specs.definitions.Rings.{ℤ-ring}
 use Rattle.reply.specs.definitions.Reply.{resultAfter, fitted}
-use Rattle.reply.specs.definitions.Forms.{ofProduct}
+use Rattle.reply.specs.definitions.Calls.{ofProduct}
 use Rattle.code.proofs.Lists.{begins-le}
 use Rattle.code.specs.laws.Codes.{coded}
 use Rattle.measure.specs.Measure.{limitM}
@@ -28,100 +28,111 @@ use Rattle.measure.proofs.limit_of.Reads as limit-of-reads
 use Rattle.measure.proofs.multiply.Reads as multiply-reads′
 use Rattle.refusal.proofs.of_neither.Reads as of-neither-reads
 
+-- the places that are looked at, each seen from a later one
+abbrev start : tie.After-slice-known5 → tie.Start
+start c = c .before .before .before .before .before .before .before .before
+
+abbrev start-from-else1 : tie.Else1 → tie.Start
+start-from-else1 c = start (c .before .before .before)
+
+abbrev else1 : tie.After-multiply-arg4 → tie.Else1
+else1 c = c .before .before .before .before
+
+abbrev after-multiply2 : tie.After-slice-known9 → tie.After-multiply2
+after-multiply2 c = c .before .before .before .before .before .before .before .before
+
 multiply-requires : tie.Need-multiply-requires
 multiply-requires c κs =
-    let start = (c .before .before .before .before .before .before .before .before) in
-    (form-small (start .pre .0 .0) (start .pre .1 .of-left), form-small (start .pre .0 .0) (start .pre .1 .of-right))
-
-limit-of-requires : tie.Need-limit-of-requires
-limit-of-requires c κs = search needs
-
-of-neither-requires : tie.Need-of-neither-requires
-of-neither-requires c κs = search needs
+    let s = start c in
+    (form-small (s .pre .0 .0) (s .pre .1 .of-left), form-small (s .pre .0 .0) (s .pre .1 .of-right))
 
 returns : tie.Need-returns
 returns c =
-    let start = (c .before .before .before .before .before .before .before .before .before .before .before .before) in
-    let e = two-stopped (ofProduct (length (now (start .args .row)))) (prod ℤ-ring) (now (start .args .row)) (now (start .args .s)) (now (start .args .t)) (length (now (start .args .result))) (start .pre .1) (meets (start .pre .0 .0) (start .pre .1)) (now (start .args .result)) ((c .before .before .limit-of) .ensures ∙ ap limitM ((c .before .before .before .multiply) .ensures)) ((c .before .if1) .taken) in
+    let at-multiply : tie.After-multiply = c .before .before .before in
+    let s = start (at-multiply .before) in
+    let e = two-stopped (ofProduct (length (now (s .args .row)))) (prod ℤ-ring) (now (s .args .row)) (now (s .args .s))
+    (now (s .args .t)) (length (now (s .args .result))) (s .pre .1) (meets (s .pre .0 .0) (s .pre .1)) (now (s .args .result))
+    ((c .before .before .limit-of) .ensures ∙ ap limitM ((at-multiply .multiply) .ensures)) ((c .before .if1) .taken) in
     (ap Refused ((c .of-neither) .ensures) ∙ e .0, e .1)
-
-slice-relend-prefix-multiply : tie.Need-slice-relend-prefix-multiply
-slice-relend-prefix-multiply c = search needs
 
 slice-aggregate-multiply : tie.Need-slice-aggregate-multiply
 slice-aggregate-multiply c =
-    let start = (c .before .before .before .before .before .before .before .before .before .before .before .before .before) in
-    sym (length-take-le 16384 (start .args .b .now) (start .pre .0 .1 .second))
-
-slice-relend-prefix-multiply-2 : tie.Need-slice-relend-prefix-multiply-2
-slice-relend-prefix-multiply-2 c = search needs
+    let s = start-from-else1 (c .before .before) in
+    sym (length-take-le 16384 (s .args .b .now) (s .pre .0 .1 .second))
 
 slice-aggregate-multiply-2 : tie.Need-slice-aggregate-multiply-2
 slice-aggregate-multiply-2 c =
-    let start = (c .before .before .before .before .before .before .before .before .before .before .before .before .before .before) in
-    sym (length-take-le 16384 (start .args .c .now) (start .pre .0 .1 .third))
-
-slice-relend-prefix-multiply-3 : tie.Need-slice-relend-prefix-multiply-3
-slice-relend-prefix-multiply-3 c = search needs
+    let s : tie.Start = start-from-else1 (c .before .before .before) in
+    sym (length-take-le 16384 (s .args .c .now) (s .pre .0 .1 .third))
 
 slice-aggregate-multiply-3 : tie.Need-slice-aggregate-multiply-3
 slice-aggregate-multiply-3 c =
-    let start = (c .before .before .before .before .before .before .before .before .before .before .before .before .before .before .before) in
-    sym (length-take-le 6146 (start .args .d .now) (start .pre .0 .1 .fourth))
+    let s = start-from-else1 (else1 c) in
+    sym (length-take-le 6146 (s .args .d .now) (s .pre .0 .1 .fourth))
 
 multiply-requires-2 : tie.Need-multiply-requires-2
 multiply-requires-2 c κs =
-    let if1 = (c .before .before .before .before .if1) in
-    let limit-of = (c .before .before .before .before .before .limit-of) in
-    let multiply = (c .before .before .before .before .before .before .multiply) in
-    let start = (c .before .before .before .before .before .before .before .before .before .before .before .before .before .before .before) in
+    let at-else1 = else1 c in
+    let at-limit-of = at-else1 .before in
+    let s = start-from-else1 at-else1 in
+    let if1 = (at-else1 .if1) in
+    let limit-of = (at-limit-of .limit-of) in
+    let multiply = (at-limit-of .before .multiply) in
     let z = sym (limit-of .ensures ∙ ap limitM (multiply .ensures)) ∙ if1 .left in
-    let T = lengths (length-take-le 16384 (start .args .b .now) (start .pre .0 .1 .second)) (length-take-le 16384 (start .args .c .now) (start .pre .0 .1 .third)) (length-take-le 6146 (start .args .d .now) (start .pre .0 .1 .fourth)) in
-    (side-by-side (start .pre .0 .0) (start .pre .1), (space (start .pre .0 .0) (start .pre .1) z T, omega (arith, product-room (start .pre .0 .0) (start .pre .1) z, start .pre .0 .1 .first)))
+    let T = lengths (length-take-le 16384 (s .args .b .now) (s .pre .0 .1 .second))
+    (length-take-le 16384 (s .args .c .now) (s .pre .0 .1 .third)) (length-take-le 6146 (s .args .d .now) (s .pre .0 .1 .fourth)) in (
+      side-by-side (s .pre .0 .0) (s .pre .1),
+      (space (s .pre .0 .0) (s .pre .1) z T, omega (arith, product-room (s .pre .0 .0) (s .pre .1) z, s .pre .0 .1 .first)),
+    )
 
 slice-reshare-prefix-write-result : tie.Need-slice-reshare-prefix-write-result
-slice-reshare-prefix-write-result c = begins-le ((c .before .before .before .before .before .before .before .before .multiply2) .ensures)
+slice-reshare-prefix-write-result c = begins-le ((after-multiply2 c .multiply2) .ensures)
 
 slice-aggregate-write-result : tie.Need-slice-aggregate-write-result
 slice-aggregate-write-result c =
-    let multiply2 = (c .before .before .before .before .before .before .before .before .before .multiply2) in
+    let multiply2 = (after-multiply2 (c .before) .multiply2) in
     sym (length-take-le (multiply2 .result) (multiply2 .last .0) (begins-le (multiply2 .ensures)))
 
 write-result-requires : tie.Need-write-result-requires
 write-result-requires c κs =
-    let multiply2 = (c .before .before .before .before .before .before .before .before .before .before .multiply2) in
-    let if1 = (c .before .before .before .before .before .before .before .before .before .before .before .before .before .before .before .if1) in
-    let limit-of = (c .before .before .before .before .before .before .before .before .before .before .before .before .before .before .before .before .limit-of) in
-    let multiply = (c .before .before .before .before .before .before .before .before .before .before .before .before .before .before .before .before .before .multiply) in
-    let start = (c .before .before .before .before .before .before .before .before .before .before .before .before .before .before .before .before .before .before .before .before .before .before .before .before .before .before) in
-    let z = sym (limit-of .ensures ∙ ap limitM (multiply .ensures)) ∙ if1 .left in
-    (coded (product-codes (start .pre .0 .0) (start .pre .1) z (multiply2 .ensures)), omega (arith, length-take-le (multiply2 .result) (multiply2 .last .0) (begins-le (multiply2 .ensures)), product-words (start .pre .0 .0) (start .pre .1) z (multiply2 .ensures)))
-
-same-length : tie.Need-same-length
-same-length c = search needs
-
-same-length-2 : tie.Need-same-length-2
-same-length-2 c = search needs
-
-same-length-3 : tie.Need-same-length-3
-same-length-3 c = search needs
-
-same-length-4 : tie.Need-same-length-4
-same-length-4 c = search needs
-
-same-length-5 : tie.Need-same-length-5
-same-length-5 c = search needs
+    let at-multiply2 = after-multiply2 (c .before .before) in
+    let at-else1 = else1 (at-multiply2 .before) in
+    let s = start-from-else1 at-else1 in
+    let multiply2 = (at-multiply2 .multiply2) in
+    let if1 = (at-else1 .if1) in
+    let limit-of = (at-else1 .before .limit-of) in
+    let multiply = (at-else1 .before .before .multiply) in
+    let z = sym (limit-of .ensures ∙ ap limitM (multiply .ensures)) ∙ if1 .left in (
+      coded (product-codes (s .pre .0 .0) (s .pre .1) z (multiply2 .ensures)),
+      omega (
+        arith,
+        length-take-le (multiply2 .result) (multiply2 .last .0) (begins-le (multiply2 .ensures)),
+        product-words (s .pre .0 .0) (s .pre .1) z (multiply2 .ensures),
+      ),
+    )
 
 returns-2 : tie.Need-returns-2
 returns-2 c =
-    let multiply2 = (c .before .before .before .before .before .before .before .before .before .before .before .before .before .multiply2) in
-    let if1 = (c .before .before .before .before .before .before .before .before .before .before .before .before .before .before .before .before .before .before .if1) in
-    let limit-of = (c .before .before .before .before .before .before .before .before .before .before .before .before .before .before .before .before .before .before .before .limit-of) in
-    let multiply = (c .before .before .before .before .before .before .before .before .before .before .before .before .before .before .before .before .before .before .before .before .multiply) in
-    let start = (c .before .before .before .before .before .before .before .before .before .before .before .before .before .before .before .before .before .before .before .before .before .before .before .before .before .before .before .before .before) in
+    let at-multiply2 : tie.After-multiply2 = after-multiply2 (c .before .before .before .before .before) in
+    let at-else1 = else1 (at-multiply2 .before) in
+    let at-limit-of = at-else1 .before in
+    let at-multiply = at-limit-of .before in
+    let s = start-from-else1 at-else1 in
+    let multiply2 = (at-multiply2 .multiply2) in
+    let if1 = (at-else1 .if1) in
+    let limit-of = (at-limit-of .limit-of) in
+    let multiply = (at-multiply .multiply) in
     let z = sym (limit-of .ensures ∙ ap limitM (multiply .ensures)) ∙ if1 .left in
-    let e = ap (fitted (length (now (start .args .result)))) (product-text (start .pre .0 .0) (start .pre .1) z (multiply2 .ensures)) ∙ sym (two-goes (ofProduct (length (now (start .args .row)))) (prod ℤ-ring) (now (start .args .row)) (now (start .args .s)) (now (start .args .t)) (length (now (start .args .result))) (start .pre .1) (meets (start .pre .0 .0) (start .pre .1)) z) in
-    ((c .before .before .write-result) .ensures .0 ∙ ap writtenOf e, (c .before .before .write-result) .ensures .1 ∙ ap (λ x. resultAfter x (now (start .args .result))) e)
+    let e = ap (fitted (length (now (s .args .result)))) (product-text (s .pre .0 .0) (s .pre .1) z (multiply2 .ensures))
+    ∙ sym (two-goes (ofProduct (length (now (s .args .row)))) (prod ℤ-ring) (now (s .args .row)) (now (s .args .s)) (now (s .args .t))
+    (length (now (s .args .result))) (s .pre .1) (meets (s .pre .0 .0) (s .pre .1)) z) in (
+      (c .before .before .write-result) .ensures .0 ∙ ap writtenOf e,
+      (c .before .before .write-result) .ensures .1 ∙ ap (λ x. resultAfter x (now (s .args .result))) e,
+    )
 
 pub write-product-spec : {M : Type 1} → statement M
-write-product-spec = tie.close (tie.spec multiply-requires limit-of-requires of-neither-requires returns slice-relend-prefix-multiply slice-aggregate-multiply slice-relend-prefix-multiply-2 slice-aggregate-multiply-2 slice-relend-prefix-multiply-3 slice-aggregate-multiply-3 multiply-requires-2 slice-reshare-prefix-write-result slice-aggregate-write-result write-result-requires same-length same-length-2 same-length-3 same-length-4 same-length-5 returns-2)
+write-product-spec =
+    tie.close (tie.spec multiply-requires (λ c κs. search needs) (λ c κs. search needs) returns (λ c. search needs)
+    slice-aggregate-multiply (λ c. search needs) slice-aggregate-multiply-2 (λ c. search needs) slice-aggregate-multiply-3
+    multiply-requires-2 slice-reshare-prefix-write-result slice-aggregate-write-result write-result-requires (λ c. search needs)
+    (λ c. search needs) (λ c. search needs) (λ c. search needs) (λ c. search needs) returns-2)

@@ -7,7 +7,7 @@ use lib.ListN.{length, take}
 use Rattle.door.specs.declared.Entry.the-variants as Closed
 use Rattle.refusal.specs.declared.Refusal.{Refusal}
 use Rattle.horner.specs.definitions.Form.{Form as HForm, prod}
-use Rattle.horner.specs.definitions.Integers.{ℤ-ring}
+use Rattle.horner.specs.definitions.Rings.{ℤ-ring}
 use Rattle.horner.specs.definitions.Measures.{degrees, sums, terms}
 use Rattle.horner.specs.laws.Bounds.{length-sums}
 use Rattle.horner.specs.laws.Carry.{carry-prod}
@@ -19,9 +19,9 @@ use Rattle.code_room.specs.Fit.{Fit, prodOf}
 use Rattle.code_room.specs.Tables.{Space, Tables}
 use Rattle.code_room.specs.laws.Lists.{first-le}
 use Rattle.code_room.specs.laws.Tables.{tables-for}
-use Rattle.text.specs.definitions.FormText.{text}
+use Rattle.text.specs.definitions.FormReading.{text}
 use Rattle.form_write.specs.Write.{textOf}
-use Rattle.reply.specs.definitions.Forms.{ofProduct, twoOf, multiplyReply}
+use Rattle.reply.specs.definitions.Calls.{ofProduct, twoOf, multiplyReply}
 use Rattle.reply.specs.definitions.Reply.{refuses}
 use Rattle.measure.specs.declared.Measures.{Measures}
 use Rattle.measure.specs.Measure.{mulM, limitM}
@@ -80,7 +80,8 @@ module _ {m : ℕ} {s t l : List ℕ} {x y : Measures} {n k : ℕ} (few : m ≤ 
 
     pub space : {o u v : ℕ} → Tables 15684 15684 o u v → Space 0 (left n l) (right n k l) o u v
     space {o} {u} {v} T =
-        let S : Space 0 (overP (P .of-left .f)) (overP (P .of-right .f)) o u v = record { n = m; k = 63; fit = fit; tables = tables-for few (omega arith) T } in
+        let S : Space 0 (overP (P .of-left .f)) (overP (P .of-right .f)) o u v = record
+        { n = m; k = 63; fit = fit; tables = tables-for few (omega arith) T } in
         subst (λ (h : HForm (Leaf 0)). Space 0 h (right n k l) o u v) (sym (decoded few wx (P .of-left .made)))
         (subst (λ (h : HForm (Leaf 0)). Space 0 (overP (P .of-left .f)) h o u v) (sym (decoded few wy (P .of-right .made))) S)
 
@@ -91,7 +92,8 @@ module _ {m : ℕ} {s t l : List ℕ} {x y : Measures} {n k : ℕ} (few : m ≤ 
         let f = P .of-left .f in
         let g = P .of-right .f in
         ap₂ (prodOf 0) (decoded few wx (P .of-left .made)) (decoded few wy (P .of-right .made))
-        ∙ carry-prod m f g (wx .normal) (wy .normal) (degrees m f) (degrees m g) sized (I .low) (wx .bounded) (wy .bounded) (omega (arith, wx .light)) (omega (arith, wy .light))
+        ∙ carry-prod m f g (wx .normal) (wy .normal) (degrees m f) (degrees m g) sized (I .low) (wx .bounded) (wy .bounded)
+        (omega (arith, wx .light)) (omega (arith, wy .light))
         (omega (arith, I .light))
 
     pub product-room : length (enc 0 (prodOf 0 (left n l) (right n k l))) ≤ 3073

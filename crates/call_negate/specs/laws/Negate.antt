@@ -11,20 +11,18 @@ use Rattle.refusal.specs.Refusal.{onSide}
 use Rattle.refusal.specs.declared.Fault.{Fault}
 use Rattle.refusal.specs.declared.Refusal.{Refusal}
 use Rattle.horner.specs.definitions.Form.{Form as HForm, negate}
-use Rattle.horner.specs.definitions.Integers.{ℤ-ring}
+use Rattle.horner.specs.definitions.Rings.{ℤ-ring}
 use Rattle.horner.specs.definitions.Measures.{degrees}
 use Rattle.horner.specs.laws.Carry.{carry-negate}
 use Rattle.horner.specs.laws.Normal.{normal-negate}
 use Rattle.horner.specs.laws.Table.{negate-fits}
 use Rattle.code.specs.Coding.{Codes, Made, dec}
 use Rattle.code.specs.Operations as C
-use Rattle.text.specs.definitions.Answer.{Reading, read}
-use Rattle.text.specs.definitions.FormJudging.{acceptForm}
-use Rattle.text.specs.definitions.FormText.{text}
+use Rattle.text.specs.definitions.Bytes.{Reading}
+use Rattle.text.specs.definitions.FormReading.{acceptForm, text}
 use Rattle.form_write.specs.Write.{textOf}
-use Rattle.reply.specs.definitions.Reply.{resultAfter, untouched}
-use Rattle.reply.specs.definitions.Forms.{negateOf, negateReply}
-use Rattle.reply.specs.definitions.Reply.{refuses, readAs, fitted}
+use Rattle.reply.specs.definitions.Reply.{resultAfter, untouched, refuses, readAs, fitted}
+use Rattle.reply.specs.definitions.Calls.{negateOf, negateReply}
 use Rattle.measure.specs.declared.Measures.{Measures}
 use Rattle.door.specs.Door.{readyOf}
 use Rattle.refusal.specs.declared.Side.the-variants.{Left}
@@ -41,7 +39,8 @@ use Rattle.form_read.specs.laws.Read.{read-refusal}
 use Rattle.door_forms.specs.laws.Results.{Within, operand, result, decoded, codes, words, result-text}
 
 -- ---- the text is refused
-pub negate-refused : (row : List ℕ) {s l : List ℕ} {bad : Fault} {r : FormReading} (n : ℕ) (b : List ℕ) → r ≡ R.Refused bad → FormRead (length row) s r l
+pub negate-refused :
+    (row : List ℕ) {s l : List ℕ} {bad : Fault} {r : FormReading} (n : ℕ) (b : List ℕ) → r ≡ R.Refused bad → FormRead (length row) s r l
     → (Refused (onSide Left bad) ≡ writtenOf (negateOf row s n)) × (b ≡ resultAfter (negateOf row s n) b)
 negate-refused row n b h t =
     let k = ap (λ (x : Reading (HForm ℤ)). readAs Left x (λ x. fitted n (text (negate ℤ-ring x)))) (read-refusal h t) in
@@ -52,7 +51,8 @@ module _ {m : ℕ} {s l : List ℕ} {a : Measures} {n : ℕ} (few : m ≤ 4) (F 
   within : Within m (degrees m (F .f)) (negate ℤ-ring (F .f))
   within =
       let W = operand m s few (F .f) (F .accepted) in
-      result (normal-negate ℤ-ring m (F .f) (W .normal)) (W .sized) (W .low) (W .light) (omega (arith, W .few)) (negate-fits m (F .f) (W .normal))
+      result (normal-negate ℤ-ring m (F .f) (W .normal)) (W .sized) (W .low) (W .light) (omega (arith, W .few))
+      (negate-fits m (F .f) (W .normal))
 
   is-negative : C.negateOf 0 (dec 0 (take n l)) ≡ overP (negate ℤ-ring (F .f))
   unfolding C.negateOf
@@ -68,10 +68,12 @@ module _ {m : ℕ} {s l : List ℕ} {a : Measures} {n : ℕ} (few : m ≤ 4) (F 
     negative-text : textOf (dec 0 (take k d)) ≡ text (negate ℤ-ring (F .f))
     negative-text = result-text few within negative-codes
 
-pub negate-is : (row : List ℕ) {s l : List ℕ} {a : Measures} {n : ℕ} (few : length row ≤ 4) (F : IsForm (length row) s a n l) {k : ℕ} {d : List ℕ} (room : ℕ)
+pub negate-is : (row : List ℕ) {s l : List ℕ} {a : Measures} {n : ℕ} (few : length row ≤ 4) (F : IsForm (length row) s a n l)
+    {k : ℕ} {d : List ℕ} (room : ℕ)
     → Made 0 (C.negateOf 0 (dec 0 (take n l))) k d → fitted room (textOf (dec 0 (take k d))) ≡ negateOf row s room
 negate-is row few F room M =
-    ap (fitted room) (negative-text few F M) ∙ ap (λ (x : Reading (HForm ℤ)). readAs Left x (λ x. fitted room (text (negate ℤ-ring x)))) (sym (F .accepted))
+    ap (fitted room) (negative-text few F M)
+    ∙ ap (λ (x : Reading (HForm ℤ)). readAs Left x (λ x. fitted room (text (negate ℤ-ring x)))) (sym (F .accepted))
 
 -- ---- the whole call
 module _ (row ts s : List ℕ) (n : ℕ) where
@@ -85,4 +87,5 @@ module _ (row ts s : List ℕ) (n : ℕ) where
 
   pub negate-clears : untouched (negateOf row s n) ≡ false
   negate-clears =
-      read-clears Left (acceptForm (length row) s) (λ x. fitted n (text (negate ℤ-ring x))) (form-number (length row) s) (λ x. fitted-clears n (text (negate ℤ-ring x)))
+      read-clears Left (acceptForm (length row) s) (λ x. fitted n (text (negate ℤ-ring x))) (form-number (length row) s)
+      (λ x. fitted-clears n (text (negate ℤ-ring x)))

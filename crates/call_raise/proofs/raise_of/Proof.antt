@@ -16,53 +16,39 @@ use Rattle.call_raise.proofs.write_power.Reads as write-power-reads
 use Rattle.form_read.proofs.read_form.Reads as read-form-reads
 use Rattle.refusal.proofs.on_side.Reads as on-side-reads
 
+-- the places that are looked at, each seen from a later one
+abbrev start : tie.After-read-form-arg → tie.Start
+start c = c .before .before .before .before .before .before .before .before
+
 read-form-requires : tie.Need-read-form-requires
 read-form-requires c κs =
-    let start = (c .before .before .before .before .before .before .before .before) in
-    omega (arith, row-length (now (start .args .row)) (start .pre .0) .1, start .pre .1 .first)
-
-enum-known-reading : tie.Need-enum-known-reading
-enum-known-reading c = search needs
-
-on-side-requires : tie.Need-on-side-requires
-on-side-requires c κs = search needs
-
-enum-known-reading-2 : tie.Need-enum-known-reading-2
-enum-known-reading-2 c = search needs
+    let s = start c in
+    omega (arith, row-length (now (s .args .row)) (s .pre .0) .1, s .pre .1 .first)
 
 write-power-requires : tie.Need-write-power-requires
 write-power-requires c κs =
-    let reading2 = (c .before .before .before .before .before .before .reading2) in
-    let at-read-form = (c .before .before .before .before .before .before .before .before .before .before .read-form) in
-    let start = (c .before .before .before .before .before .before .before .before .before .before .before .before .before .before .before .before .before .before .before) in
-    ((row-length (now (start .args .row)) (start .pre .0) .1, omega (arith, start .pre .1 .first, start .pre .1 .second, start .pre .1 .third, start .pre .1 .fourth, at-read-form .kept .1 .1 .0)), read-form (reading2 .given .1) (at-read-form .ensures))
-
-same-length : tie.Need-same-length
-same-length c = search needs
+    let at-reading2 : tie.After-reading2 = c .before .before .before .before .before .before in
+    let at-read-form-here : tie.After-read-form = at-reading2 .before .before .before .before in
+    let s = start (at-read-form-here .before) in
+    let reading2 = (at-reading2 .reading2) in
+    let at-read-form = (at-read-form-here .read-form) in (
+      (
+        row-length (now (s .args .row)) (s .pre .0) .1,
+        omega (arith, s .pre .1 .first, s .pre .1 .second, s .pre .1 .third, s .pre .1 .fourth, at-read-form .kept .1 .1 .0),
+      ),
+      read-form (reading2 .given .1) (at-read-form .ensures),
+    )
 
 returns : tie.Need-returns
 returns c =
-    let s = (c .before .before .before .before .before .before .before .before .before .before .before .before .before .before .before) .args in
-    let e = raise-refused (s .row .now) (s .s .now) (s .k) (length (s .result .now)) (s .result .now) ((c .before .before .reading) .given .1) ((c .before .before .before .before .before .before .read-form) .ensures) in
+    let at-read-form : tie.After-read-form = c .before .before .before .before .before .before in
+    let s = (start (at-read-form .before)) .args in
+    let e = raise-refused (s .row .now) (s .s .now) (s .k) (length (s .result .now)) (s .result .now)
+    ((c .before .before .reading) .given .1) ((at-read-form .read-form) .ensures) in
     (ap Refused ((c .on-side) .ensures) ∙ e .0, e .1)
 
-same-length-2 : tie.Need-same-length-2
-same-length-2 c = search needs
-
-same-length-3 : tie.Need-same-length-3
-same-length-3 c = search needs
-
-same-length-4 : tie.Need-same-length-4
-same-length-4 c = search needs
-
-same-length-5 : tie.Need-same-length-5
-same-length-5 c = search needs
-
-same-length-6 : tie.Need-same-length-6
-same-length-6 c = search needs
-
-returns-2 : tie.Need-returns-2
-returns-2 c = search needs
-
 pub raise-of-spec : {M : Type 1} → statement M
-raise-of-spec = tie.close (tie.spec read-form-requires enum-known-reading on-side-requires enum-known-reading-2 write-power-requires same-length returns same-length-2 same-length-3 same-length-4 same-length-5 same-length-6 returns-2)
+raise-of-spec =
+    tie.close (tie.spec read-form-requires (λ c. search needs) (λ c κs. search needs) (λ c. search needs) write-power-requires
+    (λ c. search needs) returns (λ c. search needs) (λ c. search needs) (λ c. search needs) (λ c. search needs) (λ c. search needs)
+    (λ c. search needs))

@@ -13,7 +13,7 @@ use Rattle.refusal.specs.declared.Fault.{Fault}
 use Rattle.refusal.specs.declared.Refusal.{Refusal}
 use Rattle.refusal.specs.Refusal.{onSide, ofNeither}
 use Rattle.horner.specs.definitions.Form.{Form as HForm, raise}
-use Rattle.horner.specs.definitions.Integers.{ℤ-ring}
+use Rattle.horner.specs.definitions.Rings.{ℤ-ring}
 use Rattle.horner.specs.definitions.Measures.{degrees, multiples, one-if, terms}
 use Rattle.horner.specs.laws.Bounds.{bounded-raise}
 use Rattle.horner.specs.laws.Carry.{carry-raise}
@@ -30,17 +30,15 @@ use Rattle.code_room.specs.laws.Lists.{box-below}
 use Rattle.code_room.specs.laws.Tables.{tables-for}
 use Rattle.code_power.specs.Raise as P
 use Rattle.code_power.specs.laws.Raise.{below-multiples, power-mono}
-use Rattle.text.specs.definitions.Answer.{Reading, read}
-use Rattle.text.specs.definitions.FormJudging.{acceptForm}
-use Rattle.text.specs.definitions.FormText.{text}
+use Rattle.text.specs.definitions.Bytes.{Reading, read}
+use Rattle.text.specs.definitions.FormReading.{acceptForm, text}
 use Rattle.form_write.specs.Write.{textOf}
-use Rattle.reply.specs.definitions.Reply.{untouched}
-use Rattle.reply.specs.definitions.Forms.{ofPower, limited, raiseOf, raiseReply}
-use Rattle.reply.specs.definitions.Reply.{refuses, readAs, asked, fitted}
+use Rattle.reply.specs.definitions.Reply.{untouched, refuses, readAs, asked, fitted}
+use Rattle.reply.specs.definitions.Calls.{ofPower, limited, raiseOf, raiseReply}
 use Rattle.measure.specs.declared.Measures.{Measures}
 use Rattle.measure.specs.Measure.{powM, limitM}
 use Rattle.door.specs.Door.{readyOf}
-use Rattle.refusal.specs.declared.Side.the-variants.{Left, Neither}
+use Rattle.refusal.specs.declared.Side.the-variants.{Left}
 use Rattle.door.specs.laws.Door.{Open, open-goes, not-open}
 use Rattle.door.specs.laws.Ending.{read-clears, asked-clears, fitted-clears}
 use Rattle.door.specs.laws.Numbers.{form-number}
@@ -56,28 +54,40 @@ use Rattle.door_forms.specs.laws.Two.{Answers, answers, limited-clears}
 
 -- ---- the reply, by what is read
 module _ (row s : List ℕ) (k n : ℕ) where
-  pub raise-refused : {l : List ℕ} {bad : Fault} {r : FormReading} (b : List ℕ) → r ≡ R.Refused bad → FormRead (length row) s r l → Answers (raiseOf row s k n) (Refused (onSide Left bad)) b b
+  pub raise-refused :
+      {l : List ℕ} {bad : Fault} {r : FormReading} (b : List ℕ) → r ≡ R.Refused bad → FormRead (length row) s r l →
+      Answers (raiseOf row s k n) (Refused (onSide Left bad)) b b
   raise-refused b h t =
       answers b
-      (ap (λ (z : Reading (HForm ℤ)). readAs Left z (λ x. asked (leb k 63) 8 (λ v. limited (ofPower (length row) x k) (λ w. fitted n (text (raise ℤ-ring x k)))))) (read-refusal h t))
+      (ap (λ (z : Reading (HForm ℤ)). readAs Left z
+      (λ x. asked (leb k 63) 8 (λ v. limited (ofPower (length row) x k) (λ w. fitted n (text (raise ℤ-ring x k))))))
+      (read-refusal h t))
 
   accepted : {f : HForm ℤ} → acceptForm (length row) s ≡ read f
       → raiseOf row s k n ≡ asked (leb k 63) 8 (λ v. limited (ofPower (length row) f k) (λ w. fitted n (text (raise ℤ-ring f k))))
   accepted e =
-      ap (λ (z : Reading (HForm ℤ)). readAs Left z (λ x. asked (leb k 63) 8 (λ v. limited (ofPower (length row) x k) (λ w. fitted n (text (raise ℤ-ring x k)))))) e
+      ap (λ (z : Reading (HForm ℤ)). readAs Left z
+      (λ x. asked (leb k 63) 8 (λ v. limited (ofPower (length row) x k) (λ w. fitted n (text (raise ℤ-ring x k)))))) e
 
   -- the exponent passes its limit
-  pub raise-high : {f : HForm ℤ} (b : List ℕ) → acceptForm (length row) s ≡ read f → 63 < k → Answers (raiseOf row s k n) (Refused (ofNeither 8)) b b
+  pub raise-high :
+      {f : HForm ℤ} (b : List ℕ) → acceptForm (length row) s ≡ read f → 63 < k → Answers (raiseOf row s k n) (Refused (ofNeither 8)) b b
   raise-high {f} b e h =
       answers b
-      (accepted e ∙ ap (λ t. asked t 8 (λ v. limited (ofPower (length row) f k) (λ w. fitted n (text (raise ℤ-ring f k))))) (lt-leb k 63 h))
+      (accepted e
+      ∙ ap (λ t. asked t 8 (λ v. limited (ofPower (length row) f k) (λ w. fitted n (text (raise ℤ-ring f k))))) (lt-leb k 63 h))
 
-  low : {f : HForm ℤ} → acceptForm (length row) s ≡ read f → k ≤ 63 → raiseOf row s k n ≡ limited (ofPower (length row) f k) (λ w. fitted n (text (raise ℤ-ring f k)))
-  low {f} e h = accepted e ∙ ap (λ t. asked t 8 (λ v. limited (ofPower (length row) f k) (λ w. fitted n (text (raise ℤ-ring f k))))) (le-leb k 63 h)
+  low :
+      {f : HForm ℤ} → acceptForm (length row) s ≡ read f → k ≤ 63 →
+      raiseOf row s k n ≡ limited (ofPower (length row) f k) (λ w. fitted n (text (raise ℤ-ring f k)))
+  low {f} e h =
+      accepted e ∙ ap (λ t. asked t 8 (λ v. limited (ofPower (length row) f k) (λ w. fitted n (text (raise ℤ-ring f k))))) (le-leb k 63 h)
 
   pub raise-clears : untouched (raiseOf row s k n) ≡ false
   raise-clears =
-      read-clears Left (acceptForm (length row) s) (λ x. asked (leb k 63) 8 (λ v. limited (ofPower (length row) x k) (λ w. fitted n (text (raise ℤ-ring x k))))) (form-number (length row) s)
+      read-clears Left (acceptForm (length row) s)
+      (λ x. asked (leb k 63) 8 (λ v. limited (ofPower (length row) x k) (λ w. fitted n (text (raise ℤ-ring x k)))))
+      (form-number (length row) s)
       (λ x. asked-clears (leb k 63) 8 (λ v. limited (ofPower (length row) x k) (λ w. fitted n (text (raise ℤ-ring x k)))) (omega arith)
       (limited-clears (ofPower (length row) x k) (λ w. fitted n (text (raise ℤ-ring x k))) (fitted-clears n (text (raise ℤ-ring x k)))))
 
@@ -107,7 +117,8 @@ module _ {m : ℕ} {s l : List ℕ} {a : Measures} {n : ℕ} (few : m ≤ 4) (F 
     is-power =
         let I = inside meets z in
         ap (λ (h : HForm (Leaf 0)). P.raiseOf 0 h k) (decoded few wf (F .made))
-        ∙ carry-raise m (F .f) (wf .normal) (degrees m (F .f)) k (wf .sized) (I .low) (wf .bounded) (omega (arith, wf .light)) (omega (arith, I .light))
+        ∙ carry-raise m (F .f) (wf .normal) (degrees m (F .f)) k (wf .sized) (I .low) (wf .bounded) (omega (arith, wf .light))
+        (omega (arith, I .light))
 
     -- a lower power takes no more words
     lower : (j : ℕ) → j < k → length (enc 0 (P.raiseOf 0 (overP (F .f)) j)) ≤ 3073
@@ -121,7 +132,8 @@ module _ {m : ℕ} {s l : List ℕ} {a : Measures} {n : ℕ} (few : m ≤ 4) (F 
         let c = meas-raise R (one-if R) (count-size R) (one-if-le R (R .unit)) x (terms ℤ-ring (F .f)) (w .few) j in
         let d = count-box R m (multiples j (degrees m (F .f))) (raise R x j) N (bounded-raise R (degrees m (F .f)) x (w .bounded) j) in
         let p = power-mono (terms ℤ-ring (F .f)) j k (omega arith) (omega arith) in
-        let b = box-below (multiples j (degrees m (F .f))) (multiples k (degrees m (F .f))) (below-multiples j k (degrees m (F .f)) (omega arith)) in
+        let b = box-below (multiples j (degrees m (F .f))) (multiples k (degrees m (F .f)))
+        (below-multiples j k (degrees m (F .f)) (omega arith)) in
         omega (arith, size-enc 0 (raise R x j), words-3073 R m (raise R x j) few N (omega (arith, c, d, p, b, I .few)))
 
     pub raising : {q o u v : ℕ} → 16384 ≤ q → Tables 15684 15684 o u v → P.Raising 0 (dec 0 (take n l)) k n q o u v
@@ -150,7 +162,8 @@ module _ {m : ℕ} {s l : List ℕ} {a : Measures} {n : ℕ} (few : m ≤ 4) (F 
         whole =
             omega (
               arith,
-              ap (λ (h : HForm (Leaf 0)). length (enc 0 h)) (sym (ap (λ (h : HForm (Leaf 0)). P.raiseOf 0 h k) (decoded few wf (F .made))) ∙ is-power),
+              ap (λ (h : HForm (Leaf 0)). length (enc 0 h))
+                  (sym (ap (λ (h : HForm (Leaf 0)). P.raiseOf 0 h k) (decoded few wf (F .made))) ∙ is-power),
               few-words few within,
             )
 
@@ -165,15 +178,19 @@ module _ {m : ℕ} {s l : List ℕ} {a : Measures} {n : ℕ} (few : m ≤ 4) (F 
       power-text = result-text few within power-codes
 
 -- ---- the call, where the exponent is within its limit
-module _ (row : List ℕ) {s l : List ℕ} {a : Measures} {w : ℕ} (few : length row ≤ 4) (F : IsForm (length row) s a w l) (k n : ℕ) (h : k ≤ 63) where
+module _ (row : List ℕ) {s l : List ℕ} {a : Measures} {w : ℕ} (few : length row ≤ 4) (F : IsForm (length row) s a w l) (k n : ℕ)
+    (h : k ≤ 63) where
   pub raise-stopped : {e : ℕ} (b : List ℕ) → e ≡ limitM (powM a k) → (e ≡ 0 → ⊥) → Answers (raiseOf row s k n) (Refused (ofNeither e)) b b
   raise-stopped b i z =
       let q = low row s k n (F .accepted) h ∙ stopped (meets few F k) (λ v. fitted n (text (raise ℤ-ring (F .f) k))) (λ y. z (i ∙ y)) in
       (ap (λ e. Refused (ofNeither e)) i ∙ answers b q .0, answers b q .1)
 
-  pub raise-is : limitM (powM a k) ≡ 0 → {r : ℕ} {d : List ℕ} → Made 0 (P.raiseOf 0 (dec 0 (take w l)) k) r d → fitted n (textOf (dec 0 (take r d))) ≡ raiseOf row s k n
+  pub raise-is :
+      limitM (powM a k) ≡ 0 → {r : ℕ} {d : List ℕ} → Made 0 (P.raiseOf 0 (dec 0 (take w l)) k) r d →
+      fitted n (textOf (dec 0 (take r d))) ≡ raiseOf row s k n
   raise-is z M =
-      ap (fitted n) (power-text few F k z M) ∙ sym (low row s k n (F .accepted) h ∙ passed (meets few F k) (λ v. fitted n (text (raise ℤ-ring (F .f) k))) z)
+      ap (fitted n) (power-text few F k z M)
+      ∙ sym (low row s k n (F .accepted) h ∙ passed (meets few F k) (λ v. fitted n (text (raise ℤ-ring (F .f) k))) z)
 
 -- ---- the whole call
 module _ (row ts s : List ℕ) (k n : ℕ) where

@@ -1,5 +1,6 @@
--- `call_remainder::remainder` meets its contract: the row, the tables and the point's length are looked at, the inner call answers, the tables are cleared.
-use mathlib.Core.Path.{ap, _≡_, refl, sym, _∙_}
+-- `call_remainder::remainder` meets its contract: the row, the tables and the point's length are looked at, the inner call answers, the
+-- tables are cleared.
+use mathlib.Core.Path.{ap, refl, sym, _∙_}
 use Rattle.reply.specs.definitions.Reply.{refuses}
 use mathlib.Core.List.{[], _∷_}
 use lib.ListN.{length}
@@ -17,88 +18,70 @@ use Rattle.door.proofs.clear_tables.Reads as clear-tables-reads
 use Rattle.door.proofs.ready.Reads as ready-reads
 use Rattle.refusal.proofs.of_neither.Reads as of-neither-reads
 
-ready-requires : tie.Need-ready-requires
-ready-requires c κs = search needs
+-- the places that are looked at, each seen from a later one
+abbrev to-start : tie.After-ready → tie.Start
+to-start c = c .before .before .before .before .before .before .before
 
-enum-known-entry : tie.Need-enum-known-entry
-enum-known-entry c = search needs
+abbrev after-remainder-of : tie.After-clear-tables2 → tie.After-remainder-of
+after-remainder-of c = c .before .before .before .before .before .before .before .before .before .before .before .before .before
 
 returns : tie.Need-returns
 returns c =
-    let s = (c .before .before .before .before .before .before .before .before .before .before) .args in
+    let at-ready : tie.After-ready = c .before .before .before in
+    let entry = to-start at-ready in
+    let s = entry .args in
     let ts = length (s .a .now) ∷ length (s .b .now) ∷ length (s .c .now) ∷ length (s .d .now) ∷ [] in
-    refused-whole (s .row .now) ts (s .point .now) _ _ (remainder-pointed (s .row .now) ts (s .s .now) (s .point .now)) (s .a .now) (s .b .now) (s .c .now) (s .d .now) (sym ((c .before .before .before .ready) .ensures) ∙ (c .before .entry) .given .1)
-
-enum-told : tie.Need-enum-told
-enum-told c = search needs
-
-clear-tables-requires : tie.Need-clear-tables-requires
-clear-tables-requires c κs = search needs
-
-of-neither-requires : tie.Need-of-neither-requires
-of-neither-requires c κs = search needs
-
-same-length : tie.Need-same-length
-same-length c = search needs
-
-same-length-2 : tie.Need-same-length-2
-same-length-2 c = search needs
-
-same-length-3 : tie.Need-same-length-3
-same-length-3 c = search needs
-
-same-length-4 : tie.Need-same-length-4
-same-length-4 c = search needs
+    refused-whole (s .row .now) ts (s .point .now) _ _ (remainder-pointed (s .row .now) ts (s .s .now) (s .point .now)) (s .a .now)
+    (s .b .now) (s .c .now) (s .d .now) (sym ((at-ready .ready) .ensures) ∙ (c .before .entry) .given .1)
 
 returns-2 : tie.Need-returns-2
 returns-2 c =
-    let clear-tables = (c .before .before .before .before .before .before .before .before .before .clear-tables) in
-    let if1 = (c .before .before .before .before .before .before .before .before .before .before .before .before .before .before .if1) in
-    let ready = (c .before .before .before .before .before .before .before .before .before .before .before .before .before .before .before .before .before .ready) in
-    let start = (c .before .before .before .before .before .before .before .before .before .before .before .before .before .before .before .before .before .before .before .before .before .before .before .before) in
+    let at-clear-tables : tie.After-clear-tables = c .before .before .before .before .before .before .before .before .before in
+    let at-then1 : tie.Then1 = at-clear-tables .before .before .before .before .before in
+    let at-ready : tie.After-ready = at-then1 .before .before .before in
+    let start = to-start at-ready in
+    let clear-tables = (at-clear-tables .clear-tables) in
+    let if1 = (at-then1 .if1) in
+    let ready = (at-ready .ready) in
     let s = start .args in
     let ts = length (s .a .now) ∷ length (s .b .now) ∷ length (s .c .now) ∷ length (s .d .now) ∷ [] in
-    let o = ready-open (s .row .now) ts (sym (ready .ensures) ∙ (c .before .before .before .before .before .before .before .before .before .before .before .before .before .before .before .enum-told) .given .1) in
-    let e = other-length (s .row .now) ts (s .point .now) _ _ (remainder-pointed (s .row .now) ts (s .s .now) (s .point .now)) (s .a .now) (s .b .now) (s .c .now) (s .d .now) o (if1 .taken) (zeros-of refl refl refl refl (clear-tables .ensures)) in
+    let o = ready-open (s .row .now) ts (sym (ready .ensures) ∙ (at-then1 .before .enum-told) .given .1) in
+    let e = other-length (s .row .now) ts (s .point .now) _ _ (remainder-pointed (s .row .now) ts (s .s .now) (s .point .now))
+    (s .a .now) (s .b .now) (s .c .now) (s .d .now) o (if1 .taken) (zeros-of refl refl refl refl (clear-tables .ensures)) in
     record { answer = ap refuses ((c .of-neither) .ensures) ∙ e .answer; tables = e .tables }
 
 remainder-of-requires : tie.Need-remainder-of-requires
 remainder-of-requires c κs =
-    let if1 = (c .before .before .before .before .if1) in
-    let ready = (c .before .before .before .before .before .before .before .ready) in
-    let start = (c .before .before .before .before .before .before .before .before .before .before .before .before .before .before) in
-    let s = start .args in
-    let o = ready-open (s .row .now) (length (s .a .now) ∷ length (s .b .now) ∷ length (s .c .now) ∷ length (s .d .now) ∷ []) (sym (ready .ensures) ∙ (c .before .before .before .before .before .enum-told) .given .1) in
+    let at-else1 : tie.Else1 = c .before .before .before .before in
+    let at-ready : tie.After-ready = at-else1 .before .before .before in
+    let if1 = (at-else1 .if1) in
+    let ready = (at-ready .ready) in
+    let s = to-start at-ready .args in
+    let o = ready-open (s .row .now) (length (s .a .now) ∷ length (s .b .now) ∷ length (s .c .now) ∷ length (s .d .now) ∷ [])
+    (sym (ready .ensures) ∙ (at-else1 .before .enum-told) .given .1) in
     (o .proper, (open-long (length (s .a .now)) (length (s .b .now)) (length (s .c .now)) (length (s .d .now)) o, if1 .left))
-
-clear-tables-requires-2 : tie.Need-clear-tables-requires-2
-clear-tables-requires-2 c κs = search needs
-
-same-length-5 : tie.Need-same-length-5
-same-length-5 c = search needs
-
-same-length-6 : tie.Need-same-length-6
-same-length-6 c = search needs
-
-same-length-7 : tie.Need-same-length-7
-same-length-7 c = search needs
-
-same-length-8 : tie.Need-same-length-8
-same-length-8 c = search needs
 
 returns-3 : tie.Need-returns-3
 returns-3 c =
-    let clear-tables2 = (c .before .before .before .before .before .before .before .before .clear-tables2) in
-    let remainder-of = (c .before .before .before .before .before .before .before .before .before .before .before .before .before .before .before .before .before .before .before .before .before .remainder-of) in
-    let if1 = (c .before .before .before .before .before .before .before .before .before .before .before .before .before .before .before .before .before .before .before .before .before .before .before .before .before .before .if1) in
-    let ready = (c .before .before .before .before .before .before .before .before .before .before .before .before .before .before .before .before .before .before .before .before .before .before .before .before .before .before .before .before .before .ready) in
-    let start = (c .before .before .before .before .before .before .before .before .before .before .before .before .before .before .before .before .before .before .before .before .before .before .before .before .before .before .before .before .before .before .before .before .before .before .before .before) in
-    let s = start .args in
+    let at-clear-tables2 : tie.After-clear-tables2 = c .before .before .before .before .before .before .before .before in
+    let at-remainder-of = after-remainder-of at-clear-tables2 in
+    let at-else1 : tie.Else1 = at-remainder-of .before .before .before .before .before in
+    let at-ready : tie.After-ready = at-else1 .before .before .before in
+    let clear-tables2 = (at-clear-tables2 .clear-tables2) in
+    let remainder-of = (at-remainder-of .remainder-of) in
+    let if1 = (at-else1 .if1) in
+    let ready = (at-ready .ready) in
+    let s = to-start at-ready .args in
     let f = remainder-of in
     let ts = length (s .a .now) ∷ length (s .b .now) ∷ length (s .c .now) ∷ length (s .d .now) ∷ [] in
-    let o = ready-open (s .row .now) ts (sym (ready .ensures) ∙ (c .before .before .before .before .before .before .before .before .before .before .before .before .before .before .before .before .before .before .before .before .before .before .before .before .before .before .before .enum-told) .given .1) in
-    answered-whole (s .row .now) ts (s .point .now) _ _ (remainder-pointed (s .row .now) ts (s .s .now) (s .point .now)) (s .a .now) (s .b .now) (s .c .now) (s .d .now) o (if1 .left) (remainder-clears (s .row .now) ts (s .s .now) (s .point .now)) (f .ensures)
-    (zeros-of (f .kept .1 .1 .1 .0) (f .kept .1 .1 .1 .1 .0) (f .kept .1 .1 .1 .1 .1 .0) (f .kept .1 .1 .1 .1 .1 .1 .0) (clear-tables2 .ensures))
+    let o = ready-open (s .row .now) ts (sym (ready .ensures) ∙ (at-else1 .before .enum-told) .given .1) in
+    answered-whole (s .row .now) ts (s .point .now) _ _ (remainder-pointed (s .row .now) ts (s .s .now) (s .point .now)) (s .a .now)
+    (s .b .now) (s .c .now) (s .d .now) o (if1 .left) (remainder-clears (s .row .now) ts (s .s .now) (s .point .now)) (f .ensures)
+    (zeros-of (f .kept .1 .1 .1 .0) (f .kept .1 .1 .1 .1 .0) (f .kept .1 .1 .1 .1 .1 .0) (f .kept .1 .1 .1 .1 .1 .1 .0)
+    (clear-tables2 .ensures))
 
 pub remainder-spec : {M : Type 1} → statement M
-remainder-spec = tie.close (tie.spec ready-requires enum-known-entry returns enum-told clear-tables-requires of-neither-requires same-length same-length-2 same-length-3 same-length-4 returns-2 remainder-of-requires clear-tables-requires-2 same-length-5 same-length-6 same-length-7 same-length-8 returns-3)
+remainder-spec =
+    tie.close (tie.spec (λ c κs. search needs) (λ c. search needs) returns (λ c. search needs) (λ c κs. search needs)
+    (λ c κs. search needs) (λ c. search needs) (λ c. search needs) (λ c. search needs) (λ c. search needs) returns-2 remainder-of-requires
+    (λ c κs. search needs) (λ c. search needs) (λ c. search needs) (λ c. search needs) (λ c. search needs) returns-3)

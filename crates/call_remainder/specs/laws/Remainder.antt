@@ -12,14 +12,12 @@ use Rattle.horner.specs.definitions.Term.{evalℤ}
 use Rattle.code.specs.Coding.{dec}
 use Rattle.code.specs.Operations.{valueOf}
 use Rattle.code.specs.laws.Codes.{dec-enc}
-use Rattle.text.specs.definitions.Answer.{Reading}
-use Rattle.text.specs.definitions.Bytes.{isRow}
+use Rattle.text.specs.definitions.Bytes.{Reading, isRow}
 use Rattle.text.specs.definitions.Limits.{acceptTerm}
 use Rattle.text.specs.definitions.Tree.{Tree, termOf}
 use Rattle.text_laws.specs.laws.Rows.{accepted-within}
-use Rattle.reply.specs.definitions.Reply.{untouched}
-use Rattle.reply.specs.definitions.Reply.{Reply, gives, readAs}
-use Rattle.reply.specs.definitions.Terms.{remainder, remainderOf, remainderReply}
+use Rattle.reply.specs.definitions.Reply.{untouched, Reply, gives, readAs}
+use Rattle.reply.specs.definitions.Calls.{remainder, remainderOf, remainderReply}
 use Rattle.term_read.specs.Read.{IsTerm, TermRead}
 use Rattle.term_read.specs.declared.TermReading.{TermReading}
 use Rattle.term_read.specs.declared.TermReading.the-variants.{Refused}
@@ -38,11 +36,15 @@ answer row N x = readAs Left x (λ t. gives (remainder (evalℤ (termOf row t) N
 
 module _ {row s l : List ℕ} (N : List ℤ) where
   -- the text is refused
-  pub remainder-refused : {bad : Fault} {r : TermReading} → r ≡ Refused bad → TermRead row s r l → A.Refused (onSide Left bad) ≡ remainderedOf (remainderOf row s N)
+  pub remainder-refused :
+      {bad : Fault} {r : TermReading} → r ≡ Refused bad → TermRead row s r l →
+      A.Refused (onSide Left bad) ≡ remainderedOf (remainderOf row s N)
   remainder-refused h t = ap (λ x. remainderedOf (answer row N x)) (sym (read-refusal h t))
 
   -- the value is worked out, at the remainders in front of a table
-  pub remainder-is : {k v : ℕ} (m : ℕ) (d : List ℕ) {b : List ℕ} → isRow row ≡ true → IsTerm row s k l → length N ≡ length row → m ≡ length N → b ≡ residuesOf N ++ d
+  pub remainder-is :
+      {k v : ℕ} (m : ℕ) (d : List ℕ) {b : List ℕ} → isRow row ≡ true → IsTerm row s k l → length N ≡ length row → m ≡ length N →
+      b ≡ residuesOf N ++ d
       → v ≡ valueOf 0 (dec 0 (take k l)) (take m b) → A.Remainder v ≡ remainderedOf (remainderOf row s N)
   remainder-is {k} m d r T len i h e =
       let w = accepted-within row s (T .t) (T .accepted) in

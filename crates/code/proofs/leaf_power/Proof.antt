@@ -5,8 +5,7 @@ use Prim.Native.Nat.{ℕ, _+_, _-_, _≤_, _<_}
 use native.Mathlib.Nat.{le-antisymm, mod-eq-of-lt}
 use native.Mathlib.Numerals.{add-one}
 use native.Mathlib.Omega.{arith}
-use Rattle.horner.specs.definitions.Residues.{powBy, mulBy}
-use Rattle.code.specs.Widths.{modulus}
+use Rattle.code.specs.Widths.{powBy, mulBy, modulus}
 use Rattle.code.specs.laws.Widths.{modulus-big}
 use borrow.Author.Needs.{needs}
 use Rattle.code.proofs.leaf_power.Statement.{statement}

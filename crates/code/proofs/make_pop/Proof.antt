@@ -3,7 +3,7 @@
 -- Assumes nothing.
 use mathlib.Core.Path.{_∙_, sym, _≡_, ap}
 use mathlib.Core.List.{_∷_}
-use Prim.Native.Nat.{_+_, _-_}
+use Prim.Native.Nat.{_+_}
 use native.Mathlib.Omega.{arith}
 use lib.ListN.{length, take, drop, getD, length-set}
 use Rattle.code.specs.Coding.{dec, enc}

@@ -1,7 +1,7 @@
 -- `code::put_pow` meets its contract: a store, and a copy after it.
 -- Assumes nothing.
 use mathlib.Core.Path.{_∙_}
-use Prim.Native.Nat.{_+_, _*_, _-_}
+use Prim.Native.Nat.{_+_, _*_}
 use native.Mathlib.Omega.{arith}
 use lib.ListN.{length, length-set}
 use Rattle.code.proofs.Lists.{begins-set, begins-tail, length-after-set}

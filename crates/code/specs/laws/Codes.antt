@@ -38,7 +38,17 @@ module _ (w : ℕ) where
       let len : length (enc w p ++ enc w q) ≡ length (enc w p) + length (enc w q) = length-append (enc w p) (enc w q) in
       let ihp : decn w n (enc w p) ≡ p = decn-enc p n (k .1 .1 .0) (omega arith) in
       let ihq : decn w n (enc w q) ≡ q = decn-enc q n (k .1 .1 .1) (omega arith) in
-      simp (le-ltb (2147483648 + 64 * length (enc w p) + i) 2147483648 (omega arith), s, ne-eqb (length (enc w p)) 0 (omega (arith, enc-pos w p)), e, take-append-seam, drop-append-seam, ihp, ihq)
+      simp (
+        le-ltb (2147483648 + 64 * length (enc w p) + i) 2147483648 (omega arith),
+        s,
+        ne-eqb (length (enc w p)) 0
+            (omega (arith, enc-pos w p)),
+        e,
+        take-append-seam,
+        drop-append-seam,
+        ihp,
+        ihq,
+      )
 
 pub dec-enc : {w : ℕ} {h : Form (Leaf w)} {l : List ℕ} → Codes w h l → dec w l ≡ h
 unfolding dec
@@ -105,15 +115,30 @@ module _ (w : ℕ) where
   int-of (pop i p) g l = absurd (omega arith)
   int-of (pow i p q) g l = absurd (omega arith)
 
-  pop-of : (h : Form (Leaf w)) → Good w h → 2147483648 ≤ getD (enc w h) 0 0 → (getD (enc w h) 0 0 - 2147483648) / 64 ≡ 0 → IsPop w h (enc w h)
+  pop-of :
+      (h : Form (Leaf w)) → Good w h → 2147483648 ≤ getD (enc w h) 0 0 → (getD (enc w h) 0 0 - 2147483648) / 64 ≡ 0 → IsPop w h (enc w h)
   unfolding enc
   pop-of (int c) g l e = absurd (omega (arith, leaf-word w c))
   pop-of (pop i p) g l e =
       let k = good-pop g in
-      record { i = i; p = p; is = refl; word = refl; pos-i = k .0; small = k .1 .0; good-node = g; good = k .1 .1; list = refl; len = refl; pos = enc-pos w p }
+      record {
+        i = i;
+        p = p;
+        is = refl;
+        word = refl;
+        pos-i = k .0;
+        small = k .1 .0;
+        good-node = g;
+        good = k .1 .1;
+        list = refl;
+        len = refl;
+        pos = enc-pos w p;
+      }
   pop-of (pow i p q) g l e = absurd (omega (arith, enc-pos w p))
 
-  pow-of : (h : Form (Leaf w)) → Good w h → 2147483648 ≤ getD (enc w h) 0 0 → ((getD (enc w h) 0 0 - 2147483648) / 64 ≡ 0 → ⊥) → IsPow w h (enc w h)
+  pow-of :
+      (h : Form (Leaf w)) → Good w h → 2147483648 ≤ getD (enc w h) 0 0 → ((getD (enc w h) 0 0 - 2147483648) / 64 ≡ 0 → ⊥) →
+      IsPow w h (enc w h)
   unfolding enc
   pow-of (int c) g l e = absurd (omega (arith, leaf-word w c))
   pow-of (pop i p) g l e = absurd (omega (arith, good-pop g .1 .0))

@@ -1,15 +1,13 @@
--- Good forms: normal in four variables, of degree at most 63 in each. The parts of a good form are good, and the operations keep good forms good.
+-- Good forms: normal in four variables, of degree at most 63 in each. The parts of a good form are good, and the operations keep good
+-- forms good.
 use mathlib.Core.List.{[], _∷_}
 use mathlib.Core.Path.{_≡_, refl, sym, ap, subst, _∙_}
 use Prim.Native.Nat.{ℕ, zero, suc, _-_, _≤_, _<_}
 use native.Mathlib.Omega.{arith}
-use Rattle.horner.specs.definitions.Form.{Form, int, pop, pow}
-use Rattle.horner.specs.definitions.Measures.{Bounded}
-use Rattle.horner.specs.definitions.Normal.{Normal}
-use Rattle.horner.specs.definitions.Ring.{Ring}
-use Rattle.horner.specs.definitions.Value.{after}
+use Rattle.horner.specs.definitions.Form.{Form, int, pop, pow, Normal, after}
+use Rattle.horner.specs.laws.Degree.{Bounded, Below, below-refl, bounded-mono}
+use Rattle.horner.specs.definitions.Rings.{Ring}
 use Rattle.horner.specs.laws.Bounds.{bounded-sum, bounded-negate, bounded-scale}
-use Rattle.horner.specs.laws.Degree.{Below, below-refl, bounded-mono}
 use Rattle.horner.specs.laws.Normal.{pow-level, normal-sum, normal-negate, normal-scale}
 use Rattle.code.specs.Coding.{limits, Good}
 use Rattle.code.specs.Operations.{sumOf, negateOf, scaleOf, zeroOf}
@@ -20,7 +18,8 @@ module _ {A : Type 0} (R : Ring A) where
   pub normal-more : (m n : ℕ) (x : Form A) → m ≤ n → Normal R m x → Normal R n x
   normal-more m n (int c) l h = tt
   normal-more m n (pop i p) l h = (h .0, h .1, normal-more (m - i) (n - i) p (omega arith) (h .2))
-  normal-more m n (pow i p q) l h = (h .0, omega (arith, h .1), normal-more m n p l (h .2), h .3, normal-more (m - 1) (n - 1) q (omega arith) (h .4))
+  normal-more m n (pow i p q) l h =
+      (h .0, omega (arith, h .1), normal-more m n p l (h .2), h .3, normal-more (m - 1) (n - 1) q (omega arith) (h .4))
 
 after-nil : (i : ℕ) → after {A = ℕ} i [] ≡ []
 after-nil zero = refl
@@ -94,7 +93,11 @@ good-less-pow {w} {i} {p} j l g =
 pub sum-good : {w : ℕ} {x y : Form (Leaf w)} → Good w x → Good w y → Good w (sumOf w x y)
 unfolding sumOf
 sum-good {w} {x} {y} g h =
-    record { normal = normal-sum (ringOf w) 4 x y (g .normal) (h .normal); bounded = bounded-sum (ringOf w) (limits 4) x y (g .bounded) (h .bounded) }
+    record {
+      normal = normal-sum (ringOf w) 4 x y (g .normal) (h .normal);
+      bounded = bounded-sum (ringOf w) (limits 4) x y (g .bounded)
+          (h .bounded);
+    }
 
 pub negate-good : {w : ℕ} {x : Form (Leaf w)} → Good w x → Good w (negateOf w x)
 unfolding negateOf
@@ -104,4 +107,8 @@ negate-good {w} {x} g =
 pub scale-good : {w : ℕ} {x : Form (Leaf w)} (a : ℕ) → Good w x → Good w (scaleOf w a x)
 unfolding scaleOf
 scale-good {w} {x} a g =
-    record { normal = normal-scale (ringOf w) 4 (leaf w a) x (g .normal); bounded = bounded-scale (ringOf w) (limits 4) (leaf w a) x (g .bounded) }
+    record {
+      normal = normal-scale (ringOf w) 4 (leaf w a) x (g .normal);
+      bounded = bounded-scale (ringOf w) (limits 4) (leaf w a) x
+          (g .bounded);
+    }

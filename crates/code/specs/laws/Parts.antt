@@ -23,7 +23,8 @@ first l = take (1 + span l - 1) (drop 1 l)
 abbrev pub rest : List ℕ → List ℕ
 rest l = take (length l - (1 + span l)) (drop (1 + span l) l)
 
--- l is the code of (POP i p), where i is the last 6 bits of its head word. (`head` is stated of lists, so that omega does not read it: it goes by the lengths.)
+-- l is the code of (POP i p), where i is the last 6 bits of its head word. (`head` is stated of lists, so that omega does not read it: it
+-- goes by the lengths.)
 pub record PopAt (w : ℕ) (l : List ℕ) : Type 0 where
   pub is : dec w l ≡ pop (getD l 0 0 % 64) (dec w (inner l))
   pub head : getD l 0 0 ∷ [] ≡ (2147483648 + getD l 0 0 % 64) ∷ []
@@ -67,7 +68,8 @@ module _ {w : ℕ} {l : List ℕ} (c : Coded w l) (n : 2147483648 ≤ getD l 0 0
       let i : getD l 0 0 % 64 ≡ v .i = omega (arith, v) in
       let cp : Codes w (v .p) (first l) = pow-left v (1 + span l - 1) (omega (arith, v)) in
       let cq : Codes w (v .q) (rest l) = pow-right v (1 + span l) (omega (arith, v)) in
-      let e : pow (getD l 0 0 % 64) (dec w (first l)) (dec w (rest l)) ≡ pow (v .i) (v .p) (v .q) = λ t. pow (i t) (dec-enc cp t) (dec-enc cq t) in
+      let e : pow (getD l 0 0 % 64) (dec w (first l)) (dec w (rest l)) ≡ pow (v .i) (v .p) (v .q) = λ t. pow (i t) (dec-enc cp t)
+      (dec-enc cq t) in
       let kp : length (first l) ≡ length (enc w (v .p)) = codes-length cp in
       let kq : length (rest l) ≡ length (enc w (v .q)) = codes-length cq in
       let word : getD l 0 0 ≡ 2147483648 + 64 * length (first l) + getD l 0 0 % 64 = omega (arith, v) in
@@ -97,6 +99,8 @@ pow-made {w} {l} v p q k =
     ap (λ k. (k ++ enc w p) ++ enc w q) (v .head) ∙ ap (λ n. (2147483648 + 64 * n + getD l 0 0 % 64) ∷ (enc w p ++ enc w q)) (sym k)
 
 -- the code of a pow whose p is at hand as a code
-pub pow-put : {w : ℕ} (i : ℕ) {l : List ℕ} → Coded w l → (q : Form (Leaf w)) → ((2147483648 + 64 * length l + i) ∷ l) ++ enc w q ≡ enc w (pow i (dec w l) q)
+pub pow-put :
+    {w : ℕ} (i : ℕ) {l : List ℕ} → Coded w l → (q : Form (Leaf w)) →
+    ((2147483648 + 64 * length l + i) ∷ l) ++ enc w q ≡ enc w (pow i (dec w l) q)
 unfolding enc
 pow-put {w} i {l} c q = ap (λ k. ((2147483648 + 64 * length k + i) ∷ k) ++ enc w q) (c .is)

@@ -3,8 +3,9 @@ use mathlib.Core.Path.{_≡_, refl}
 use Prim.Native.Nat.{ℕ, zero, suc, _+_, _≤_, _<_}
 use native.Mathlib.Omega.{arith}
 use lib.ListN.{length, length-append}
-use Rattle.horner.specs.definitions.Form.{Form, int, pop, pow, size, mkpop, lower, isZero, zeroForm, mkpow, addInt, sumF, sum, negate, scale}
-use Rattle.horner.specs.definitions.Ring.{Ring}
+use Rattle.horner.specs.definitions.Form.{Form, int, pop, pow, size, mkpop, lower, isZero, zeroForm, mkpow, addInt, sumF, sum, negate}
+use Rattle.horner.specs.definitions.Form.{scale}
+use Rattle.horner.specs.definitions.Rings.{Ring}
 use Rattle.horner.specs.laws.Compare.{cmp-cases}
 use Rattle.horner.specs.laws.Tests.{cond-cases}
 use Rattle.horner.specs.laws.Value.{size-pos, lower-fits}
@@ -38,7 +39,9 @@ module _ {A : Type 0} (R : Ring A) where
   size-addInt a (pow i p q) = omega (arith, size-addInt a q)
 
   -- Definition 9 (4)
-  size-rest : (j : ℕ) (q r : Form A) (i : ℕ) (p t : Form A) → size t + 1 ≤ size r + size (lower i p) → size (pow j q t) + 1 ≤ suc (size p) + suc (size q + size r)
+  size-rest :
+      (j : ℕ) (q r : Form A) (i : ℕ) (p t : Form A) → size t + 1 ≤ size r + size (lower i p) →
+      size (pow j q t) + 1 ≤ suc (size p) + suc (size q + size r)
   size-rest j q r zero p t h = omega (arith, h)
   size-rest j q r (suc i) p t h = omega (arith, h)
 
@@ -61,8 +64,20 @@ module _ {A : Type 0} (R : Ring A) where
   size-sumF (suc k) (pow i p q) (pow j r s) h =
       cmp-cases i j (λ z. size z + 1 ≤ suc (size p + size q) + suc (size r + size s)) _ _ _
       (λ e. omega (arith, size-mkpow i (sumF R k p r) (sumF R k q s), size-sumF k p r (omega arith), size-sumF k q s (omega arith)))
-      (λ d e. omega (arith, size-mkpow j (sumF R k (pow (suc d) p (zeroForm R)) r) (sumF R k q s), size-sumF k (pow (suc d) p (zeroForm R)) r (omega (arith, size-pos q)), size-sumF k q s (omega arith)))
-      (λ d e. omega (arith, size-mkpow i (sumF R k (pow (suc d) r (zeroForm R)) p) (sumF R k s q), size-sumF k (pow (suc d) r (zeroForm R)) p (omega (arith, size-pos s)), size-sumF k s q (omega arith)))
+      (λ d e. omega (
+        arith,
+        size-mkpow j (sumF R k (pow (suc d) p (zeroForm R)) r) (sumF R k q s),
+        size-sumF k (pow (suc d) p (zeroForm R)) r
+            (omega (arith, size-pos q)),
+        size-sumF k q s (omega arith),
+      ))
+      (λ d e. omega (
+        arith,
+        size-mkpow i (sumF R k (pow (suc d) r (zeroForm R)) p) (sumF R k s q),
+        size-sumF k (pow (suc d) r (zeroForm R)) p
+            (omega (arith, size-pos s)),
+        size-sumF k s q (omega arith),
+      ))
 
   pub size-negate : (x : Form A) → size (negate R x) ≡ size x
   size-negate (int c) = refl
@@ -88,7 +103,8 @@ module _ (w : ℕ) where
 
   pub sum-length : (x y : Form (Leaf w)) → length (enc w (sumOf w x y)) + 1 ≤ length (enc w x) + length (enc w y)
   unfolding sumOf
-  sum-length x y = omega (arith, size-enc (sum (ringOf w) x y), size-enc x, size-enc y, size-sumF (ringOf w) (size x + size y) x y (omega arith))
+  sum-length x y =
+      omega (arith, size-enc (sum (ringOf w) x y), size-enc x, size-enc y, size-sumF (ringOf w) (size x + size y) x y (omega arith))
 
   pub negate-length : (x : Form (Leaf w)) → length (enc w (negateOf w x)) ≡ length (enc w x)
   unfolding negateOf

@@ -6,10 +6,9 @@ use native.Mathlib.Nat as NatL
 use native.Mathlib.Omega.{arith}
 use lib.Dec.{eqb}
 use borrow.Author.Tests.{eq-eqb, ne-eqb}
-use Rattle.horner.specs.definitions.Residues.{powBy, mulBy, below}
-use Rattle.horner.specs.definitions.Ring.{power}
+use Rattle.code.specs.Widths.{powBy, mulBy, modulusBy, modulus, modulus-pos, Leaf, ringOf, leaf}
+use Rattle.horner.specs.definitions.Rings.{below, power}
 use Rattle.horner.specs.laws.Residues.{red-of}
-use Rattle.code.specs.Widths.{modulusBy, modulus, modulus-pos, Leaf, ringOf, leaf}
 
 small-by : (a b : Bool) → (1 < modulusBy a b) × (modulusBy a b ≤ 2147483647)
 small-by true b = (omega arith, omega arith)

@@ -1,5 +1,5 @@
--- Forms over the remainders by m: a difference of reduced forms is 0 exactly where each coefficient of the difference is a multiple of m. m may be any
--- number but 0, so that the ring may have divisors of zero.
+-- Forms over the remainders by m: a difference of reduced forms is 0 exactly where each coefficient of the difference is a multiple of m.
+-- m may be any number but 0, so that the ring may have divisors of zero.
 use mathlib.Core.Bool.{Bool, true, false, _&&_}
 use mathlib.Core.List.{List}
 use mathlib.Core.Path.{_≡_, refl, sym, _∙_, ap, ap₂, subst}
@@ -9,12 +9,9 @@ use native.Mathlib.Omega.{arith}
 use lib.Dec.{eqb, eqb→eq, eqb·suc-zero}
 use lib.IntN.{ℤ, pos, negsuc, natAbs}
 use lib.ListN.{length}
-use Rattle.horner.specs.definitions.Coefficients.{coefAt, multiplesOf}
-use Rattle.horner.specs.definitions.Form.{Form, int, pop, pow, mkpop, isZero, mkpow, sum, negate}
-use Rattle.horner.specs.definitions.Integers.{ℤ-ring}
-use Rattle.horner.specs.definitions.Normal.{Normal}
-use Rattle.horner.specs.definitions.Residues.{Res, redℤ, mod-ring}
-use Rattle.horner.specs.definitions.Ring.{Ring}
+use Rattle.horner.specs.definitions.Measures.{coefAt, multiplesOf}
+use Rattle.horner.specs.definitions.Form.{Form, int, pop, pow, mkpop, isZero, mkpow, sum, negate, Normal}
+use Rattle.horner.specs.definitions.Rings.{ℤ-ring, Res, redℤ, mod-ring, Ring}
 use Rattle.horner.specs.laws.Lifting.{red-hom}
 use Rattle.horner.specs.laws.Normal.{normal-sum, normal-negate}
 use Rattle.horner.specs.laws.Tests.{cond-cases, true-is}
@@ -46,13 +43,17 @@ module _ {A : Type 0} (R : Ring A) where
   isZero-mkpow i (pow j r s) q = cond-cases (isZero R s) (λ z. isZero R z ≡ false) _ _ (λ e. refl) (λ e. refl)
 
   -- two normal forms that have the same coefficients are both 0, or none is
-  zero-together : (n : ℕ) (x y : Form A) → Normal R n x → Normal R n y → ((ks : List ℕ) → coef R x ks ≡ coef R y ks) → isZero R x ≡ isZero R y
+  zero-together :
+      (n : ℕ) (x y : Form A) → Normal R n x → Normal R n y → ((ks : List ℕ) → coef R x ks ≡ coef R y ks) → isZero R x ≡ isZero R y
   zero-together n x y hx hy e = both (isZero R x) (isZero R y) (over n x y hx hy e) (over n y x hy hx (λ ks. sym (e ks)))
     where
-      over : (n : ℕ) (x y : Form A) → Normal R n x → Normal R n y → ((ks : List ℕ) → coef R x ks ≡ coef R y ks) → isZero R x ≡ true → isZero R y ≡ true
+      over :
+          (n : ℕ) (x y : Form A) → Normal R n x → Normal R n y → ((ks : List ℕ) → coef R x ks ≡ coef R y ks) → isZero R x ≡ true →
+          isZero R y ≡ true
       over n x y hx hy e z =
           vanish R n y hy
-          (λ ks l. coef-is R ks y (subst (λ k. Normal R k y) (sym l) hy) ∙ sym (e ks) ∙ sym (coef-is R ks x (subst (λ k. Normal R k x) (sym l) hx)) ∙ vanished R ks x z)
+          (λ ks l. coef-is R ks y (subst (λ k. Normal R k y) (sym l) hy) ∙ sym (e ks)
+          ∙ sym (coef-is R ks x (subst (λ k. Normal R k x) (sym l) hx)) ∙ vanished R ks x z)
 
 module _ (m : ℕ) (m-pos : 0 < m) where
   abbrev S : Ring (Res m)
@@ -93,7 +94,8 @@ module _ (m : ℕ) (m-pos : 0 < m) where
       → coef S (sum S (mapNormal S ρ x) (negate S (mapNormal S ρ y))) ks ≡ coef S (mapNormal S ρ (sum ℤ-ring x (negate ℤ-ring y))) ks
   coef-difference x y ks =
       coef-sum S (mapNormal S ρ x) (negate S (mapNormal S ρ y)) ks
-      ∙ ap₂ (S ._⊞_) (coef-reduced x ks) (coef-negate S (mapNormal S ρ y) ks ∙ ap (S .neg) (coef-reduced y ks) ∙ sym (red-hom m m-pos .keeps-neg (coef ℤ-ring y ks)))
+      ∙ ap₂ (S ._⊞_) (coef-reduced x ks)
+      (coef-negate S (mapNormal S ρ y) ks ∙ ap (S .neg) (coef-reduced y ks) ∙ sym (red-hom m m-pos .keeps-neg (coef ℤ-ring y ks)))
       ∙ sym (red-hom m m-pos .keeps-add (coef ℤ-ring x ks) (ℤ-ring .neg (coef ℤ-ring y ks)))
       ∙ ap ρ (sym (coef-sum ℤ-ring x (negate ℤ-ring y) ks ∙ ap (ℤ-ring ._⊞_ (coef ℤ-ring x ks)) (coef-negate ℤ-ring y ks)))
       ∙ sym (coef-reduced (sum ℤ-ring x (negate ℤ-ring y)) ks)
@@ -105,7 +107,8 @@ module _ (m : ℕ) (m-pos : 0 < m) where
       zero-together S n (sum S (mapNormal S ρ x) (negate S (mapNormal S ρ y))) (mapNormal S ρ (sum ℤ-ring x (negate ℤ-ring y)))
       (normal-sum S n (mapNormal S ρ x) (negate S (mapNormal S ρ y)) (normal-mapNormal S ρ ℤ-ring n x hx)
       (normal-negate S n (mapNormal S ρ y) (normal-mapNormal S ρ ℤ-ring n y hy)))
-      (normal-mapNormal S ρ ℤ-ring n (sum ℤ-ring x (negate ℤ-ring y)) (normal-sum ℤ-ring n x (negate ℤ-ring y) hx (normal-negate ℤ-ring n y hy)))
+      (normal-mapNormal S ρ ℤ-ring n (sum ℤ-ring x (negate ℤ-ring y))
+      (normal-sum ℤ-ring n x (negate ℤ-ring y) hx (normal-negate ℤ-ring n y hy)))
       (coef-difference x y)
       ∙ zero-multiples (sum ℤ-ring x (negate ℤ-ring y))
 
@@ -121,11 +124,16 @@ module _ (m : ℕ) (m-pos : 0 < m) where
   nil-is-multiple z e = eqb→eq (natAbs z % m) 0 (true-is (sym (nil-multiple z) ∙ ap (S .isNil) e ∙ S .isNil-nil))
 
   -- `multiplesOf` is true of a normal form in n variables exactly where each coefficient of its polynomial is a multiple of m
-  pub multiples-coefs : (n : ℕ) (z : Form ℤ) → Normal ℤ-ring n z → Decides (multiplesOf m z) ((ks : List ℕ) → length ks ≡ n → natAbs (coefAt ℤ-ring ks z) % m ≡ 0)
+  pub multiples-coefs :
+      (n : ℕ) (z : Form ℤ) → Normal ℤ-ring n z →
+      Decides (multiplesOf m z) ((ks : List ℕ) → length ks ≡ n → natAbs (coefAt ℤ-ring ks z) % m ≡ 0)
   multiples-coefs n z h = record {
-    yes = λ e ks l. nil-is-multiple (coefAt ℤ-ring ks z) (sym (coefAt-reduced ks z (at ks l)) ∙ vanished S ks (mapNormal S ρ z) (zero-multiples z ∙ e));
+    yes =
+        λ e ks l. nil-is-multiple (coefAt ℤ-ring ks z)
+        (sym (coefAt-reduced ks z (at ks l)) ∙ vanished S ks (mapNormal S ρ z) (zero-multiples z ∙ e));
     no = λ e. sym (zero-multiples z)
-        ∙ vanish S n (mapNormal S ρ z) (normal-mapNormal S ρ ℤ-ring n z h) (λ ks l. coefAt-reduced ks z (at ks l) ∙ multiple-nil (coefAt ℤ-ring ks z) (e ks l));
+        ∙ vanish S n (mapNormal S ρ z) (normal-mapNormal S ρ ℤ-ring n z h)
+        (λ ks l. coefAt-reduced ks z (at ks l) ∙ multiple-nil (coefAt ℤ-ring ks z) (e ks l));
   }
     where
       at : (ks : List ℕ) → length ks ≡ n → Normal ℤ-ring (length ks) z

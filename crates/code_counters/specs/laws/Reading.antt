@@ -4,10 +4,9 @@ use mathlib.Core.Path.{_≡_, refl, sym, _∙_, ap, ap₂, fun-ext}
 use Prim.Native.Nat.{ℕ, zero, suc}
 use native.Mathlib.Omega.{arith}
 use lib.ListN.{length, getD}
-use Rattle.horner.specs.definitions.Coefficients.{shift, coefs, coefOf, coefAt}
-use Rattle.horner.specs.definitions.Form.{Form, int, pop, pow, isZero, zeroForm, sum, negate}
-use Rattle.horner.specs.definitions.Normal.{Normal}
-use Rattle.horner.specs.definitions.Ring.{Ring}
+use Rattle.horner.specs.definitions.Measures.{shift, coefs, coefOf, coefAt}
+use Rattle.horner.specs.definitions.Form.{Form, int, pop, pow, isZero, zeroForm, sum, negate, Normal}
+use Rattle.horner.specs.definitions.Rings.{Ring}
 use Rattle.horner.specs.laws.Cancel.{zero-is}
 use Rattle.horner.specs.laws.Coefficients.{coefAt-zero, normal-coefOf, constant-is}
 use Rattle.horner.specs.laws.Grid.{All, zero-coefs}
@@ -127,13 +126,15 @@ module _ {A : Type 0} (R : Ring A) where
   pub vanish : (n : ℕ) (x : Form A) → Normal R n x → ((ks : List ℕ) → length ks ≡ n → coefAt R ks x ≡ nil) → Zero R x
   vanish zero x h e = ap (λ z. isZero R z) (constant-is R x h) ∙ ap isNil (e [] refl) ∙ isNil-nil
   vanish (suc n) x h e =
-      zero-coefs R (suc n) x h (all-from (Zero R) (coefs R x) (λ k. vanish n (coefOf R k x) (normal-coefOf R n k x h) (λ ks l. e (k ∷ ks) (ap suc l))))
+      zero-coefs R (suc n) x h
+      (all-from (Zero R) (coefs R x) (λ k. vanish n (coefOf R k x) (normal-coefOf R n k x h) (λ ks l. e (k ∷ ks) (ap suc l))))
 
   pub vanished : (ks : List ℕ) (x : Form A) → Zero R x → coefAt R ks x ≡ nil
   vanished ks x z = ap (coefAt R ks) (zero-is R x z) ∙ coefAt-zero R ks
 
 -- ---- coefficients changed by a map that keeps sums and 0
-module _ {A B : Type 0} (R : Ring A) (S : Ring B) (f : A → B) (keeps : (a b : A) → f (R ._⊞_ a b) ≡ S ._⊞_ (f a) (f b)) (to-nil : f (R .nil) ≡ S .nil) where
+module _ {A B : Type 0} (R : Ring A) (S : Ring B) (f : A → B) (keeps : (a b : A) → f (R ._⊞_ a b) ≡ S ._⊞_ (f a) (f b))
+    (to-nil : f (R .nil) ≡ S .nil) where
   up-map : (g : List ℕ → A) (ks : List ℕ) → upAt S (λ l. f (g l)) ks ≡ f (upAt R g ks)
   up-map g [] = sym to-nil
   up-map g (zero ∷ ks) = sym to-nil

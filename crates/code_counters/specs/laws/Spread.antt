@@ -1,12 +1,13 @@
--- The coefficients of a form, read without asking that the form be normal: into any commutative group with two maps, `up` (times the first variable) and
--- `down` (each variable is the next one). Definition 9's sum is the group's, over every ring, also one with divisors of zero.
+-- The coefficients of a form, read without asking that the form be normal: into any commutative group with two maps, `up` (times the first
+-- variable) and `down` (each variable is the next one). Definition 9's sum is the group's, over every ring, also one with divisors of
+-- zero.
 use mathlib.Core.Bool.{true, true≢false}
 use mathlib.Core.Path.{_≡_, refl, sym, _∙_, ap, ap₂}
 use Prim.Native.Nat.{ℕ, zero, suc, _+_, _≤_}
 use native.Mathlib.Nat as NatL
 use native.Mathlib.Omega.{arith}
 use Rattle.horner.specs.definitions.Form.{Form, int, pop, pow, size, mkpop, lower, isZero, zeroForm, mkpow, addInt, sumF, sum}
-use Rattle.horner.specs.definitions.Ring.{Ring}
+use Rattle.horner.specs.definitions.Rings.{Ring}
 use Rattle.horner.specs.laws.Compare.{cmp-cases}
 use Rattle.horner.specs.laws.Tests.{cond-cases}
 use Rattle.horner.specs.laws.Value.{size-pos, lower-fits}
@@ -31,7 +32,8 @@ pub record Spread {A : Type 0} (R : Ring A) (G : Type 0) : Type 0 where
 
 module _ {A G : Type 0} (R : Ring A) (S : Spread R G) where
   open Ring R using (_⊞_ as add, nil, isNil, isNil-true)
-  open Spread S using (plus, none, up, down, plain, plus-assoc, plus-comm, plus-none, up-plus, up-none, down-plus, down-plain, plain-add, plain-nil)
+  open Spread S using
+      (plus, none, up, down, plain, plus-assoc, plus-comm, plus-none, up-plus, up-none, down-plus, down-plain, plain-add, plain-nil)
 
   abbrev pub ups : ℕ → G → G
   ups zero v = v
@@ -96,7 +98,8 @@ module _ {A G : Type 0} (R : Ring A) (S : Spread R G) where
   pub read-mkpow : (i : ℕ) (p q : Form A) → read (mkpow R i p q) ≡ plus (ups i (read p)) (down (read q))
   read-mkpow i (int c) q =
       cond-cases (isNil c) (λ z. read z ≡ plus (ups i (plain c)) (down (read q))) _ _
-      (λ h. read-mkpop 1 q ∙ sym (none-plus (down (read q))) ∙ ap (λ z. plus z (down (read q))) (sym (ap (ups i) (read-zero (int c) h) ∙ ups-none i)))
+      (λ h. read-mkpop 1 q ∙ sym (none-plus (down (read q)))
+      ∙ ap (λ z. plus z (down (read q))) (sym (ap (ups i) (read-zero (int c) h) ∙ ups-none i)))
       (λ h. refl)
   read-mkpow i (pop j p) q = refl
   read-mkpow i (pow j r s) q =
@@ -107,7 +110,8 @@ module _ {A G : Type 0} (R : Ring A) (S : Spread R G) where
       merge : isZero R s ≡ true → ups (i + j) (read r) ≡ ups i (plus (ups j (read r)) (down (read s)))
       merge h =
           ups-add i j (read r)
-          ∙ ap (ups i) (sym (plus-none (ups j (read r))) ∙ ap (plus (ups j (read r))) (sym (ap down (read-zero s h ∙ sym plain-nil) ∙ down-plain nil ∙ plain-nil)))
+          ∙ ap (ups i) (sym (plus-none (ups j (read r)))
+          ∙ ap (plus (ups j (read r))) (sym (ap down (read-zero s h ∙ sym plain-nil) ∙ down-plain nil ∙ plain-nil)))
 
   read-mkpow-by : (i : ℕ) (p q : Form A) (a b : G) → read p ≡ a → read q ≡ b → read (mkpow R i p q) ≡ plus (ups i a) (down b)
   read-mkpow-by i p q a b e f = read-mkpow i p q ∙ ap₂ (λ z w. plus (ups i z) (down w)) e f
@@ -115,7 +119,8 @@ module _ {A G : Type 0} (R : Ring A) (S : Spread R G) where
   -- ---- Definition 9
   read-addInt : (a : A) (y : Form A) → read (addInt R a y) ≡ plus (plain a) (read y)
   read-addInt a (int b) = plain-add a b
-  read-addInt a (pop i p) = ap (downs i) (read-addInt a p) ∙ downs-plus i (plain a) (read p) ∙ ap (λ z. plus z (downs i (read p))) (downs-plain i a)
+  read-addInt a (pop i p) =
+      ap (downs i) (read-addInt a p) ∙ downs-plus i (plain a) (read p) ∙ ap (λ z. plus z (downs i (read p))) (downs-plain i a)
   read-addInt a (pow i p q) =
       ap (λ z. plus (ups i (read p)) (down z)) (read-addInt a q)
       ∙ ap (plus (ups i (read p))) (down-plus (plain a) (read q) ∙ ap (λ z. plus z (down (read q))) (down-plain a))
@@ -125,9 +130,11 @@ module _ {A G : Type 0} (R : Ring A) (S : Spread R G) where
   sum-same i p q r s = ap₂ plus (ups-plus i p r) (down-plus q s) ∙ simp (plus-assoc, plus-comm, plus-left-comm)
 
   sum-more : (i j d : ℕ) → i ≡ j + suc d → (p q r s : G)
-      → plus (ups j (plus (plus (ups (suc d) p) (down (plain nil))) r)) (down (plus q s)) ≡ plus (plus (ups i p) (down q)) (plus (ups j r) (down s))
+      → plus (ups j (plus (plus (ups (suc d) p) (down (plain nil))) r)) (down (plus q s)) ≡ plus (plus (ups i p) (down q))
+      (plus (ups j r) (down s))
   sum-more i j d e p q r s =
-      ap (λ z. plus (ups j (plus z r)) (down (plus q s))) (ap (plus (ups (suc d) p)) (down-plain nil ∙ plain-nil) ∙ plus-none (ups (suc d) p))
+      ap (λ z. plus (ups j (plus z r)) (down (plus q s)))
+      (ap (plus (ups (suc d) p)) (down-plain nil ∙ plain-nil) ∙ plus-none (ups (suc d) p))
       ∙ sum-same j (ups (suc d) p) q r s
       ∙ ap (λ z. plus (plus z (down q)) (plus (ups j r) (down s))) (sym (ups-add j (suc d) p) ∙ ap (λ z. ups z p) (sym e))
 
@@ -153,8 +160,10 @@ module _ {A G : Type 0} (R : Ring A) (S : Spread R G) where
       cmp-cases i j (λ z. read z ≡ plus (downs i (read p)) (downs j (read q))) _ _ _
       (λ e. read-mkpop i (sumF R k p q) ∙ ap (downs i) (read-sumF k p q (omega arith)) ∙ downs-plus i (read p) (read q)
       ∙ ap (λ z. plus (downs i (read p)) (downs z (read q))) e)
-      (λ d e. read-mkpop j (sumF R k (pop (suc d) p) q) ∙ ap (downs j) (read-sumF k (pop (suc d) p) q (omega arith)) ∙ sum-pops i j d e (read p) (read q))
-      (λ d e. read-mkpop i (sumF R k (pop (suc d) q) p) ∙ ap (downs i) (read-sumF k (pop (suc d) q) p (omega arith)) ∙ sum-pops j i d e (read q) (read p)
+      (λ d e. read-mkpop j (sumF R k (pop (suc d) p) q) ∙ ap (downs j) (read-sumF k (pop (suc d) p) q (omega arith))
+      ∙ sum-pops i j d e (read p) (read q))
+      (λ d e. read-mkpop i (sumF R k (pop (suc d) q) p) ∙ ap (downs i) (read-sumF k (pop (suc d) q) p (omega arith))
+      ∙ sum-pops j i d e (read q) (read p)
       ∙ plus-comm (downs j (read q)) (downs i (read p)))
   read-sumF (suc k) (pop zero p) (pow j q r) h = read-sumF k p (pow j q r) (omega arith)
   read-sumF (suc k) (pop (suc i) p) (pow j q r) h =

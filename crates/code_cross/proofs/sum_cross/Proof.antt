@@ -9,8 +9,8 @@ use Rattle.code.specs.Coding.{dec, enc, Codes}
 use Rattle.code.specs.Operations.{powOf, sumOf, zeroOf}
 use Rattle.code.specs.laws.Codes.{coded, codes-length, dec-enc}
 use Rattle.code.proofs.Lists.{begins-as, begins-le}
-use Rattle.code.proofs.Making.{pow-asks, pow-gives}
-use Rattle.code_cross.proofs.Products.{made-front, with-zero}
+use Rattle.code.proofs.Making.{front-codes, pow-asks, pow-gives}
+use Rattle.code_cross.proofs.Products.{with-zero}
 use Rattle.code_cross.proofs.sum_cross.Statement.{statement}
 use Rattle.code_cross.proofs.sum_cross.Tie as tie
 
@@ -40,7 +40,7 @@ made : (c : tie.After-make-pow) →
     (take (c .make-pow .result) (c .make-pow .last .1 .0))
 made c =
     let s = start-from-make-pow c in
-    made-front (c .make-pow .result) (c .make-pow .last .1 .0) (pow-gives (s .args .i) (parts s) refl (c .make-pow .ensures))
+    front-codes {n = c .make-pow .result} {d = c .make-pow .last .1 .0} (pow-gives (s .args .i) (parts s) refl (c .make-pow .ensures))
     (s .pre .1 .1 .1 .0)
 
 pub sum-cross-spec : {M : Type 1} → statement M

@@ -6,12 +6,11 @@ use native.Mathlib.Omega.{arith}
 use lib.ListN.{length, getD}
 use Rattle.horner.specs.definitions.Form.{Form, int, pop, pow, size, lower, sum, scale}
 use Rattle.horner.specs.definitions.Points.{atFirst}
-use Rattle.horner.specs.definitions.Residues.{powBy}
-use Rattle.horner.specs.definitions.Ring.{Ring, power}
+use Rattle.code.specs.Widths.{powBy, modulus, Leaf, ringOf, leaf}
+use Rattle.horner.specs.definitions.Rings.{Ring, power}
 use Rattle.horner.specs.laws.First.{normal-atFirst, bounded-atFirst}
 use Rattle.code.specs.Coding.{enc, dec, limits, Good, Codes}
 use Rattle.code.specs.Operations.{sumOf, scaleOf}
-use Rattle.code.specs.Widths.{modulus, Leaf, ringOf, leaf}
 use Rattle.code.specs.laws.Codes.{IsInt}
 use Rattle.code.specs.laws.Good.{good-at, good-pop}
 use Rattle.code.specs.laws.Parts.{inner, first, rest, PopAt, PowAt}
@@ -46,7 +45,8 @@ module _ (w : ℕ) where
   -- a power by numbers, as a leaf
   power-leaf : (a i : ℕ) → a < modulus w → leaf w (powBy (modulus w) a i) ≡ power (ringOf w) (leaf w a) i
   power-leaf a i l =
-      ap (leaf w) (ap (λ z. powBy (modulus w) z i) (sym (leaf-number w a l)) ∙ sym (power-number w (leaf w a) i)) ∙ leaf-of w (power (ringOf w) (leaf w a) i)
+      ap (leaf w) (ap (λ z. powBy (modulus w) z i) (sym (leaf-number w a l)) ∙ sym (power-number w (leaf w a) i))
+      ∙ leaf-of w (power (ringOf w) (leaf w a) i)
 
   -- the cases
   pub first-int : {h : Form (Leaf w)} {x : ℕ} (a : ℕ) → IsInt w h x → h ≡ atFirstOf w h a
@@ -65,10 +65,12 @@ module _ (w : ℕ) where
 
   pub first-pow :
       {l : List ℕ} (a : ℕ) → PowAt w l → a < modulus w →
-      sumOf w (scaleOf w (powBy (modulus w) a (getD l 0 0 % 64)) (atFirstOf w (dec w (first l)) a)) (dec w (rest l)) ≡ atFirstOf w (dec w l) a
+      sumOf w (scaleOf w (powBy (modulus w) a (getD l 0 0 % 64)) (atFirstOf w (dec w (first l)) a)) (dec w (rest l)) ≡ atFirstOf w
+      (dec w l) a
   unfolding atFirstOf sumOf scaleOf
   first-pow {l} a v h =
-      ap (λ z. sum (ringOf w) (scale (ringOf w) z (atFirst (ringOf w) (dec w (first l)) (leaf w a))) (dec w (rest l))) (power-leaf a (getD l 0 0 % 64) h)
+      ap (λ z. sum (ringOf w) (scale (ringOf w) z (atFirst (ringOf w) (dec w (first l)) (leaf w a))) (dec w (rest l)))
+      (power-leaf a (getD l 0 0 % 64) h)
       ∙ ap (λ h. atFirstOf w h a) (sym (v .is))
 
   -- the code of a lowered form

@@ -26,12 +26,6 @@ made c =
     let s = start c in
     begins-as (c .sum-parts .ensures) (both-sum (s .args .a) (s .args .b) (s .args .stack .now))
 
-add-e : tie.Need-add-e
-add-e c = search needs
-
-slice-reshare-prefix-sum-parts : tie.Need-slice-reshare-prefix-sum-parts
-slice-reshare-prefix-sum-parts c = search needs
-
 slice-aggregate-sum-parts : tie.Need-slice-aggregate-sum-parts
 slice-aggregate-sum-parts c = sym (both-length (c .before .before .before .pre .0))
 
@@ -59,12 +53,6 @@ copy-requires c κs =
       sum-fits (start at-sum-parts .pre .0),
     )
 
-same-length : tie.Need-same-length
-same-length c = search needs
-
-same-length-2 : tie.Need-same-length-2
-same-length-2 c = search needs
-
 returns : tie.Need-returns
 returns c =
     let at-sum-parts : tie.After-sum-parts = c .before .before .before .before .before .before .before in
@@ -74,15 +62,5 @@ returns c =
 
 pub add-spec : {M : Type 1} → statement M
 add-spec =
-    tie.close
-    (tie.spec
-    add-e
-    slice-reshare-prefix-sum-parts
-    slice-aggregate-sum-parts
-    sum-parts-requires
-    slice-reshare-prefix-copy
-    slice-aggregate-copy
-    copy-requires
-    same-length
-    same-length-2
-    returns)
+    tie.close (tie.spec (λ c. search needs) (λ c. search needs) slice-aggregate-sum-parts sum-parts-requires slice-reshare-prefix-copy
+    slice-aggregate-copy copy-requires (λ c. search needs) (λ c. search needs) returns)

@@ -12,9 +12,6 @@ use borrow.Author.Needs.{needs}
 use Rattle.code_pair.proofs.negate_front.Statement.{statement}
 use Rattle.code_pair.proofs.negate_front.Tie as tie
 
-slice-reshare-prefix-negate : tie.Need-slice-reshare-prefix-negate
-slice-reshare-prefix-negate c = search needs
-
 -- the places that are looked at, each seen from a later one
 abbrev start : tie.After-negate-arg2 → tie.Start
 start c = c .before .before .before .before
@@ -52,12 +49,6 @@ copy-requires c κs =
       s .pre .0 .0,
     )
 
-same-length : tie.Need-same-length
-same-length c = search needs
-
-same-length-2 : tie.Need-same-length-2
-same-length-2 c = search needs
-
 returns : tie.Need-returns
 returns c =
     let at-negate : tie.After-negate = c .before .before .before .before .before .before .before in
@@ -68,14 +59,5 @@ returns c =
 
 pub negate-front-spec : {M : Type 1} → statement M
 negate-front-spec =
-    tie.close
-    (tie.spec
-    slice-reshare-prefix-negate
-    slice-aggregate-negate
-    negate-requires
-    slice-reshare-prefix-copy
-    slice-aggregate-copy
-    copy-requires
-    same-length
-    same-length-2
-    returns)
+    tie.close (tie.spec (λ c. search needs) slice-aggregate-negate negate-requires slice-reshare-prefix-copy slice-aggregate-copy
+    copy-requires (λ c. search needs) (λ c. search needs) returns)

@@ -11,18 +11,6 @@ use borrow.Author.Needs.{needs}
 use Rattle.code_pair.proofs.subtract.Statement.{statement}
 use Rattle.code_pair.proofs.subtract.Tie as tie
 
-mul-negate-front : tie.Need-mul-negate-front
-mul-negate-front c = search needs
-
-sub-negate-front : tie.Need-sub-negate-front
-sub-negate-front c = search needs
-
-part-negate-front-start : tie.Need-part-negate-front-start
-part-negate-front-start c = search needs
-
-part-negate-front-end : tie.Need-part-negate-front-end
-part-negate-front-end c = search needs
-
 -- the places that are looked at, each seen from a later one
 abbrev start : tie.After-negate-front-arg2 → tie.Start
 start c = c .before .before .before .before
@@ -46,12 +34,6 @@ add-requires c κs =
       omega (arith, negated-size (s .pre .0) (negate-front .ensures), s .pre .1),
     )
 
-same-length : tie.Need-same-length
-same-length c = search needs
-
-same-length-2 : tie.Need-same-length-2
-same-length-2 c = search needs
-
 returns : tie.Need-returns
 returns c =
     let at-add : tie.After-add = c .before .before .before .before in
@@ -62,14 +44,5 @@ returns c =
 
 pub subtract-spec : {M : Type 1} → statement M
 subtract-spec =
-    tie.close
-    (tie.spec
-    mul-negate-front
-    sub-negate-front
-    part-negate-front-start
-    part-negate-front-end
-    negate-front-requires
-    add-requires
-    same-length
-    same-length-2
-    returns)
+    tie.close (tie.spec (λ c. search needs) (λ c. search needs) (λ c. search needs) (λ c. search needs) negate-front-requires add-requires
+    (λ c. search needs) (λ c. search needs) returns)

@@ -17,18 +17,6 @@ slice-aggregate-sum c =
     let s : tie.Start = c .before .before .before in
     sym (length-take-le (s .args .n) (s .args .s .now) (s .pre .0))
 
-mul-sum : tie.Need-mul-sum
-mul-sum c = search needs
-
-sub-sum : tie.Need-sub-sum
-sub-sum c = search needs
-
-part-sum-start : tie.Need-part-sum-start
-part-sum-start c = search needs
-
-part-sum-end : tie.Need-part-sum-end
-part-sum-end c = search needs
-
 sum-requires : tie.Need-sum-requires
 sum-requires c κs =
     let s : tie.Start = c .before .before .before .before .before in (
@@ -42,9 +30,6 @@ sum-requires c κs =
       ),
     )
 
-same-length : tie.Need-same-length
-same-length c = search needs
-
 returns : tie.Need-returns
 returns c =
     let s : tie.Start = c .before .before .before .before .before .before .before .before in
@@ -53,13 +38,5 @@ returns c =
 
 pub sum-parts-spec : {M : Type 1} → statement M
 sum-parts-spec =
-    tie.close
-    (tie.spec
-    slice-aggregate-sum
-    mul-sum
-    sub-sum
-    part-sum-start
-    part-sum-end
-    sum-requires
-    same-length
-    returns)
+    tie.close (tie.spec slice-aggregate-sum (λ c. search needs) (λ c. search needs) (λ c. search needs) (λ c. search needs) sum-requires
+    (λ c. search needs) returns)

@@ -1,7 +1,5 @@
 -- `code_point::first_point` meets its contract: the least number that leaves a form that is not 0, and the first point of that form behind
--- it. The measure is the
--- number of variables.
--- Assumes nothing.
+-- it. The measure is the number of variables. Assumes nothing.
 use mathlib.Core.List.{_∷_, _++_}
 use mathlib.Core.Path.{refl, sym, ap, subst, _∙_}
 use Prim.Native.Nat.{_-_, ℕ, _<_}

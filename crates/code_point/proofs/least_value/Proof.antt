@@ -1,7 +1,6 @@
 -- `code_point::least_value` meets its contract. The loop's invariant: the tables are as long as at first, and the form vanishes at each
--- number passed. So the number
--- is at most one at which it does not, which is at most 63; the measure is what is left to 64.
--- Assumes nothing.
+-- number passed. So the number is at most one at which it does not, which is at most 63; the measure is what is left to 64. Assumes
+-- nothing.
 use mathlib.Core.Path.{refl, sym, _∙_, _≡_}
 use mathlib.Core.Bool.{true}
 use Prim.Native.Nat.{ℕ, _-_, _<_}

@@ -5,11 +5,10 @@ use Prim.Native.Nat.{ℕ, zero, suc, _-_, _≤_}
 use native.Mathlib.Omega.{arith}
 use lib.ListN.{length, take}
 use lib.Seq.{take-nil}
-use Rattle.horner.specs.definitions.Form.{Form, int, pop, pow}
-use Rattle.horner.specs.definitions.Measures.{AllLe, Bounded}
-use Rattle.horner.specs.definitions.Normal.{Normal}
-use Rattle.horner.specs.definitions.Ring.{Ring}
-use Rattle.horner.specs.definitions.Value.{after}
+use Rattle.horner.specs.definitions.Form.{Form, int, pop, pow, Normal, after}
+use Rattle.horner.specs.laws.Degree.{Bounded}
+use Rattle.horner.specs.definitions.Measures.{AllLe}
+use Rattle.horner.specs.definitions.Rings.{Ring}
 use Rattle.code.specs.Coding.{limits, Good}
 use Rattle.code.specs.Widths.{Leaf, ringOf}
 

@@ -22,7 +22,9 @@ pub least-before : (f : ℕ) (t : ℕ → Bool) (a b : ℕ) → a ≤ b → b < 
 least-before zero t a b l h = absurd (omega arith)
 least-before (suc f) t a b l h = at (t a) refl h (λ g p. step t a b l p (λ k. least-before f t (suc a) b k g))
   where
-    at : (c : Bool) → t a ≡ c → b < elim c [ true ↦ least f t (suc a) | false ↦ a ] → (b < least f t (suc a) → t a ≡ true → t b ≡ true) → t b ≡ true
+    at :
+        (c : Bool) → t a ≡ c → b < elim c [ true ↦ least f t (suc a) | false ↦ a ] → (b < least f t (suc a) → t a ≡ true → t b ≡ true) →
+        t b ≡ true
     at true p g k = k g p
     at false p g k = absurd (omega arith)
 

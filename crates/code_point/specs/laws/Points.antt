@@ -5,12 +5,11 @@ use mathlib.Core.Path.{_≡_, refl, sym, ap, subst, _∙_}
 use Prim.Native.Nat.{ℕ, suc, _-_, _≤_}
 use native.Mathlib.Omega.{arith}
 use lib.ListN.{length}
-use Rattle.horner.specs.definitions.Form.{Form, isZero}
-use Rattle.horner.specs.definitions.Measures.{AllLe, Bounded}
-use Rattle.horner.specs.definitions.Normal.{Normal}
+use Rattle.horner.specs.definitions.Form.{Form, isZero, Normal, nats}
+use Rattle.horner.specs.laws.Degree.{Bounded}
+use Rattle.horner.specs.definitions.Measures.{AllLe}
 use Rattle.horner.specs.definitions.Points.{least, atFirst, firstPoint}
-use Rattle.horner.specs.definitions.Ring.{Ring, nat}
-use Rattle.horner.specs.definitions.Value.{nats}
+use Rattle.horner.specs.definitions.Rings.{Ring, nat}
 use Rattle.horner.specs.laws.First.{first-is, val-atFirst, normal-atFirst}
 use Rattle.horner.specs.laws.Prime.{P-regular}
 use Rattle.horner.specs.laws.Residues.{nat-red}
@@ -27,7 +26,8 @@ module _ {A : Type 0} (R : Ring A) where
   abbrev test : Form A → ℕ → Bool
   test x b = isZero R (atFirst R x (nat R b))
 
-  module _ (K : ℕ) (regular : Regular R K) (d : ℕ) (ds : List ℕ) (le : AllLe K (d ∷ ds)) (x : Form A) (hx : Normal R (suc (length ds)) x) (bx : Bounded (d ∷ ds) x) (nz : isZero R x ≡ false) where
+  module _ (K : ℕ) (regular : Regular R K) (d : ℕ) (ds : List ℕ) (le : AllLe K (d ∷ ds)) (x : Form A)
+      (hx : Normal R (suc (length ds)) x) (bx : Bounded (d ∷ ds) x) (nz : isZero R x ≡ false) where
     -- the first number of the point
     abbrev value : ℕ
     value = least (suc d) (test x) 0
@@ -65,22 +65,29 @@ point-none h = refl
 module _ (n : ℕ) (h : Form (Leaf 0)) (g : Good 0 h) (r : Ready (suc n) h) where
   found : IsLeast (test (ringOf 0) h) (least 64 (test (ringOf 0) h) 0) × (least 64 (test (ringOf 0) h) 0 ≤ 63)
   found =
-      let hx : Normal (ringOf 0) (suc (length (limits n))) h = subst (λ z. Normal (ringOf 0) (suc z) h) (sym (length-limits n)) (r .normal) in
-      let b = bounded-good (suc n) h (r .few) g (r .normal) in
-      (value-least (ringOf 0) 63 P-regular 63 (limits n) (limits-63 (suc n)) h hx b (r .counts), value-small (ringOf 0) 63 P-regular 63 (limits n) (limits-63 (suc n)) h hx b (r .counts))
+      let hx : Normal (ringOf 0) (suc (length (limits n))) h = subst (λ z. Normal (ringOf 0) (suc z) h) (sym (length-limits n))
+      (r .normal) in
+      let b = bounded-good (suc n) h (r .few) g (r .normal) in (
+        value-least (ringOf 0) 63 P-regular 63 (limits n) (limits-63 (suc n)) h hx b (r .counts),
+        value-small (ringOf 0) 63 P-regular
+            63 (limits n) (limits-63 (suc n)) h hx b (r .counts),
+      )
 
   test-is : (a : ℕ) → vanishes h a ≡ test (ringOf 0) h a
   unfolding vanishes atFirstOf
   test-is a = ap (λ z. isZero (ringOf 0) (atFirst (ringOf 0) h z)) (sym (nat-leaf a))
 
   pub ready-fails : Fails (vanishes h)
-  ready-fails = record { value = least 64 (test (ringOf 0) h) 0; small = found .1; fails = test-is (least 64 (test (ringOf 0) h) 0) ∙ found .0 .fails }
+  ready-fails =
+      record
+      { value = least 64 (test (ringOf 0) h) 0; small = found .1; fails = test-is (least 64 (test (ringOf 0) h) 0) ∙ found .0 .fails }
 
   -- the least number that leaves a form that is not 0 comes first, and then the point of that form
   pub point-next : (a : ℕ) → IsLeast (vanishes h) a → a ∷ pointOf n (atFirstOf 0 h a) ≡ pointOf (suc n) h
   unfolding pointOf atFirstOf
   point-next a l =
-      let m : IsLeast (test (ringOf 0) h) a = record { fails = sym (test-is a) ∙ l .fails; before = λ b k. sym (test-is b) ∙ l .before b k } in
+      let m : IsLeast (test (ringOf 0) h) a = record
+      { fails = sym (test-is a) ∙ l .fails; before = λ b k. sym (test-is b) ∙ l .before b k } in
       let e : a ≡ least 64 (test (ringOf 0) h) 0 = least-one m (found .0) in
       ap (λ z. a ∷ firstPoint (ringOf 0) (limits n) (atFirst (ringOf 0) h z)) (sym (nat-leaf a))
       ∙ ap (λ z. z ∷ firstPoint (ringOf 0) (limits n) (atFirst (ringOf 0) h (nat (ringOf 0) z))) e

@@ -5,11 +5,10 @@ use mathlib.Core.Logic.{_⊎_, inl, inr}
 use mathlib.Core.Path.{_≡_, refl, sym, ap, subst, _∙_}
 use Prim.Native.Nat.{ℕ, _≤_}
 use lib.ListN.{length}
-use Rattle.horner.specs.definitions.Form.{isZero, negate}
-use Rattle.horner.specs.definitions.Measures.{Within}
-use Rattle.horner.specs.definitions.Normal.{Normal}
+use Rattle.horner.specs.definitions.Form.{isZero, negate, Normal}
+use Rattle.horner.specs.laws.Within.{Within}
 use Rattle.horner.specs.definitions.Points.{Before, firstPoint, gap, sides, IsPoint}
-use Rattle.horner.specs.definitions.Residues.{redℤ, prime, prime-pos, P-ring}
+use Rattle.horner.specs.definitions.Rings.{redℤ, prime, prime-pos, P-ring}
 use Rattle.horner.specs.definitions.Term.{Term, normP, evalP}
 use Rattle.horner.specs.laws.Answer.{length-sides, point-is, point-before, val-gap, level}
 use Rattle.horner.specs.laws.Canonical.{length-box}
@@ -41,7 +40,8 @@ module _ (n : ℕ) (f g : Term) (few : n ≤ 4) (F : Within n f) (G : Within n g
     first-of : IsFirst P-ring (limits n) (gap f g) (pointOf n (gap f g))
     unfolding pointOf
     first-of =
-        first-is P-ring 63 P-regular (limits n) (limits-63 n) (gap f g) (subst (λ z. Normal P-ring z (gap f g)) (sym (length-limits n)) (terms-ready .normal))
+        first-is P-ring 63 P-regular (limits n) (limits-63 n) (gap f g)
+        (subst (λ z. Normal P-ring z (gap f g)) (sym (length-limits n)) (terms-ready .normal))
         (bounded-good n (gap f g) few good (terms-ready .normal)) nz
 
     -- document 01's point is the one that is found
@@ -61,8 +61,11 @@ module _ (n : ℕ) (f g : Term) (few : n ≤ 4) (F : Within n f) (G : Within n g
         l = length-box (limits n) N (first-of .inside) ∙ length-limits n
 
         differs : evalP f N ≡ evalP g N → ⊥
-        differs e = first-of .counts (val-gap n f g F G N ∙ ap (λ z. P-ring ._⊞_ z (P-ring .neg (evalP g N))) e ∙ P-ring .add-neg (evalP g N))
+        differs e =
+            first-of .counts (val-gap n f g F G N ∙ ap (λ z. P-ring ._⊞_ z (P-ring .neg (evalP g N))) e ∙ P-ring .add-neg (evalP g N))
 
         at : (N ≡ M) ⊎ Before M N → N ≡ M
         at (inl e) = e
-        at (inr b) = absurd (P .differs (level (evalP f M) (evalP g M) (sym (val-gap n f g F G M) ∙ first-of .earlier M b (length-box (sides n f g) M (P .inside) ∙ length-sides n f g F G ∙ sym (length-limits n)))))
+        at (inr b) =
+            absurd (P .differs (level (evalP f M) (evalP g M) (sym (val-gap n f g F G M)
+            ∙ first-of .earlier M b (length-box (sides n f g) M (P .inside) ∙ length-sides n f g F G ∙ sym (length-limits n)))))

@@ -1,7 +1,6 @@
 -- `code_power::multiply` meets its contract: that of `code_product::product`.
 -- Assumes nothing.
 use mathlib.Core.Path.{sym, ap, subst}
-use Prim.Native.Nat.{_-_}
 use lib.ListN.{length, take}
 use lib.Seq.{length-take-le}
 use Rattle.code.specs.Coding.{Coded, dec, enc}

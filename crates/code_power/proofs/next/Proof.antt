@@ -1,7 +1,7 @@
 -- `code_power::next` meets its contract: `multiply` into out, and `code::copy` behind x.
 -- Assumes nothing.
 use mathlib.Core.Path.{_∙_, sym, ap, subst}
-use Prim.Native.Nat.{_+_, _-_, _≤_}
+use Prim.Native.Nat.{_+_, _-_}
 use native.Mathlib.Omega.{arith}
 use lib.ListN.{length, take, drop}
 use lib.Seq.{length-take-le}

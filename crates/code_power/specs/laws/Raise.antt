@@ -72,7 +72,8 @@ module _ {w k n s o t u : ℕ} {x : Form (Leaf w)} (r : Raising w x k n s o t u)
   raise-fit j l =
       let e = sums-multiples j (r .ds) in
       let b = below-multiples (suc j) k (r .ds) l in
-      let a : AllLe 63 (sums (r .ds) (multiples j (r .ds))) = subst (AllLe 63) (sym e) (all-le-below 63 (multiples (suc j) (r .ds)) (multiples k (r .ds)) b (r .degrees)) in
+      let a : AllLe 63 (sums (r .ds) (multiples j (r .ds))) = subst (AllLe 63) (sym e)
+      (all-le-below 63 (multiples (suc j) (r .ds)) (multiples k (r .ds)) b (r .degrees)) in
       record {
         dx = r .ds;
         dy = multiples j (r .ds);
@@ -87,7 +88,16 @@ module _ {w k n s o t u : ℕ} {x : Form (Leaf w)} (r : Raising w x k n s o t u)
         pos-y = power-pos (r .c) j (r .pos);
         degrees = a;
         first = first-le 63 (sums (r .ds) (multiples j (r .ds))) a;
-        few = omega (arith, ap box e, box-below (multiples (suc j) (r .ds)) (multiples k (r .ds)) b, NatL.pow-succ' (r .c) j, power-mono (r .c) (suc j) k (r .pos) l, r .few);
+        few =
+            omega (
+              arith,
+              ap box e,
+              box-below (multiples (suc j) (r .ds)) (multiples k (r .ds)) b,
+              NatL.pow-succ' (r .c) j,
+              power-mono
+                  (r .c) (suc j) k (r .pos) l,
+              r .few,
+            );
       }
 
   pub raise-space : (j : ℕ) → j < k → Space w x (raiseOf w x j) o t u

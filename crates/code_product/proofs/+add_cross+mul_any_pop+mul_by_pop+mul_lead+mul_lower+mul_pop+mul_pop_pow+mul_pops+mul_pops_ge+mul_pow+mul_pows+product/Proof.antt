@@ -29,7 +29,8 @@ use Rattle.code_product.proofs.+add_cross+mul_any_pop+mul_by_pop+mul_le
 use Rattle.code_product.proofs.+add_cross+mul_any_pop+mul_by_pop+mul_lead+mul_lower+mul_pop+mul_pop_pow+mul_pops+mul_pops_ge+mul_pow+mul_pows+product.Proof.MulPows.{mul-pows-meets}
 use Rattle.code_product.proofs.+add_cross+mul_any_pop+mul_by_pop+mul_lead+mul_lower+mul_pop+mul_pop_pow+mul_pops+mul_pops_ge+mul_pow+mul_pows+product.Proof.Product.{product-meets}
 
-pub +add-cross+mul-any-pop+mul-by-pop+mul-lead+mul-lower+mul-pop+mul-pop-pow+mul-pops+mul-pops-ge+mul-pow+mul-pows+product-spec : {M : Type 1} → statement M
+pub +add-cross+mul-any-pop+mul-by-pop+mul-lead+mul-lower+mul-pop+mul-pop-pow+mul-pops+mul-pops-ge+mul-pow+mul-pows+product-spec :
+    {M : Type 1} → statement M
 +add-cross+mul-any-pop+mul-by-pop+mul-lead+mul-lower+mul-pop+mul-pop-pow+mul-pops+mul-pops-ge+mul-pow+mul-pows+product-spec =
     close
     μ-add-cross μ-mul-any-pop μ-mul-by-pop μ-mul-lead μ-mul-lower μ-mul-pop μ-mul-pop-pow μ-mul-pops μ-mul-pops-ge μ-mul-pow μ-mul-pows

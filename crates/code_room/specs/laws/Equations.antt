@@ -3,7 +3,8 @@ use mathlib.Core.Path.{_≡_, refl, sym, ap, subst, _∙_}
 use Prim.Native.Nat.{ℕ, zero, suc, _-_, _≤_, _<_}
 use native.Mathlib.Omega.{arith}
 use Rattle.horner.specs.definitions.Form.{Form, int, pop, pow, lower}
-use Rattle.horner.specs.laws.Equations.{prod-int, prod-pop-int, prod-pow-int, prod-pop-pow, prod-pow-pop, prod-pow-pow, prod-3a, prod-3b, prod-3c}
+use Rattle.horner.specs.laws.Equations.{prod-int, prod-pop-int, prod-pow-int, prod-pop-pow, prod-pow-pop, prod-pow-pow, prod-3a, prod-3b}
+use Rattle.horner.specs.laws.Equations.{prod-3c}
 use Rattle.code.specs.Operations.{popOf, powOf, sumOf, scaleOf, zeroOf}
 use Rattle.code.specs.Widths.{Leaf, ringOf, leaf}
 use Rattle.code_room.specs.Fit.{prodOf, leadOf, crossOf}
@@ -48,7 +49,8 @@ module _ (w : ℕ) where
     unfolding prodOf powOf
     pop-pow l =
         let e : suc (i - 1) ≡ i = omega arith in
-        subst (λ z. prodOf w (pop z p) (pow j q r) ≡ powOf w j (prodOf w (pop z p) q) (prodOf w (lower (i - 1) p) r)) e (prod-pop-pow (ringOf w) (i - 1) j p q r)
+        subst (λ z. prodOf w (pop z p) (pow j q r) ≡ powOf w j (prodOf w (pop z p) q) (prodOf w (lower (i - 1) p) r)) e
+        (prod-pop-pow (ringOf w) (i - 1) j p q r)
 
     pub pow-pop : 0 < i → prodOf w (pow j q r) (pop i p) ≡ prodOf w (pop i p) (pow j q r)
     unfolding prodOf

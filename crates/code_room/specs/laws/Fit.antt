@@ -4,9 +4,8 @@ use Prim.Native.Nat.{ℕ, _+_, _-_, _*_, _<_, _≤_, min}
 use native.Mathlib.Nat as NatL
 use native.Mathlib.Omega.{arith}
 use lib.ListN.{length}
-use Rattle.horner.specs.definitions.Form.{Form, pop, pow, lower, prod}
+use Rattle.horner.specs.definitions.Form.{Form, pop, pow, lower, prod, after}
 use Rattle.horner.specs.definitions.Measures.{firstOr0, sums, box, AllLe, one-if, count}
-use Rattle.horner.specs.definitions.Value.{after}
 use Rattle.horner.specs.laws.Bounds.{sums-comm, length-sums, bounded-mkpop, bounded-prod}
 use Rattle.horner.specs.laws.Count.{box-after, count-size, count-box}
 use Rattle.horner.specs.laws.Degree.{bounded-mono, all-le-below}
@@ -19,7 +18,8 @@ use Rattle.code.specs.Widths.{Leaf, ringOf}
 use Rattle.code.specs.laws.Good.{good-at}
 use Rattle.code.specs.laws.Sizes.{size-enc}
 use Rattle.code_room.specs.Fit.{prodOf, Within, Fit, Held}
-use Rattle.code_room.specs.laws.Lists.{sums-left, after-sums, first-left, length-after, all-after, first-le, box-below, below-limits, cut, length-cut, below-cut, first-cut}
+use Rattle.code_room.specs.laws.Lists.{sums-left, after-sums, first-left, length-after, all-after, first-le, box-below, below-limits}
+use Rattle.code_room.specs.laws.Lists.{cut, length-cut, below-cut, first-cut}
 use Rattle.code_room.specs.laws.Parts.{under-pop, under-lower, under-pow, within-cut, exponent-le}
 
 -- the terms, cut to the box, do not grow where the box does not
@@ -72,14 +72,23 @@ module _ {w n k : ℕ} {x y : Form (Leaf w)} (f : Fit w n k x y) where
       held (prod (ringOf w) x y) (record {
         normal = normal-prod (ringOf w) n x y (f .of-x .normal) (f .of-y .normal);
         bounded = bounded-prod (ringOf w) (f .dx) (f .dy) x y (f .of-x .bounded) (f .of-y .bounded);
-        few = omega (arith, meas-prod (ringOf w) (one-if (ringOf w)) (count-size (ringOf w)) x y, NatL.mul-le-mul (f .of-x .few) (f .of-y .few));
+        few =
+            omega (
+              arith,
+              meas-prod (ringOf w) (one-if (ringOf w)) (count-size (ringOf w)) x y,
+              NatL.mul-le-mul (f .of-x .few)
+                  (f .of-y .few),
+            );
       })
 
   -- two forms that stand i variables further down
-  pub fit-under : (i : ℕ) {p q : Form (Leaf w)} → Within w (n - i) (f .cx) (after i (f .dx)) p → Within w (n - i) (f .cy) (after i (f .dy)) q → Fit w (n - i) 63 p q
+  pub fit-under :
+      (i : ℕ) {p q : Form (Leaf w)} → Within w (n - i) (f .cx) (after i (f .dx)) p → Within w (n - i) (f .cy) (after i (f .dy)) q →
+      Fit w (n - i) 63 p q
   fit-under i hp hq =
       let e = after-sums i (f .dx) (f .dy) in
-      let a : AllLe 63 (sums (after i (f .dx)) (after i (f .dy))) = subst (AllLe 63) e (all-after 63 i (sums (f .dx) (f .dy)) (f .degrees)) in
+      let a : AllLe 63 (sums (after i (f .dx)) (after i (f .dy))) = subst (AllLe 63) e
+      (all-after 63 i (sums (f .dx) (f .dy)) (f .degrees)) in
       record {
         dx = after i (f .dx);
         dy = after i (f .dy);
@@ -94,7 +103,9 @@ module _ {w n k : ℕ} {x y : Form (Leaf w)} (f : Fit w n k x y) where
         pos-y = f .pos-y;
         degrees = a;
         first = first-le 63 (sums (after i (f .dx)) (after i (f .dy))) a;
-        few = fewer (f .cx * f .cy) (box (sums (after i (f .dx)) (after i (f .dy)))) (box (sums (f .dx) (f .dy))) (omega (arith, ap box e, box-after i (sums (f .dx) (f .dy)))) (f .few);
+        few =
+            fewer (f .cx * f .cy) (box (sums (after i (f .dx)) (after i (f .dy)))) (box (sums (f .dx) (f .dy)))
+            (omega (arith, ap box e, box-after i (sums (f .dx) (f .dy)))) (f .few);
       }
 
 -- a first factor with the same bounds
@@ -149,7 +160,9 @@ module _ {w n k : ℕ} {y : Form (Leaf w)} (i : ℕ) (p q : Form (Leaf w)) (f : 
         pos-y = f .pos-y;
         degrees = all-le-below 63 (sums (cut i (f .dx)) (f .dy)) (sums (f .dx) (f .dy)) b (f .degrees);
         first = first-cut i k (f .dx) (f .dy) (exponent-le (f .dx) i p q (f .of-x)) (f .first);
-        few = fewer (f .cx * f .cy) (box (sums (cut i (f .dx)) (f .dy))) (box (sums (f .dx) (f .dy))) (box-below (sums (cut i (f .dx)) (f .dy)) (sums (f .dx) (f .dy)) b) (f .few);
+        few =
+            fewer (f .cx * f .cy) (box (sums (cut i (f .dx)) (f .dy))) (box (sums (f .dx) (f .dy)))
+            (box-below (sums (cut i (f .dx)) (f .dy)) (sums (f .dx) (f .dy)) b) (f .few);
       }
 
   -- pop(1, q)
@@ -173,5 +186,6 @@ fit-rests i j p q r s f = fit-under f 1 (under-pow (f .dx) i p q (f .of-x)) (und
 pub fit-pops : {w n k : ℕ} (i j : ℕ) (p q : Form (Leaf w)) → j ≤ i → Fit w n k (pop i p) (pop j q) → Fit w (n - j) 63 (lower (i - j) p) q
 fit-pops i j p q l f = fit-under f j (under-lower i j p l (f .of-x)) (under-pop j q (f .of-y))
 
-pub fit-lower : {w n k : ℕ} (i j : ℕ) (p q r : Form (Leaf w)) → 0 < i → Fit w n k (pop i p) (pow j q r) → Fit w (n - 1) 63 (lower (i - 1) p) r
+pub fit-lower :
+    {w n k : ℕ} (i j : ℕ) (p q r : Form (Leaf w)) → 0 < i → Fit w n k (pop i p) (pow j q r) → Fit w (n - 1) 63 (lower (i - 1) p) r
 fit-lower i j p q r l f = fit-under f 1 (under-lower i 1 p l (f .of-x)) (under-pow (f .dy) j q r (f .of-y))

@@ -6,7 +6,7 @@ use native.Mathlib.Nat as NatL
 use native.Mathlib.Omega.{arith}
 use lib.ListN.{length}
 use Rattle.horner.specs.definitions.Measures.{firstOr0, sums, box, AllLe}
-use Rattle.horner.specs.definitions.Value.{tl, after}
+use Rattle.horner.specs.definitions.Form.{tl, after}
 use Rattle.horner.specs.laws.Bounds.{sums-comm}
 use Rattle.horner.specs.laws.Count.{box-pos}
 use Rattle.horner.specs.laws.Degree.{Below, below-refl}

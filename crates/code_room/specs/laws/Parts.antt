@@ -3,10 +3,9 @@ use mathlib.Core.List.{List, [], _∷_}
 use mathlib.Core.Path.{_≡_, _∙_, ap, subst}
 use Prim.Native.Nat.{ℕ, zero, suc, _+_, _-_, _≤_}
 use native.Mathlib.Omega.{arith}
-use Rattle.horner.specs.definitions.Form.{Form, pop, pow, lower}
-use Rattle.horner.specs.definitions.Measures.{firstOr0, Bounded}
-use Rattle.horner.specs.definitions.Normal.{Normal}
-use Rattle.horner.specs.definitions.Value.{after}
+use Rattle.horner.specs.definitions.Form.{Form, pop, pow, lower, Normal, after}
+use Rattle.horner.specs.laws.Degree.{Bounded}
+use Rattle.horner.specs.definitions.Measures.{firstOr0}
 use Rattle.horner.specs.laws.Value.{after-add}
 use Rattle.code.specs.Widths.{Leaf, ringOf}
 use Rattle.code_room.specs.Fit.{Within}

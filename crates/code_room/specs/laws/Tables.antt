@@ -36,14 +36,27 @@ pop-vars : {w n c : ℕ} {ds : List ℕ} (i : ℕ) (p : Form (Leaf w)) → Withi
 pop-vars {w} {n} i p h = omega (arith, pow-level (ringOf w) (n - i) p (h .normal .1) (h .normal .2))
 
 -- where a factor is a POP, less is enough
-pub pop-space : {w : ℕ} {y : Form (Leaf w)} {o t u : ℕ} (i : ℕ) (p : Form (Leaf w)) → Space w (pop i p) y o t u → PopSpace w (pop i p) y o t u
-pop-space i p s = record { n = s .n; k = s .k; pos = pop-vars i p (s .fit .of-x); fit = s .fit; tables = omega (arith, s .tables, pop-vars i p (s .fit .of-x)) }
+pub pop-space :
+    {w : ℕ} {y : Form (Leaf w)} {o t u : ℕ} (i : ℕ) (p : Form (Leaf w)) → Space w (pop i p) y o t u → PopSpace w (pop i p) y o t u
+pop-space i p s =
+    record {
+      n = s .n;
+      k = s .k;
+      pos = pop-vars i p (s .fit .of-x);
+      fit = s .fit;
+      tables = omega (
+        arith,
+        s .tables,
+        pop-vars i p (s .fit .of-x),
+      );
+    }
 
 -- ---- (3)
 module _ {w o t u : ℕ} (i j : ℕ) (p q : Form (Leaf w)) (s : PopSpace w (pop i p) (pop j q) o t u) where
   pub space-pops : j ≤ i → Space w (lower (i - j) p) q (o - 1) t u
   space-pops l =
-      record { n = s .n - j; k = 63; fit = fit-pops i j p q l (s .fit); tables = omega (arith, s .tables, s .pos, s .fit .of-y .normal .0) }
+      record
+      { n = s .n - j; k = 63; fit = fit-pops i j p q l (s .fit); tables = omega (arith, s .tables, s .pos, s .fit .of-y .normal .0) }
 
 -- ---- (4): the p of the POW, and its q behind what that gives, of a words
 module _ {w o t u : ℕ} (i j : ℕ) (p q r : Form (Leaf w)) (s : PopSpace w (pop i p) (pow j q r) o t u) where
@@ -60,7 +73,8 @@ module _ {w o t u : ℕ} (i j : ℕ) (p q r : Form (Leaf w)) (s : PopSpace w (po
 
   pub space-lower : (a : ℕ) → a ≤ 3073 → Space w (lower (i - 1) p) r (o - (1 + a)) t u
   space-lower a l =
-      record { n = s .n - 1; k = 63; fit = fit-lower i j p q r (s .fit .of-x .normal .0) (s .fit); tables = omega (arith, s .tables, s .pos) }
+      record
+      { n = s .n - 1; k = 63; fit = fit-lower i j p q r (s .fit .of-x .normal .0) (s .fit); tables = omega (arith, s .tables, s .pos) }
 
 -- ---- (6)
 module _ {w o t u : ℕ} (i j : ℕ) (p q r s : Form (Leaf w)) (h : Space w (pow i p q) (pow j r s) o t u) where
@@ -95,6 +109,7 @@ module _ {w o t u : ℕ} (i j : ℕ) (p q r s : Form (Leaf w)) (h : Space w (pow
 pub cross-pop : {w i o t u : ℕ} {p s : Form (Leaf w)} → CrossSpace w i p s o t u → PopSpace w p (popOf w 1 s) (o - 1) t u
 cross-pop h = record { n = h .n; k = h .k; pos = h .pos; fit = h .fit; tables = omega (arith, h .tables) }
 
-pub cross-at : {w i o t u o′ t′ u′ : ℕ} {p s : Form (Leaf w)} → o ≡ o′ → t ≡ t′ → u ≡ u′ → CrossSpace w i p s o t u → CrossSpace w i p s o′ t′ u′
+pub cross-at :
+    {w i o t u o′ t′ u′ : ℕ} {p s : Form (Leaf w)} → o ≡ o′ → t ≡ t′ → u ≡ u′ → CrossSpace w i p s o t u → CrossSpace w i p s o′ t′ u′
 cross-at a b c h =
     record { n = h .n; k = h .k; pos = h .pos; fit = h .fit; pos-i = h .pos-i; held = h .held; tables = omega (arith, h .tables) }

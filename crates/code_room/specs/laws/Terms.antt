@@ -1,4 +1,5 @@
--- Document 01's limits on a term are what the product asks for: the forms of two terms fit where the term that multiplies them is within the limits.
+-- Document 01's limits on a term are what the product asks for: the forms of two terms fit where the term that multiplies them is within
+-- the limits.
 use mathlib.Core.Bool.{false}
 use mathlib.Core.Path.{_≡_}
 use Prim.Native.Nat.{ℕ, _≤_}
@@ -6,8 +7,8 @@ use native.Mathlib.Omega.{arith}
 use lib.IntN.{ℤ}
 use borrow.Author.Tests.{ne-eqb}
 use Rattle.horner.specs.definitions.Measures.{sums, AllLe, degreesOf, termsOf}
-use Rattle.horner.specs.definitions.Ring.{Ring}
-use Rattle.horner.specs.definitions.Term.{Term, times, Over, norm}
+use Rattle.horner.specs.laws.Within.{Over}
+use Rattle.horner.specs.definitions.Term.{Term, times, norm}
 use Rattle.horner.specs.laws.Limits.{length-degreesOf, bounded-norm, termsOf-pos, count-norm}
 use Rattle.horner.specs.laws.Term.{normal-norm}
 use Rattle.code.specs.Widths.{Leaf, ringOf, leaf}
@@ -27,7 +28,9 @@ module _ (w n : ℕ) (ι : ℤ → Leaf w) where
         few = count-norm (ringOf w) ι (unit-not-nil w) n t o;
       }
 
-  pub terms-fit : (s t : Term) → n ≤ 4 → Over n s → Over n t → AllLe 63 (degreesOf n (times s t)) → termsOf n (times s t) ≤ 256 → Fit w n 63 (norm (ringOf w) ι s) (norm (ringOf w) ι t)
+  pub terms-fit :
+      (s t : Term) → n ≤ 4 → Over n s → Over n t → AllLe 63 (degreesOf n (times s t)) → termsOf n (times s t) ≤ 256 →
+      Fit w n 63 (norm (ringOf w) ι s) (norm (ringOf w) ι t)
   terms-fit s t l os ot d c =
       record {
         dx = degreesOf n s;

@@ -1,7 +1,7 @@
 -- `code_sum::add_int` meets its contract: a leaf and a leaf, or a node whose last part gets the leaf. The measure is the number of words.
 -- Assumes nothing.
 use mathlib.Core.Path.{_∙_}
-use Prim.Native.Nat.{ℕ, _+_, _-_, _<_}
+use Prim.Native.Nat.{ℕ, _+_, _<_}
 use native.Mathlib.Omega.{arith}
 use lib.ListN.{length, getD, length-set}
 use Rattle.code.specs.laws.Codes.{some, int-view}

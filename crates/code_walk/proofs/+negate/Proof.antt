@@ -1,7 +1,5 @@
 -- `code_walk::negate` meets its contract: a leaf is stored; a pop and a pow keep their head word, and their parts are written after it.
--- The measure is the
--- number of words.
--- Assumes nothing.
+-- The measure is the number of words. Assumes nothing.
 use mathlib.Core.Path.{_≡_, _∙_}
 use Prim.Native.Nat.{ℕ, _+_, _-_, _<_}
 use native.Mathlib.Omega.{arith}

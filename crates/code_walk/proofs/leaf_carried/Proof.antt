@@ -5,9 +5,8 @@ use mathlib.Core.Path.{_≡_, sym, ap, subst, _∙_}
 use Prim.Native.Nat.{ℕ, _-_, _%_, _<_, _≤_}
 use native.Mathlib.Nat.{mod-lt}
 use native.Mathlib.Omega.{arith}
-use Rattle.code.specs.Widths.{modulus, modulus-pos, leaf}
+use Rattle.code.specs.Widths.{modulus, modulus-pos, leaf, negBy}
 use Rattle.code.specs.laws.Widths.{leaf-number}
-use Rattle.horner.specs.definitions.Residues.{negBy}
 use Rattle.code_walk.specs.Carrying.{carried}
 use Rattle.code_walk.specs.laws.Carrying.{carried-small, carried-large, carried-back}
 use borrow.Author.Needs.{needs}

@@ -19,7 +19,8 @@ module _ (w : ℕ) where
   pub letter-first : 2147483713 ∷ (1 ∷ (0 ∷ [])) ≡ enc w (letterOf w 0)
   unfolding enc letterOf
   letter-first =
-      ap (λ n. 2147483713 ∷ (n ∷ (0 ∷ []))) (sym (leaf-number w 1 (modulus-big w))) ∙ ap (λ n. 2147483713 ∷ (leaf w 1 .0 ∷ (n ∷ []))) (sym (zero-leaf w))
+      ap (λ n. 2147483713 ∷ (n ∷ (0 ∷ []))) (sym (leaf-number w 1 (modulus-big w)))
+      ∙ ap (λ n. 2147483713 ∷ (leaf w 1 .0 ∷ (n ∷ []))) (sym (zero-leaf w))
 
   pub letter-next : (i : ℕ) → 0 < i → (2147483648 + i) ∷ (2147483713 ∷ (1 ∷ (0 ∷ []))) ≡ enc w (letterOf w i)
   unfolding enc letterOf
@@ -37,7 +38,8 @@ module _ (w : ℕ) where
       head (pow i p q) = ne-eqb (getD (enc w (pow i p q)) 0 0) 0 (omega arith)
 
 -- what decides whether two codes are equal decides whether their forms are
-pub decides-forms : {w : ℕ} {g h : Form (Leaf w)} {l k : List ℕ} {r : Bool} → Codes w g l → Codes w h k → Decides r (l ≡ k) → Decides r (g ≡ h)
+pub decides-forms :
+    {w : ℕ} {g h : Form (Leaf w)} {l k : List ℕ} {r : Bool} → Codes w g l → Codes w h k → Decides r (l ≡ k) → Decides r (g ≡ h)
 decides-forms {w} {g} {h} {l} {k} c e d = record {
   yes = λ t. codes-same c (rw (d .yes t) e);
   no = λ q. d .no (c .is ∙ ap (enc w) q ∙ sym (e .is));

@@ -16,54 +16,22 @@ Inv-loop piece kept line₀ out₀ fill₀ i₀ line out fill i = (i ≤ length 
 abbrev μ-loop : tie.MeasureT-loop
 μ-loop piece kept line₀ out₀ fill₀ i₀ line out fill i = length piece - i
 
--- src/main.rt:43:5
 loop-holds : tie.Need-loop-holds Inv-loop μ-loop
 loop-holds c = omega arith
 
--- src/main.rt:44:26
 shared-slice-read-take-byte : tie.Need-shared-slice-read-take-byte Inv-loop μ-loop
 shared-slice-read-take-byte c = omega arith
 
--- src/main.rt:44:9
-take-byte-requires : tie.Need-take-byte-requires Inv-loop μ-loop
-take-byte-requires c κs = search needs
-
--- src/main.rt:45:9
 add-i : tie.Need-add-i Inv-loop μ-loop
 add-i c = omega arith
 
--- src/main.rt:43:5
 loop-less : tie.Need-loop-less Inv-loop μ-loop
 loop-less c = omega arith
 
--- src/main.rt:43:5
 loop-again : tie.Need-loop-again Inv-loop μ-loop
 loop-again c = omega arith
 
--- src/main.rt:40:1
-same-length : tie.Need-same-length Inv-loop μ-loop
-same-length c = search needs
-
--- src/main.rt:40:1
-same-length-2 : tie.Need-same-length-2 Inv-loop μ-loop
-same-length-2 c = search needs
-
--- src/main.rt:40:1
-returns : tie.Need-returns Inv-loop μ-loop
-returns c = search needs
-
 pub take-piece-spec : {M : Type 1} → statement M
 take-piece-spec =
-    tie.close
-    (tie.spec
-    Inv-loop
-    μ-loop
-    loop-holds
-    shared-slice-read-take-byte
-    take-byte-requires
-    add-i
-    loop-less
-    loop-again
-    same-length
-    same-length-2
-    returns)
+    tie.close (tie.spec Inv-loop μ-loop loop-holds shared-slice-read-take-byte (λ c κs. search needs) add-i loop-less loop-again
+    (λ c. search needs) (λ c. search needs) (λ c. search needs))

@@ -14,29 +14,23 @@ use Rattle.desk_answer.proofs.word_line.Reads as word-line-reads
 abbrev tables : tie.Start → List ℕ
 tables s = length (s .args .a .now) ∷ length (s .args .b .now) ∷ length (s .args .c .now) ∷ length (s .args .d .now) ∷ []
 
+-- the places that are looked at, each seen from a later one
+abbrev after-word-line : tie.After-slice-known10 → tie.After-word-line
+after-word-line c = c .before .before .before .before .before .before .before .before .before .before
+
 returns : tie.Need-returns
-returns c = let s = (c .before .before .before .before .before .before .before) in answer-none (tables s) (s .args .line .now) (s .args .out .now) ((c .if1) .taken)
-
-word-line-requires : tie.Need-word-line-requires
-word-line-requires c κs = search needs
-
-same-length : tie.Need-same-length
-same-length c = search needs
-
-same-length-2 : tie.Need-same-length-2
-same-length-2 c = search needs
-
-same-length-3 : tie.Need-same-length-3
-same-length-3 c = search needs
-
-same-length-4 : tie.Need-same-length-4
-same-length-4 c = search needs
-
-same-length-5 : tie.Need-same-length-5
-same-length-5 c = search needs
+returns c =
+    let start : tie.Start = c .before .before .before .before .before .before .before in
+    answer-none (tables start) (start .args .line .now) (start .args .out .now) ((c .if1) .taken)
 
 returns-2 : tie.Need-returns-2
-returns-2 c = let s = (c .before .before .before .before .before .before .before .before .before .before .before .before .before .before .before .before .before .before .before .before .before .before .before) in answer-some (tables s) (s .args .line .now) ((c .before .before .before .before .before .before .before .before .before .before .before .before .before .before .before .before .if1) .left) ((c .before .before .before .before .before .before .before .before .before .before .word-line) .ensures)
+returns-2 c =
+    let at-word-line = after-word-line c in
+    let at-else1 : tie.Else1 = at-word-line .before .before .before .before .before .before in
+    let start : tie.Start = at-else1 .before .before .before .before .before .before .before in
+    answer-some (tables start) (start .args .line .now) ((at-else1 .if1) .left) ((at-word-line .word-line) .ensures)
 
 pub answer-line-spec : {M : Type 1} → statement M
-answer-line-spec = tie.close (tie.spec returns word-line-requires same-length same-length-2 same-length-3 same-length-4 same-length-5 returns-2)
+answer-line-spec =
+    tie.close (tie.spec returns (λ c κs. search needs) (λ c. search needs) (λ c. search needs) (λ c. search needs) (λ c. search needs)
+    (λ c. search needs) returns-2)

@@ -1,6 +1,6 @@
 -- `desk_compare::compare_line` meets its contract.
 use mathlib.Core.List.{List, [], _∷_}
-use mathlib.Core.Path.{_≡_, sym}
+use mathlib.Core.Path.{sym}
 use Prim.Native.Nat.{ℕ}
 use native.Mathlib.Omega.{arith}
 use lib.ListN.{length, length-take}
@@ -29,18 +29,32 @@ tables s = length (now (s .args .a)) ∷ length (now (s .args .b)) ∷ length (n
 count-requires : tie.Need-count-requires
 count-requires c κs = tt
 
+-- the places that are looked at, each seen from a later one
+abbrev start : tie.After-count → tie.Start
+start c = c .before .before .before .before .before .before .before
+
+abbrev after-at-most-four : tie.After-compare → tie.After-at-most-four
+after-at-most-four c = c .before .before .before .before .before .before
+
+abbrev after-compare : tie.After-point3 → tie.After-compare
+after-compare c = c .before .before .before .before .before .before .before .before .before .before
+
+abbrev after-compare-from-compared : tie.After-compared → tie.After-compare
+after-compare-from-compared c = after-compare (c .before .before)
+
 miscounted-requires : tie.Need-miscounted-requires
-miscounted-requires c κs = c .before .before .before .before .before .before .before .before .before .pre
+miscounted-requires c κs = start (c .before .before) .pre
 
 same-length : tie.Need-same-length
 same-length c = c .before .before .miscounted .kept .1 .1 .0
 
 returns : tie.Need-returns
 returns c =
-    let if1 = c .before .before .before .before .if1 in
-    let count = c .before .before .before .before .before .count in
-    let start = c .before .before .before .before .before .before .before .before .before .before .before .before in
-    wrote-as (c .before .before .miscounted .ensures) (counted-not 4 (now (start .args .line)) _ (count .ensures) (if1 .taken))
+    let at-then1 : tie.Then1 = c .before .before .before .before in
+    let at-count = at-then1 .before in
+    let s = start at-count in
+    wrote-as (c .before .before .miscounted .ensures)
+    (counted-not 4 (now (s .args .line)) _ (at-count .count .ensures) (at-then1 .if1 .taken))
 
 field-requires : tie.Need-field-requires
 field-requires c κs = tt
@@ -54,81 +68,62 @@ field-requires-3 c κs = tt
 at-most-four-requires : tie.Need-at-most-four-requires
 at-most-four-requires c κs = tt
 
-slice-aggregate-compare : tie.Need-slice-aggregate-compare
-slice-aggregate-compare c = search needs
-
 compare-requires : tie.Need-compare-requires
 compare-requires c κs = tt
 
-array-share-prefix-point : tie.Need-array-share-prefix-point
-array-share-prefix-point c = search needs
-
 slice-aggregate-compared : tie.Need-slice-aggregate-compared
 slice-aggregate-compared c =
-    let call = c .before .before .before .before .before .before .before .before .before .before in
-    sym (length-take-le (call .before .before .before .before .before .before .at-most-four .result) (call .compare .last .1 .1 .1 .0)
-    (omega (arith, call .before .before .before .before .before .before .at-most-four .ensures, call .compare .kept .1 .1 .1 .0)))
+    let call = after-compare c in
+    let at-most-four = after-at-most-four call .at-most-four in
+    sym (length-take-le (at-most-four .result) (call .compare .last .1 .1 .1 .0)
+    (omega (arith, at-most-four .ensures, call .compare .kept .1 .1 .1 .0)))
 
 compared-requires : tie.Need-compared-requires
 compared-requires c κs =
-    let call = c .before .before .before .before .before .before .before .before .before .before .before in
-    let start = c .before .before .before .before .before .before .before .before .before .before .before .before .before .before .before .before .before .before .before .before .before .before .before .before .before .before .before .before .before in
-    let e = call .before .before .before .before .before .before .at-most-four .result in
+    let call = after-compare (c .before) in
+    let at-most-four = after-at-most-four call in
+    let s : tie.Start = start (at-most-four .before .before .before .before .before) in
+    let e = at-most-four .at-most-four .result in
     let point = call .compare .last .1 .1 .1 .0 in
-    (omega (arith, call .before .before .before .before .before .before .at-most-four .ensures, length-take e point), start .pre)
+    (omega (arith, at-most-four .at-most-four .ensures, length-take e point), s .pre)
 
 same-length-2 : tie.Need-same-length-2
 same-length-2 c = c .before .before .compared .kept .1 .1 .0
 
 same-length-3 : tie.Need-same-length-3
 same-length-3 c =
-    let compare = c .before .before .before .before .before .before .before .before .before .before .before .before .before .before .compare in
+    let compare = after-compare-from-compared (c .before .before) .compare in
     compare .kept .1 .1 .1 .1 .0
 
 same-length-4 : tie.Need-same-length-4
 same-length-4 c =
-    let compare = c .before .before .before .before .before .before .before .before .before .before .before .before .before .before .compare in
+    let compare = after-compare-from-compared (c .before .before) .compare in
     compare .kept .1 .1 .1 .1 .1 .0
 
 same-length-5 : tie.Need-same-length-5
 same-length-5 c =
-    let compare = c .before .before .before .before .before .before .before .before .before .before .before .before .before .before .compare in
+    let compare = after-compare-from-compared (c .before .before) .compare in
     compare .kept .1 .1 .1 .1 .1 .1 .0
 
 same-length-6 : tie.Need-same-length-6
 same-length-6 c =
-    let compare = c .before .before .before .before .before .before .before .before .before .before .before .before .before .before .compare in
+    let compare = after-compare-from-compared (c .before .before) .compare in
     compare .kept .1 .1 .1 .1 .1 .1 .1 .0
 
 returns-2 : tie.Need-returns-2
 returns-2 c =
-    let call = c .before .before .before .before .before .before .before .before .before .before .before .before .before .before in
-    let start = call .before .before .before .before .before .before .before .before .before .before .before .before .before .before .before .before .before .before in
+    let call = after-compare-from-compared (c .before .before) in
+    let at-most-four = after-at-most-four call in
+    let at-field : tie.After-field = at-most-four .before .before .before in
+    let s = start (at-field .before .before) in
     wrote-as (c .before .before .compared .ensures)
-    (compare-fields (tables start) (now (start .args .line)) _ (call .before .before .before .before .before .before .before .before .before .before .before .count .ensures) (call .before .before .before .before .before .before .before .before .before .before .if1 .left)
-    (call .before .before .before .before .before .before .before .before .before .field .ensures) (call .before .before .before .before .before .before .before .before .field2 .ensures) (call .before .before .before .before .before .before .before .field3 .ensures) (call .before .before .before .before .before .before .at-most-four .ensures)
+    (compare-fields (tables s) (now (s .args .line)) _ (at-field .before .before .count .ensures) (at-field .before .if1 .left)
+    (at-field .field .ensures) (at-most-four .before .before .field2 .ensures) (at-most-four .before .field3 .ensures)
+    (at-most-four .at-most-four .ensures)
     (is-compared (call .compare .ensures)) (call .compare .ensures .point))
 
 pub compare-line-spec : {M : Type 1} → statement M
 compare-line-spec =
-    tie.close
-    (tie.spec
-    count-requires
-    miscounted-requires
-    same-length
-    returns
-    field-requires
-    field-requires-2
-    field-requires-3
-    at-most-four-requires
-    slice-aggregate-compare
-    compare-requires
-    array-share-prefix-point
-    slice-aggregate-compared
-    compared-requires
-    same-length-2
-    same-length-3
-    same-length-4
-    same-length-5
-    same-length-6
-    returns-2)
+    tie.close (tie.spec count-requires miscounted-requires same-length returns field-requires field-requires-2 field-requires-3
+    at-most-four-requires (λ c. search needs) compare-requires (λ c. search needs) slice-aggregate-compared compared-requires
+    same-length-2 same-length-3 same-length-4 same-length-5 same-length-6 returns-2)

@@ -1,5 +1,5 @@
 -- `desk_compare::compared` meets its contract, case by case.
-use mathlib.Core.Path.{_≡_, sym, ap}
+use mathlib.Core.Path.{sym, ap}
 use denote.Ref.{now}
 use Rattle.form_write.specs.laws.Wrote.{wrote-as}
 use Rattle.desk_compare.specs.Compare.{comparedLine}
@@ -8,72 +8,32 @@ use Rattle.desk_compare.proofs.compared.Statement.{statement}
 use Rattle.desk_compare.proofs.compared.Tie as tie
 use Rattle.desk_compare.proofs.compared.Reads as reads
 use Rattle.desk_compare.proofs.compared.Lts as lts
-use Rattle.desk_reply.proofs.different.Reads as different-reads
+use Rattle.text_line.proofs.different.Reads as different-reads
 use Rattle.desk_reply.proofs.refused.Reads as refused-reads
 use Rattle.form_write.proofs.put.Reads as put-reads
 
-enum-told : tie.Need-enum-told
-enum-told c = search needs
-
-slice-aggregate-put : tie.Need-slice-aggregate-put
-slice-aggregate-put c = search needs
-
-put-requires : tie.Need-put-requires
-put-requires c κs = search needs
-
-enum-known-answer : tie.Need-enum-known-answer
-enum-known-answer c = search needs
-
-different-requires : tie.Need-different-requires
-different-requires c κs = search needs
-
-enum-known-answer-2 : tie.Need-enum-known-answer-2
-enum-known-answer-2 c = search needs
-
-refused-requires : tie.Need-refused-requires
-refused-requires c κs = search needs
-
-same-length : tie.Need-same-length
-same-length c = search needs
-
 returns : tie.Need-returns
 returns c =
-    let at-enum-told = c .before .before .before .before .before .enum-told in
-    let start = c .before .before .before .before .before .before .before .before .before in
-    wrote-as (c .before .before .put .ensures) (sym (ap (λ x. comparedLine x (now (start .args .point))) (at-enum-told .given .1)))
-
-same-length-2 : tie.Need-same-length-2
-same-length-2 c = search needs
+    let at-enum-told-here : tie.After-enum-told = c .before .before .before .before .before in
+    let start : tie.Start = at-enum-told-here .before .before .before .before in
+    wrote-as (c .before .before .put .ensures)
+    (sym (ap (λ x. comparedLine x (now (start .args .point))) (at-enum-told-here .enum-told .given .1)))
 
 returns-2 : tie.Need-returns-2
 returns-2 c =
-    let answer = c .before .before .before .before .before .answer in
-    let start = c .before .before .before .before .before .before .before .before .before in
-    wrote-as (c .before .before .different .ensures) (sym (ap (λ x. comparedLine x (now (start .args .point))) (answer .given .1)))
-
-same-length-3 : tie.Need-same-length-3
-same-length-3 c = search needs
+    let at-answer : tie.After-answer = c .before .before .before .before .before in
+    let start : tie.Start = at-answer .before .before .before .before in
+    wrote-as (c .before .before .different .ensures .0)
+    (sym (ap (λ x. comparedLine x (now (start .args .point))) (at-answer .answer .given .1)))
 
 returns-3 : tie.Need-returns-3
 returns-3 c =
-    let answer2 = c .before .before .before .before .before .answer2 in
-    let start = c .before .before .before .before .before .before .before .before .before in
-    wrote-as (c .before .before .refused .ensures) (sym (ap (λ x. comparedLine x (now (start .args .point))) (answer2 .given .1)))
+    let at-answer2 : tie.After-answer2 = c .before .before .before .before .before in
+    let start : tie.Start = at-answer2 .before .before .before .before in
+    wrote-as (c .before .before .refused .ensures)
+    (sym (ap (λ x. comparedLine x (now (start .args .point))) (at-answer2 .answer2 .given .1)))
 
 pub compared-spec : {M : Type 1} → statement M
 compared-spec =
-    tie.close
-    (tie.spec
-    enum-told
-    slice-aggregate-put
-    put-requires
-    enum-known-answer
-    different-requires
-    enum-known-answer-2
-    refused-requires
-    same-length
-    returns
-    same-length-2
-    returns-2
-    same-length-3
-    returns-3)
+    tie.close (tie.spec (λ c. search needs) (λ c. search needs) (λ c κs. search needs) (λ c. search needs) (λ c κs. search needs)
+    (λ c. search needs) (λ c κs. search needs) (λ c. search needs) returns (λ c. search needs) returns-2 (λ c. search needs) returns-3)

@@ -1,6 +1,5 @@
 -- `desk_compare::counters_line` meets its contract.
 use mathlib.Core.List.{List, [], _∷_}
-use mathlib.Core.Path.{_≡_}
 use Prim.Native.Nat.{ℕ}
 use native.Mathlib.Omega.{arith}
 use lib.ListN.{length}
@@ -30,19 +29,38 @@ tables s = length (now (s .args .a)) ∷ length (now (s .args .b)) ∷ length (n
 count-requires : tie.Need-count-requires
 count-requires c κs = tt
 
+-- the places that are looked at, each seen from a later one
+abbrev start : tie.After-count → tie.Start
+start c = c .before .before .before .before .before .before .before
+
+abbrev after-count : tie.After-natural → tie.After-count
+after-count c = c .before .before .before
+
+abbrev start-from-natural : tie.After-natural → tie.Start
+start-from-natural c = start (after-count c)
+
+abbrev after-natural : tie.After-counted-arg → tie.After-natural
+after-natural c =
+    c .before .before .before .before .before .before .before .before .before .before .before .before .before .before .before
+    .before .before .before .before .before .before
+
+abbrev after-counters : tie.After-slice-known13 → tie.After-counters
+after-counters c = c .before .before .before .before .before .before .before .before .before .before .before .before
+
 wrong-requires : tie.Need-wrong-requires
-wrong-requires c κs = omega (arith, c .before .before .before .before .before .before .before .before .before .pre)
+wrong-requires c κs = omega (arith, start (c .before .before) .pre)
 
 same-length : tie.Need-same-length
 same-length c = c .before .before .wrong .kept .1 .0
 
 returns : tie.Need-returns
 returns c =
-    let if1 = c .before .before .before .before .if1 in
-    let count = c .before .before .before .before .before .count in
-    let start = c .before .before .before .before .before .before .before .before .before .before .before .before in
-    let line = now (start .args .line) in
-    wrote-as (c .before .before .wrong .ensures) (numbered-missing 2 line (countersBy (tables start) line) (count .ensures) (if1 .taken))
+    let at-then1 : tie.Then1 = c .before .before .before .before in
+    let at-count = at-then1 .before in
+    let s = start at-count in
+    let line = now (s .args .line) in
+    wrote-as (c .before .before .wrong .ensures)
+    (numbered-missing 2 line (countersBy (tables s) line) (at-count .count .ensures) (at-then1 .if1 .taken))
 
 field-requires : tie.Need-field-requires
 field-requires c κs = tt
@@ -50,47 +68,48 @@ field-requires c κs = tt
 natural-requires : tie.Need-natural-requires
 natural-requires c κs = tt
 
-enum-known-width : tie.Need-enum-known-width
-enum-known-width c = search needs
-
-enum-told : tie.Need-enum-told
-enum-told c = search needs
-
 wrong-requires-2 : tie.Need-wrong-requires-2
-wrong-requires-2 c κs = omega (arith, c .before .before .before .before .before .before .before .before .before .before .before .before .before .pre)
+wrong-requires-2 c κs =
+    let s : tie.Start = start-from-natural (c .before .before .before) in
+    omega (arith, s .pre)
 
 same-length-2 : tie.Need-same-length-2
 same-length-2 c = c .before .before .wrong2 .kept .1 .0
 
 returns-2 : tie.Need-returns-2
 returns-2 c =
-    let at-enum-told = c .before .before .before .before .enum-told in
-    let natural = c .before .before .before .before .before .before .natural in
-    let field = c .before .before .before .before .before .before .before .field in
-    let if1 = c .before .before .before .before .before .before .before .before .if1 in
-    let count = c .before .before .before .before .before .before .before .before .before .count in
-    let start = c .before .before .before .before .before .before .before .before .before .before .before .before .before .before .before .before in
-    let line = now (start .args .line) in
-    wrote-as (c .before .before .wrong2 .ensures)
-    (numbered-wrong 2 line (countersBy (tables start) line) (count .ensures) (if1 .left) (natural .ensures) (field .ensures) (at-enum-told .given .1))
+    let at-wrong2 = c .before .before in
+    let at-enum-told-here = at-wrong2 .before .before in
+    let at-natural = at-enum-told-here .before .before in
+    let s = start-from-natural at-natural in
+    let field = at-natural .before .field in
+    let if1 = at-natural .before .before .if1 in
+    let count = after-count at-natural .count in
+    let line = now (s .args .line) in
+    wrote-as (at-wrong2 .wrong2 .ensures)
+    (numbered-wrong 2 line (countersBy (tables s) line) (count .ensures) (if1 .left) (at-natural .natural .ensures) (field .ensures)
+    (at-enum-told-here .enum-told .given .1))
 
 miscounted-requires : tie.Need-miscounted-requires
-miscounted-requires c κs = c .before .before .before .before .before .before .before .before .before .before .before .before .before .before .before .pre
+miscounted-requires c κs =
+    let s : tie.Start = start-from-natural (c .before .before .before .before .before) in
+    s .pre
 
 same-length-3 : tie.Need-same-length-3
 same-length-3 c = c .before .before .miscounted .kept .1 .1 .0
 
 returns-3 : tie.Need-returns-3
 returns-3 c =
-    let if2 = c .before .before .before .before .if2 in
-    let width = c .before .before .before .before .before .before .width in
-    let natural = c .before .before .before .before .before .before .before .before .natural in
-    let field = c .before .before .before .before .before .before .before .before .before .field in
-    let if1 = c .before .before .before .before .before .before .before .before .before .before .if1 in
-    let count = c .before .before .before .before .before .before .before .before .before .before .before .count in
-    let start = c .before .before .before .before .before .before .before .before .before .before .before .before .before .before .before .before .before .before in
+    let at-then2 : tie.Then2 = c .before .before .before .before in
+    let at-width = at-then2 .before .before in
+    let at-natural = at-width .before .before in
+    let s = start-from-natural at-natural in
+    let field = at-natural .before .field in
+    let if1 = at-natural .before .before .if1 in
+    let count = after-count at-natural .count in
     wrote-as (c .before .before .miscounted .ensures)
-    (counters-miscounted (tables start) (now (start .args .line)) (count .ensures) (if1 .left) (natural .ensures) (field .ensures) (width .given .1) (if2 .taken))
+    (counters-miscounted (tables s) (now (s .args .line)) (count .ensures) (if1 .left) (at-natural .natural .ensures) (field .ensures)
+    (at-width .width .given .1) (at-then2 .if2 .taken))
 
 field-requires-2 : tie.Need-field-requires-2
 field-requires-2 c κs = tt
@@ -106,59 +125,42 @@ counters-requires c κs = tt
 
 counted-requires : tie.Need-counted-requires
 counted-requires c κs =
-    let start = c .before .before .before .before .before .before .before .before .before .before .before .before .before .before .before .before .before .before .before .before .before .before .before .before .before .before .before .before .before .before .before in
-    start .pre
+    let s = start-from-natural (after-natural c) in
+    s .pre
 
 same-length-4 : tie.Need-same-length-4
 same-length-4 c = c .before .before .counted .kept .1 .0
 
 same-length-5 : tie.Need-same-length-5
-same-length-5 c = c .before .before .before .before .before .before .before .before .before .before .before .before .counters .kept .1 .1 .1 .1 .0
+same-length-5 c = after-counters c .counters .kept .1 .1 .1 .1 .0
 
 same-length-6 : tie.Need-same-length-6
-same-length-6 c = c .before .before .before .before .before .before .before .before .before .before .before .before .counters .kept .1 .1 .1 .1 .1 .0
+same-length-6 c = after-counters c .counters .kept .1 .1 .1 .1 .1 .0
 
 same-length-7 : tie.Need-same-length-7
-same-length-7 c = c .before .before .before .before .before .before .before .before .before .before .before .before .counters .kept .1 .1 .1 .1 .1 .1 .0
+same-length-7 c = after-counters c .counters .kept .1 .1 .1 .1 .1 .1 .0
 
 same-length-8 : tie.Need-same-length-8
-same-length-8 c = c .before .before .before .before .before .before .before .before .before .before .before .before .counters .kept .1 .1 .1 .1 .1 .1 .1 .0
+same-length-8 c = after-counters c .counters .kept .1 .1 .1 .1 .1 .1 .1 .0
 
 returns-4 : tie.Need-returns-4
 returns-4 c =
-    let call = c .before .before .before .before .before .before .before .before .before .before .before .before in
-    let start = call .before .before .before .before .before .before .before .before .before .before .before .before .before .before .before .before .before .before .before .before .before .before in
+    let call = after-counters c in
+    let at-field4 : tie.After-field4 = call .before .before .before .before .before in
+    let at-field3 = at-field4 .before in
+    let at-width : tie.After-width = at-field3 .before .before .before .before in
+    let at-natural = at-width .before .before in
+    let s = start-from-natural at-natural in
     wrote-as (c .before .before .counted .ensures)
-    (counters-fields (tables start) (now (start .args .line)) (call .before .before .before .before .before .before .before .before .before .before .before .before .before .before .before .count .ensures) (call .before .before .before .before .before .before .before .before .before .before .before .before .before .before .if1 .left) (call .before .before .before .before .before .before .before .before .before .before .before .before .natural .ensures) (call .before .before .before .before .before .before .before .before .before .before .before .before .before .field .ensures)
-    (call .before .before .before .before .before .before .before .before .before .before .width .given .1) (call .before .before .before .before .before .before .before .before .if2 .left) (call .before .before .before .before .before .before .before .field2 .ensures) (call .before .before .before .before .before .before .field3 .ensures) (call .before .before .before .before .before .field4 .ensures)
+    (counters-fields (tables s) (now (s .args .line)) (after-count at-natural .count .ensures) (at-natural .before .before .if1 .left)
+    (at-natural .natural .ensures) (at-natural .before .field .ensures)
+    (at-width .width .given .1) (at-field3 .before .before .if2 .left) (at-field3 .before .field2 .ensures) (at-field3 .field3 .ensures)
+    (at-field4 .field4 .ensures)
     (is-counted (call .counters .ensures)))
 
 pub counters-line-spec : {M : Type 1} → statement M
 counters-line-spec =
-    tie.close
-    (tie.spec
-    count-requires
-    wrong-requires
-    same-length
-    returns
-    field-requires
-    natural-requires
-    enum-known-width
-    enum-told
-    wrong-requires-2
-    same-length-2
-    returns-2
-    miscounted-requires
-    same-length-3
-    returns-3
-    field-requires-2
-    field-requires-3
-    field-requires-4
-    counters-requires
-    counted-requires
-    same-length-4
-    same-length-5
-    same-length-6
-    same-length-7
-    same-length-8
-    returns-4)
+    tie.close (tie.spec count-requires wrong-requires same-length returns field-requires natural-requires (λ c. search needs)
+    (λ c. search needs) wrong-requires-2 same-length-2 returns-2 miscounted-requires same-length-3 returns-3 field-requires-2
+    field-requires-3 field-requires-4 counters-requires counted-requires same-length-4 same-length-5 same-length-6 same-length-7
+    same-length-8 returns-4)

@@ -1,5 +1,5 @@
 -- `desk_field::begins_coordinate` meets its contract.
-use mathlib.Core.Path.{_≡_, sym, ap, _∙_}
+use mathlib.Core.Path.{sym, ap, _∙_}
 use Rattle.desk_field.specs.Fields.{signedOf, isCoordinate}
 use borrow.Author.Needs.{needs}
 use Rattle.desk_field.proofs.begins_coordinate.Statement.{statement}
@@ -8,18 +8,6 @@ use Rattle.desk_field.proofs.begins_coordinate.Reads as reads
 use Rattle.desk_field.proofs.begins_coordinate.Lts as lts
 use Rattle.desk_field.proofs.first.Reads as first-reads
 use Rattle.desk_field.proofs.signed.Reads as signed-reads
-
-first-requires : tie.Need-first-requires
-first-requires c κs = search needs
-
-signed-requires : tie.Need-signed-requires
-signed-requires c κs = search needs
-
-enum-told : tie.Need-enum-told
-enum-told c = search needs
-
-enum-told-2 : tie.Need-enum-told-2
-enum-told-2 c = search needs
 
 returns : tie.Need-returns
 returns c =
@@ -35,4 +23,4 @@ returns-2 c =
 
 pub begins-coordinate-spec : {M : Type 1} → statement M
 begins-coordinate-spec =
-    tie.close (tie.spec first-requires signed-requires enum-told enum-told-2 returns returns-2)
+    tie.close (tie.spec (λ c κs. search needs) (λ c κs. search needs) (λ c. search needs) (λ c. search needs) returns returns-2)

@@ -1,5 +1,5 @@
 -- `desk_field::below_zero` meets its contract.
-use mathlib.Core.Path.{_≡_, sym, ap, _∙_}
+use mathlib.Core.Path.{sym, ap, _∙_}
 use Prim.Native.Nat.{_-_}
 use native.Mathlib.Omega.{arith}
 use denote.Ref.{now}
@@ -15,9 +15,6 @@ use Rattle.desk_field.proofs.below_zero.Reads as reads
 use Rattle.desk_field.proofs.below_zero.Lts as lts
 use Rattle.desk_field.proofs.cut.Reads as cut-reads
 use Rattle.text_word.proofs.is_natural.Reads as is-natural-reads
-
-is-natural-requires : tie.Need-is-natural-requires
-is-natural-requires c κs = search needs
 
 returns : tie.Need-returns
 returns c = below-none (now (c .before .before .before .args .w)) (sym (c .before .is-natural .ensures) ∙ not-true _ (c .if1 .taken))
@@ -42,12 +39,6 @@ returns-3 c =
     (sym (at-is-natural .is-natural .ensures) ∙ not-false _ (at-else1 .if1 .left)) (at-cut .cut .result) (at-cut .cut .ensures)
     (c .if3 .taken)
 
-sub-t5 : tie.Need-sub-t5
-sub-t5 c = search needs
-
-cast-t6 : tie.Need-cast-t6
-cast-t6 c = search needs
-
 sub-t7 : tie.Need-sub-t7
 sub-t7 c = minus-fits (c .before .before .cut .result - 1) (omega (arith, c .if3 .left, c .before .if2 .left))
 
@@ -63,14 +54,5 @@ returns-4 c =
 
 pub below-zero-spec : {M : Type 1} → statement M
 below-zero-spec =
-    tie.close
-    (tie.spec
-    is-natural-requires
-    returns
-    cut-requires
-    returns-2
-    returns-3
-    sub-t5
-    cast-t6
-    sub-t7
+    tie.close (tie.spec (λ c κs. search needs) returns cut-requires returns-2 returns-3 (λ c. search needs) (λ c. search needs) sub-t7
     returns-4)

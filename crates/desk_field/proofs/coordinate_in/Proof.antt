@@ -10,15 +10,6 @@ use Rattle.desk_field.proofs.coordinate_in.Reads as reads
 use Rattle.desk_field.proofs.coordinate_in.Lts as lts
 use Rattle.desk_field.proofs.signed.Reads as signed-reads
 
-signed-requires : tie.Need-signed-requires
-signed-requires c κs = search needs
-
-enum-known-x : tie.Need-enum-known-x
-enum-known-x c = search needs
-
-enum-told : tie.Need-enum-told
-enum-told c = search needs
-
 returns : tie.Need-returns
 returns c =
     let at-signed : tie.After-signed = c .before .before .before in
@@ -30,4 +21,4 @@ returns-2 : tie.Need-returns-2
 returns-2 c = sym (ap coordinateOf (sym (c .before .before .signed .ensures) ∙ c .enum-told .given .1))
 
 pub coordinate-in-spec : {M : Type 1} → statement M
-coordinate-in-spec = tie.close (tie.spec signed-requires enum-known-x enum-told returns returns-2)
+coordinate-in-spec = tie.close (tie.spec (λ c κs. search needs) (λ c. search needs) (λ c. search needs) returns returns-2)

@@ -1,6 +1,6 @@
 use Rattle.desk_field.specs.Walk.{coordinates-start}
 -- `desk_field::coordinates_in` meets its contract. The invariant: k fields are coordinates, and the rest of s begins at a place.
-use mathlib.Core.Path.{_≡_, refl, sym, ap, _∙_}
+use mathlib.Core.Path.{_≡_, sym, ap, _∙_}
 use Prim.Native.Nat.{_+_, _-_, _≤_}
 use native.Mathlib.Omega.{arith}
 use lib.ListN.{length, drop, length-drop}
@@ -8,7 +8,7 @@ use lib.Seq.{take-all}
 use denote.Ref.{now}
 use borrow.Author.Needs.{needs}
 use borrow.Author.Tests.{not-true, not-false}
-use Rattle.desk_field.specs.Fields.{firstOf, restOf, signedOf, isCoordinate, coordinatesOf}
+use Rattle.desk_field.specs.Fields.{firstOf, signedOf, isCoordinate, coordinatesOf}
 use Rattle.desk_field.specs.Walk.{coordinates-on, coordinates-stop, coordinates-end}
 use Rattle.desk_field.proofs.coordinates_in.Statement.{statement}
 use Rattle.desk_field.proofs.coordinates_in.Tie as tie
@@ -31,9 +31,6 @@ sub-begins-coordinate c = omega arith
 
 part-begins-coordinate-start : tie.Need-part-begins-coordinate-start Inv-loop μ-loop
 part-begins-coordinate-start c = omega arith
-
-part-begins-coordinate-end : tie.Need-part-begins-coordinate-end Inv-loop μ-loop
-part-begins-coordinate-end c = search needs
 
 begins-coordinate-requires : tie.Need-begins-coordinate-requires Inv-loop μ-loop
 begins-coordinate-requires c κs = tt
@@ -84,18 +81,5 @@ returns-2 c =
 
 pub coordinates-in-spec : {M : Type 1} → statement M
 coordinates-in-spec =
-    tie.close
-    (tie.spec
-    Inv-loop
-    μ-loop
-    loop-holds
-    sub-begins-coordinate
-    part-begins-coordinate-start
-    part-begins-coordinate-end
-    begins-coordinate-requires
-    returns
-    place-behind-requires
-    add-k
-    loop-less
-    loop-again
-    returns-2)
+    tie.close (tie.spec Inv-loop μ-loop loop-holds sub-begins-coordinate part-begins-coordinate-start (λ c. search needs)
+    begins-coordinate-requires returns place-behind-requires add-k loop-less loop-again returns-2)

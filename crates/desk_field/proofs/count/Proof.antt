@@ -1,5 +1,5 @@
 -- `desk_field::count` meets its contract. The invariant: the fields so far and the tabs from i on.
-use mathlib.Core.Path.{_≡_, refl}
+use mathlib.Core.Path.{_≡_}
 use mathlib.Core.Logic.{⊎-elim}
 use Prim.Native.Nat.{_+_, _-_, _≤_, suc}
 use native.Mathlib.Omega.{arith}

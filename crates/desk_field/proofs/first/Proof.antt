@@ -8,9 +8,6 @@ use Rattle.desk_field.proofs.first.Reads as reads
 use Rattle.desk_field.proofs.first.Lts as lts
 use Rattle.desk_field.proofs.first_end.Reads as first-end-reads
 
-first-end-requires : tie.Need-first-end-requires
-first-end-requires c κs = search needs
-
 slice-aggregate-result : tie.Need-slice-aggregate-result
 slice-aggregate-result c = sym
     (length-take-le (c .before .first-end .result) (c .before .before .before .args .s .now) (c .before .first-end .ensures .within))
@@ -19,4 +16,4 @@ returns : tie.Need-returns
 returns c = c .before .first-end .ensures .first
 
 pub first-spec : {M : Type 1} → statement M
-first-spec = tie.close (tie.spec first-end-requires slice-aggregate-result returns)
+first-spec = tie.close (tie.spec (λ c κs. search needs) slice-aggregate-result returns)

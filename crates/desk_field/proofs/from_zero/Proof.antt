@@ -1,5 +1,5 @@
 -- `desk_field::from_zero` meets its contract.
-use mathlib.Core.Path.{_≡_, sym, ap, _∙_}
+use mathlib.Core.Path.{sym, ap, _∙_}
 use denote.Ref.{now}
 use mir.Syntax.{w32}
 use mir.Facts.{toZ-pos}
@@ -15,18 +15,12 @@ use Rattle.desk_field.proofs.from_zero.Lts as lts
 use Rattle.desk_field.proofs.cut.Reads as cut-reads
 use Rattle.text_word.proofs.is_natural.Reads as is-natural-reads
 
-is-natural-requires : tie.Need-is-natural-requires
-is-natural-requires c κs = search needs
-
 returns : tie.Need-returns
 returns c = from-none (now (c .before .before .before .args .w)) (sym (c .before .is-natural .ensures) ∙ not-true _ (c .if1 .taken))
 
 cut-requires : tie.Need-cut-requires
 cut-requires c κs = canonical-digits (now (c .before .before .before .args .w))
     (sym (c .before .is-natural .ensures) ∙ not-false _ (c .if1 .left))
-
-cast-t5 : tie.Need-cast-t5
-cast-t5 c = search needs
 
 returns-2 : tie.Need-returns-2
 returns-2 c =
@@ -45,4 +39,4 @@ returns-3 c =
 
 pub from-zero-spec : {M : Type 1} → statement M
 from-zero-spec =
-    tie.close (tie.spec is-natural-requires returns cut-requires cast-t5 returns-2 returns-3)
+    tie.close (tie.spec (λ c κs. search needs) returns cut-requires (λ c. search needs) returns-2 returns-3)

@@ -1,5 +1,5 @@
 -- `desk_field::natural` meets its contract.
-use mathlib.Core.Path.{_≡_, sym, _∙_}
+use mathlib.Core.Path.{sym, _∙_}
 use denote.Ref.{now}
 use borrow.Author.Tests.{not-true, not-false}
 use Rattle.text_laws.specs.laws.Prefixes.{canonical-digits}
@@ -12,18 +12,12 @@ use Rattle.desk_field.proofs.natural.Lts as lts
 use Rattle.desk_field.proofs.cut.Reads as cut-reads
 use Rattle.text_word.proofs.is_natural.Reads as is-natural-reads
 
-is-natural-requires : tie.Need-is-natural-requires
-is-natural-requires c κs = search needs
-
 returns : tie.Need-returns
 returns c = natural-none (now (c .before .before .before .args .w)) (sym (c .before .is-natural .ensures) ∙ not-true _ (c .if1 .taken))
 
 cut-requires : tie.Need-cut-requires
 cut-requires c κs = canonical-digits (now (c .before .before .before .args .w))
     (sym (c .before .is-natural .ensures) ∙ not-false _ (c .if1 .left))
-
-cast-t5 : tie.Need-cast-t5
-cast-t5 c = search needs
 
 returns-2 : tie.Need-returns-2
 returns-2 c =
@@ -41,4 +35,4 @@ returns-3 c =
 
 pub natural-spec : {M : Type 1} → statement M
 natural-spec =
-    tie.close (tie.spec is-natural-requires returns cut-requires cast-t5 returns-2 returns-3)
+    tie.close (tie.spec (λ c κs. search needs) returns cut-requires (λ c. search needs) returns-2 returns-3)

@@ -1,11 +1,11 @@
 -- `desk_field::signed` meets its contract, by the first byte.
-use mathlib.Core.Path.{_≡_, sym, ap, _∙_}
+use mathlib.Core.Path.{ap, _∙_}
 use Prim.Native.Nat.{_-_}
 use native.Mathlib.Omega.{arith}
 use denote.Ref.{now}
 use lib.ListN.{length, drop, length-drop}
 use lib.Seq.{take-all}
-use Rattle.text.specs.definitions.Numerals.{readNat, below0}
+use Rattle.text.specs.definitions.Bytes.{readNat, below0}
 use Rattle.desk_field.specs.Fields.{signed32}
 use Rattle.desk_field.specs.Numbers.{signed-empty, signed-minus, signed-plain}
 use borrow.Author.Needs.{needs}
@@ -19,21 +19,6 @@ use Rattle.desk_field.proofs.from_zero.Reads as from-zero-reads
 returns : tie.Need-returns
 returns c = signed-empty (now (c .before .before .args .w)) (c .if1 .taken)
 
-shared-slice-read-if2 : tie.Need-shared-slice-read-if2
-shared-slice-read-if2 c = search needs
-
-sub-below-zero : tie.Need-sub-below-zero
-sub-below-zero c = search needs
-
-part-below-zero-start : tie.Need-part-below-zero-start
-part-below-zero-start c = search needs
-
-part-below-zero-end : tie.Need-part-below-zero-end
-part-below-zero-end c = search needs
-
-below-zero-requires : tie.Need-below-zero-requires
-below-zero-requires c κs = search needs
-
 returns-2 : tie.Need-returns-2
 returns-2 c =
     let at-else1 : tie.Else1 = c .before .before .before .before in
@@ -43,9 +28,6 @@ returns-2 c =
     ∙ ap (λ v. signed32 (below0 (readNat v))) (take-all (length w - 1) (drop 1 w) (omega (arith, length-drop 1 w)))
     ∙ signed-minus w (at-else1 .if1 .left) (c .before .before .if2 .taken)
 
-from-zero-requires : tie.Need-from-zero-requires
-from-zero-requires c κs = search needs
-
 returns-3 : tie.Need-returns-3
 returns-3 c =
     let at-else1 : tie.Else1 = c .before .before .before in
@@ -54,14 +36,5 @@ returns-3 c =
 
 pub signed-spec : {M : Type 1} → statement M
 signed-spec =
-    tie.close
-    (tie.spec
-    returns
-    shared-slice-read-if2
-    sub-below-zero
-    part-below-zero-start
-    part-below-zero-end
-    below-zero-requires
-    returns-2
-    from-zero-requires
-    returns-3)
+    tie.close (tie.spec returns (λ c. search needs) (λ c. search needs) (λ c. search needs) (λ c. search needs) (λ c κs. search needs)
+    returns-2 (λ c κs. search needs) returns-3)

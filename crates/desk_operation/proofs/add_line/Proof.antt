@@ -1,6 +1,5 @@
 -- `desk_operation::add_line` meets its contract.
 use mathlib.Core.List.{List, [], _∷_}
-use mathlib.Core.Path.{_≡_}
 use Prim.Native.Nat.{ℕ}
 use native.Mathlib.Omega.{arith}
 use lib.ListN.{length}
@@ -8,7 +7,7 @@ use denote.Ref.{now}
 use borrow.Rule.Slice.PartMut.{same-len-mid}
 use Rattle.door_result.specs.Result.{is-written}
 use Rattle.form_write.specs.laws.Wrote.{wrote-as, wrote-length}
-use Rattle.reply.specs.definitions.Forms.{addReply}
+use Rattle.reply.specs.definitions.Calls.{addReply}
 use Rattle.desk_reply.specs.laws.Replies.{text-room}
 use Rattle.desk_serve.specs.Laws.{counted-not}
 use Rattle.desk_serve.specs.Texts.{two-texts}
@@ -28,30 +27,47 @@ use Rattle.desk_serve.proofs.miscounted.Reads as miscounted-reads
 abbrev tables : tie.Start → List ℕ
 tables s = length (now (s .args .a)) ∷ length (now (s .args .b)) ∷ length (now (s .args .c)) ∷ length (now (s .args .d)) ∷ []
 
+-- the places that are looked at, each seen from a later one
+abbrev start : tie.After-count → tie.Start
+start c = c .before .before .before .before .before .before .before
+
+abbrev after-field3 : tie.After-add → tie.After-field3
+after-field3 c = c .before .before .before .before .before .before
+
+abbrev after-add : tie.After-written-arg → tie.After-add
+after-add c = c .before .before .before .before .before .before .before .before .before .before .before
+
+abbrev after-add-from-slice-known12 : tie.After-slice-known12 → tie.After-add
+after-add-from-slice-known12 c = after-add (c .before .before .before)
+
 -- the call's text behind the first 5 bytes, and the line of its answer
 line-is : tie.Need-returns-2
 line-is c =
-    let call = c .before .before .before .before .before .before .before .before .before .before .before .before .before .before in
-    let start = call .before .before .before .before .before .before .before .before .before .before .before .before .before .before .before .before .before in
-    two-texts (now (start .args .line)) (start .pre) (call .before .before .before .before .before .before .before .before .before .before .count .ensures) (call .before .before .before .before .before .before .before .before .field .ensures) (call .before .before .before .before .before .before .before .field2 .ensures) (call .before .before .before .before .before .before .field3 .ensures)
-    (λ u v w. addReply u (tables start) v w) (within-add (tables start)) (call .before .before .before .before .before .before .before .before .before .if1 .left)
+    let call = after-add-from-slice-known12 c in
+    let at-field3 = after-field3 call in
+    let at-field = at-field3 .before .before in
+    let s = start (at-field .before .before) in
+    two-texts (now (s .args .line)) (s .pre) (at-field .before .before .count .ensures) (at-field .field .ensures)
+    (at-field3 .before .field2 .ensures) (at-field3 .field3 .ensures)
+    (λ u v w. addReply u (tables s) v w) (within-add (tables s)) (at-field .before .if1 .left)
     (is-written (call .add .ensures)) (call .add .ensures .result) (c .before .before .written .ensures)
 
 count-requires : tie.Need-count-requires
 count-requires c κs = tt
 
 miscounted-requires : tie.Need-miscounted-requires
-miscounted-requires c κs = c .before .before .before .before .before .before .before .before .before .pre
+miscounted-requires c κs = start (c .before .before) .pre
 
 same-length : tie.Need-same-length
 same-length c = c .before .before .miscounted .kept .1 .1 .0
 
 returns : tie.Need-returns
 returns c =
-    let if1 = c .before .before .before .before .if1 in
-    let count = c .before .before .before .before .before .count in
-    let start = c .before .before .before .before .before .before .before .before .before .before .before .before in
-    wrote-as (c .before .before .miscounted .ensures) (counted-not 4 (now (start .args .line)) _ (count .ensures) (if1 .taken))
+    let at-then1 : tie.Then1 = c .before .before .before .before in
+    let at-count = at-then1 .before in
+    let s = start at-count in
+    wrote-as (c .before .before .miscounted .ensures)
+    (counted-not 4 (now (s .args .line)) _ (at-count .count .ensures) (at-then1 .if1 .taken))
 
 field-requires : tie.Need-field-requires
 field-requires c κs = tt
@@ -65,43 +81,39 @@ field-requires-3 c κs = tt
 sub-add : tie.Need-sub-add
 sub-add c = omega arith
 
-part-add-start : tie.Need-part-add-start
-part-add-start c = search needs
-
-part-add-end : tie.Need-part-add-end
-part-add-end c = search needs
-
 add-requires : tie.Need-add-requires
 add-requires c κs = tt
 
 written-requires : tie.Need-written-requires
 written-requires c κs =
-    let call = c .before .before .before .before .before .before .before .before .before .before .before in
-    let start = call .before .before .before .before .before .before .before .before .before .before .before .before .before .before .before .before .before in
-    let old = now (start .args .out) in
-    let row = now (call .before .before .before .before .before .before .before .before .field .result) in
-    let x = now (call .before .before .before .before .before .before .before .field2 .result) in
-    let y = now (call .before .before .before .before .before .before .field3 .result) in
-    text-room old (start .pre) (addReply row (tables start) x y) (within-add (tables start) row x y) (is-written (call .add .ensures))
+    let call = after-add c in
+    let at-field3 = after-field3 call in
+    let at-field = at-field3 .before .before in
+    let s = start (at-field .before .before) in
+    let old = now (s .args .out) in
+    let row = now (at-field .field .result) in
+    let x = now (at-field3 .before .field2 .result) in
+    let y = now (at-field3 .field3 .result) in
+    text-room old (s .pre) (addReply row (tables s) x y) (within-add (tables s) row x y) (is-written (call .add .ensures))
     (same-len-mid 5 65535 old (call .add .last .1 .1 .1 .0) (call .add .kept .1 .1 .1 .0))
 
 same-length-2 : tie.Need-same-length-2
 same-length-2 c = wrote-length (line-is c)
 
 same-length-3 : tie.Need-same-length-3
-same-length-3 c = c .before .before .before .before .before .before .before .before .before .before .before .before .before .before .add .kept .1 .1 .1 .1 .0
+same-length-3 c = after-add-from-slice-known12 c .add .kept .1 .1 .1 .1 .0
 
 same-length-4 : tie.Need-same-length-4
-same-length-4 c = c .before .before .before .before .before .before .before .before .before .before .before .before .before .before .add .kept .1 .1 .1 .1 .1 .0
+same-length-4 c = after-add-from-slice-known12 c .add .kept .1 .1 .1 .1 .1 .0
 
 same-length-5 : tie.Need-same-length-5
 same-length-5 c =
-    let add = c .before .before .before .before .before .before .before .before .before .before .before .before .before .before .add in
+    let add = after-add-from-slice-known12 c .add in
     add .kept .1 .1 .1 .1 .1 .1 .0
 
 same-length-6 : tie.Need-same-length-6
 same-length-6 c =
-    let add = c .before .before .before .before .before .before .before .before .before .before .before .before .before .before .add in
+    let add = after-add-from-slice-known12 c .add in
     add .kept .1 .1 .1 .1 .1 .1 .1 .0
 
 returns-2 : tie.Need-returns-2
@@ -109,23 +121,6 @@ returns-2 c = line-is c
 
 pub add-line-spec : {M : Type 1} → statement M
 add-line-spec =
-    tie.close
-    (tie.spec
-    count-requires
-    miscounted-requires
-    same-length
-    returns
-    field-requires
-    field-requires-2
-    field-requires-3
-    sub-add
-    part-add-start
-    part-add-end
-    add-requires
-    written-requires
-    same-length-2
-    same-length-3
-    same-length-4
-    same-length-5
-    same-length-6
-    returns-2)
+    tie.close (tie.spec count-requires miscounted-requires same-length returns field-requires field-requires-2 field-requires-3 sub-add
+    (λ c. search needs) (λ c. search needs) add-requires written-requires same-length-2 same-length-3 same-length-4 same-length-5
+    same-length-6 returns-2)

@@ -1,6 +1,5 @@
 -- `desk_operation::multiply_line` meets its contract.
 use mathlib.Core.List.{List, [], _∷_}
-use mathlib.Core.Path.{_≡_}
 use Prim.Native.Nat.{ℕ}
 use native.Mathlib.Omega.{arith}
 use lib.ListN.{length}
@@ -8,7 +7,7 @@ use denote.Ref.{now}
 use borrow.Rule.Slice.PartMut.{same-len-mid}
 use Rattle.door_result.specs.Result.{is-written}
 use Rattle.form_write.specs.laws.Wrote.{wrote-as, wrote-length}
-use Rattle.reply.specs.definitions.Forms.{multiplyReply}
+use Rattle.reply.specs.definitions.Calls.{multiplyReply}
 use Rattle.desk_reply.specs.laws.Replies.{text-room}
 use Rattle.desk_serve.specs.Laws.{counted-not}
 use Rattle.desk_serve.specs.Texts.{two-texts}
@@ -28,30 +27,47 @@ use Rattle.desk_serve.proofs.miscounted.Reads as miscounted-reads
 abbrev tables : tie.Start → List ℕ
 tables s = length (now (s .args .a)) ∷ length (now (s .args .b)) ∷ length (now (s .args .c)) ∷ length (now (s .args .d)) ∷ []
 
+-- the places that are looked at, each seen from a later one
+abbrev start : tie.After-count → tie.Start
+start c = c .before .before .before .before .before .before .before
+
+abbrev after-field3 : tie.After-multiply → tie.After-field3
+after-field3 c = c .before .before .before .before .before .before
+
+abbrev after-multiply : tie.After-written-arg → tie.After-multiply
+after-multiply c = c .before .before .before .before .before .before .before .before .before .before .before
+
+abbrev after-multiply-from-slice-known12 : tie.After-slice-known12 → tie.After-multiply
+after-multiply-from-slice-known12 c = after-multiply (c .before .before .before)
+
 -- the call's text behind the first 5 bytes, and the line of its answer
 line-is : tie.Need-returns-2
 line-is c =
-    let call = c .before .before .before .before .before .before .before .before .before .before .before .before .before .before in
-    let start = call .before .before .before .before .before .before .before .before .before .before .before .before .before .before .before .before .before in
-    two-texts (now (start .args .line)) (start .pre) (call .before .before .before .before .before .before .before .before .before .before .count .ensures) (call .before .before .before .before .before .before .before .before .field .ensures) (call .before .before .before .before .before .before .before .field2 .ensures) (call .before .before .before .before .before .before .field3 .ensures)
-    (λ u v w. multiplyReply u (tables start) v w) (within-multiply (tables start)) (call .before .before .before .before .before .before .before .before .before .if1 .left)
+    let call = after-multiply-from-slice-known12 c in
+    let at-field3 = after-field3 call in
+    let at-field = at-field3 .before .before in
+    let s = start (at-field .before .before) in
+    two-texts (now (s .args .line)) (s .pre) (at-field .before .before .count .ensures) (at-field .field .ensures)
+    (at-field3 .before .field2 .ensures) (at-field3 .field3 .ensures)
+    (λ u v w. multiplyReply u (tables s) v w) (within-multiply (tables s)) (at-field .before .if1 .left)
     (is-written (call .multiply .ensures)) (call .multiply .ensures .result) (c .before .before .written .ensures)
 
 count-requires : tie.Need-count-requires
 count-requires c κs = tt
 
 miscounted-requires : tie.Need-miscounted-requires
-miscounted-requires c κs = c .before .before .before .before .before .before .before .before .before .pre
+miscounted-requires c κs = start (c .before .before) .pre
 
 same-length : tie.Need-same-length
 same-length c = c .before .before .miscounted .kept .1 .1 .0
 
 returns : tie.Need-returns
 returns c =
-    let if1 = c .before .before .before .before .if1 in
-    let count = c .before .before .before .before .before .count in
-    let start = c .before .before .before .before .before .before .before .before .before .before .before .before in
-    wrote-as (c .before .before .miscounted .ensures) (counted-not 4 (now (start .args .line)) _ (count .ensures) (if1 .taken))
+    let at-then1 : tie.Then1 = c .before .before .before .before in
+    let at-count = at-then1 .before in
+    let s = start at-count in
+    wrote-as (c .before .before .miscounted .ensures)
+    (counted-not 4 (now (s .args .line)) _ (at-count .count .ensures) (at-then1 .if1 .taken))
 
 field-requires : tie.Need-field-requires
 field-requires c κs = tt
@@ -65,24 +81,20 @@ field-requires-3 c κs = tt
 sub-multiply : tie.Need-sub-multiply
 sub-multiply c = omega arith
 
-part-multiply-start : tie.Need-part-multiply-start
-part-multiply-start c = search needs
-
-part-multiply-end : tie.Need-part-multiply-end
-part-multiply-end c = search needs
-
 multiply-requires : tie.Need-multiply-requires
 multiply-requires c κs = tt
 
 written-requires : tie.Need-written-requires
 written-requires c κs =
-    let call = c .before .before .before .before .before .before .before .before .before .before .before in
-    let start = call .before .before .before .before .before .before .before .before .before .before .before .before .before .before .before .before .before in
-    let old = now (start .args .out) in
-    let row = now (call .before .before .before .before .before .before .before .before .field .result) in
-    let x = now (call .before .before .before .before .before .before .before .field2 .result) in
-    let y = now (call .before .before .before .before .before .before .field3 .result) in
-    text-room old (start .pre) (multiplyReply row (tables start) x y) (within-multiply (tables start) row x y) (is-written (call .multiply .ensures))
+    let call = after-multiply c in
+    let at-field3 = after-field3 call in
+    let at-field = at-field3 .before .before in
+    let s = start (at-field .before .before) in
+    let old = now (s .args .out) in
+    let row = now (at-field .field .result) in
+    let x = now (at-field3 .before .field2 .result) in
+    let y = now (at-field3 .field3 .result) in
+    text-room old (s .pre) (multiplyReply row (tables s) x y) (within-multiply (tables s) row x y) (is-written (call .multiply .ensures))
     (same-len-mid 5 65535 old (call .multiply .last .1 .1 .1 .0) (call .multiply .kept .1 .1 .1 .0))
 
 same-length-2 : tie.Need-same-length-2
@@ -90,22 +102,22 @@ same-length-2 c = wrote-length (line-is c)
 
 same-length-3 : tie.Need-same-length-3
 same-length-3 c =
-    let multiply = c .before .before .before .before .before .before .before .before .before .before .before .before .before .before .multiply in
+    let multiply = after-multiply-from-slice-known12 c .multiply in
     multiply .kept .1 .1 .1 .1 .0
 
 same-length-4 : tie.Need-same-length-4
 same-length-4 c =
-    let multiply = c .before .before .before .before .before .before .before .before .before .before .before .before .before .before .multiply in
+    let multiply = after-multiply-from-slice-known12 c .multiply in
     multiply .kept .1 .1 .1 .1 .1 .0
 
 same-length-5 : tie.Need-same-length-5
 same-length-5 c =
-    let multiply = c .before .before .before .before .before .before .before .before .before .before .before .before .before .before .multiply in
+    let multiply = after-multiply-from-slice-known12 c .multiply in
     multiply .kept .1 .1 .1 .1 .1 .1 .0
 
 same-length-6 : tie.Need-same-length-6
 same-length-6 c =
-    let multiply = c .before .before .before .before .before .before .before .before .before .before .before .before .before .before .multiply in
+    let multiply = after-multiply-from-slice-known12 c .multiply in
     multiply .kept .1 .1 .1 .1 .1 .1 .1 .0
 
 returns-2 : tie.Need-returns-2
@@ -113,23 +125,6 @@ returns-2 c = line-is c
 
 pub multiply-line-spec : {M : Type 1} → statement M
 multiply-line-spec =
-    tie.close
-    (tie.spec
-    count-requires
-    miscounted-requires
-    same-length
-    returns
-    field-requires
-    field-requires-2
-    field-requires-3
-    sub-multiply
-    part-multiply-start
-    part-multiply-end
-    multiply-requires
-    written-requires
-    same-length-2
-    same-length-3
-    same-length-4
-    same-length-5
-    same-length-6
-    returns-2)
+    tie.close (tie.spec count-requires miscounted-requires same-length returns field-requires field-requires-2 field-requires-3
+    sub-multiply (λ c. search needs) (λ c. search needs) multiply-requires written-requires same-length-2 same-length-3 same-length-4
+    same-length-5 same-length-6 returns-2)

@@ -18,79 +18,31 @@ five-same :
     _≡_ {A = List ℤ} (a ∷ b ∷ c ∷ d ∷ e ∷ []) (p ∷ q ∷ r ∷ s ∷ t ∷ [])
 five-same f g h i j = cc
 
--- src/lib.rt:68:35
-field-requires : tie.Need-field-requires
-field-requires c κs = search needs
-
--- src/lib.rt:68:9
-coordinate-in-requires : tie.Need-coordinate-in-requires
-coordinate-in-requires c κs = search needs
-
--- src/lib.rt:69:35
-field-requires-2 : tie.Need-field-requires-2
-field-requires-2 c κs = search needs
-
--- src/lib.rt:69:9
-coordinate-in-requires-2 : tie.Need-coordinate-in-requires-2
-coordinate-in-requires-2 c κs = search needs
-
--- src/lib.rt:70:35
-field-requires-3 : tie.Need-field-requires-3
-field-requires-3 c κs = search needs
-
--- src/lib.rt:70:9
-coordinate-in-requires-3 : tie.Need-coordinate-in-requires-3
-coordinate-in-requires-3 c κs = search needs
-
--- src/lib.rt:71:35
-field-requires-4 : tie.Need-field-requires-4
-field-requires-4 c κs = search needs
-
--- src/lib.rt:71:9
-coordinate-in-requires-4 : tie.Need-coordinate-in-requires-4
-coordinate-in-requires-4 c κs = search needs
-
--- src/lib.rt:72:35
-field-requires-5 : tie.Need-field-requires-5
-field-requires-5 c κs = search needs
-
--- src/lib.rt:72:9
-coordinate-in-requires-5 : tie.Need-coordinate-in-requires-5
-coordinate-in-requires-5 c κs = search needs
-
--- src/lib.rt:65:1
 returns : tie.Need-returns
 returns c =
-    let coordinate-in3 = c .before .before .before .before .coordinate-in3 in
-    let field3 = c .before .before .before .before .before .field3 in
-    let coordinate-in2 = c .before .before .before .before .before .before .coordinate-in2 in
-    let field2 = c .before .before .before .before .before .before .before .field2 in
-    let coordinate-in = c .before .before .before .before .before .before .before .before .coordinate-in in
-    let field = c .before .before .before .before .before .before .before .before .before .field in
+    let at-coordinate-in4 = c .before .before in
+    let at-field4 = at-coordinate-in4 .before in
+    let at-coordinate-in3 = at-field4 .before in
+    let at-field3 = at-coordinate-in3 .before in
+    let at-coordinate-in : tie.After-coordinate-in = at-field3 .before .before .before in
+    let at-field = at-coordinate-in .before in
+    let coordinate-in3 = at-coordinate-in3 .coordinate-in3 in
+    let coordinate-in2 = at-field3 .before .coordinate-in2 in
+    let field2 = at-field3 .before .before .field2 in
+    let coordinate-in = at-coordinate-in .coordinate-in in
     let x : toZ w32 (ofZ w32 (coordinate-in .result)) ≡ coordinate-in .result = search needs in
     let y : toZ w32 (ofZ w32 (coordinate-in2 .result)) ≡ coordinate-in2 .result = search needs in
     let z : toZ w32 (ofZ w32 (coordinate-in3 .result)) ≡ coordinate-in3 .result = search needs in
-    let u : toZ w32 (ofZ w32 (c .before .before .coordinate-in4 .result)) ≡ c .before .before .coordinate-in4 .result = search needs in
+    let u : toZ w32 (ofZ w32 (at-coordinate-in4 .coordinate-in4 .result)) ≡ at-coordinate-in4 .coordinate-in4 .result = search needs in
     let v : toZ w32 (ofZ w32 (c .coordinate-in5 .result)) ≡ c .coordinate-in5 .result = search needs in
     five-same
-    (x ∙ coordinate-in .ensures ∙ ap (λ w. coordinateOf (signedOf w)) (field .ensures))
+    (x ∙ coordinate-in .ensures ∙ ap (λ w. coordinateOf (signedOf w)) (at-field .field .ensures))
     (y ∙ coordinate-in2 .ensures ∙ ap (λ w. coordinateOf (signedOf w)) (field2 .ensures))
-    (z ∙ coordinate-in3 .ensures ∙ ap (λ w. coordinateOf (signedOf w)) (field3 .ensures))
-    (u ∙ c .before .before .coordinate-in4 .ensures ∙ ap (λ w. coordinateOf (signedOf w)) (c .before .before .before .field4 .ensures))
+    (z ∙ coordinate-in3 .ensures ∙ ap (λ w. coordinateOf (signedOf w)) (at-field3 .field3 .ensures))
+    (u ∙ at-coordinate-in4 .coordinate-in4 .ensures ∙ ap (λ w. coordinateOf (signedOf w)) (at-field4 .field4 .ensures))
     (v ∙ c .coordinate-in5 .ensures ∙ ap (λ w. coordinateOf (signedOf w)) (c .before .field5 .ensures))
 
 pub five-spec : {M : Type 1} → statement M
 five-spec =
-    tie.close
-    (tie.spec
-    field-requires
-    coordinate-in-requires
-    field-requires-2
-    coordinate-in-requires-2
-    field-requires-3
-    coordinate-in-requires-3
-    field-requires-4
-    coordinate-in-requires-4
-    field-requires-5
-    coordinate-in-requires-5
-    returns)
+    tie.close (tie.spec (λ c κs. search needs) (λ c κs. search needs) (λ c κs. search needs) (λ c κs. search needs) (λ c κs. search needs)
+    (λ c κs. search needs) (λ c κs. search needs) (λ c κs. search needs) (λ c κs. search needs) (λ c κs. search needs) returns)

@@ -11,37 +11,20 @@ use Rattle.desk_serve.proofs.miscounted.Reads as reads
 use Rattle.desk_serve.proofs.miscounted.Lts as lts
 use Rattle.desk_reply.proofs.wrong.Reads as wrong-reads
 
--- src/lib.rt:19:9
-wrong-requires : tie.Need-wrong-requires
-wrong-requires c κs = search needs
-
--- src/lib.rt:19:9
-same-length : tie.Need-same-length
-same-length c = search needs
-
--- src/lib.rt:19:9
 returns : tie.Need-returns
 returns c =
-    let if1 = c .before .before .before .before .if1 in
-    let start = c .before .before .before .before .before .before in
-    let e : start .args .n ≡ min (start .args .n) (start .args .k) = omega (arith, if1 .taken) in wrote-as (c .before .before .wrong .ensures) (ap wrongText e)
+    let at-then1 : tie.Then1 = c .before .before .before .before in
+    let start = at-then1 .before .before in
+    let e : start .args .n ≡ min (start .args .n) (start .args .k) = omega (arith, at-then1 .if1 .taken) in
+    wrote-as (c .before .before .wrong .ensures) (ap wrongText e)
 
--- src/lib.rt:21:5
-wrong-requires-2 : tie.Need-wrong-requires-2
-wrong-requires-2 c κs = search needs
-
--- src/lib.rt:14:1
-same-length-2 : tie.Need-same-length-2
-same-length-2 c = search needs
-
--- src/lib.rt:14:1
 returns-2 : tie.Need-returns-2
 returns-2 c =
-    let if1 = c .before .before .before .before .if1 in
-    let start = c .before .before .before .before .before .before in
-    let e : start .args .k ≡ min (start .args .n) (start .args .k) = omega (arith, if1 .left) in wrote-as (c .before .before .wrong2 .ensures) (ap wrongText e)
+    let at-else1 : tie.Else1 = c .before .before .before .before in
+    let start = at-else1 .before .before in
+    let e : start .args .k ≡ min (start .args .n) (start .args .k) = omega (arith, at-else1 .if1 .left) in
+    wrote-as (c .before .before .wrong2 .ensures) (ap wrongText e)
 
 pub miscounted-spec : {M : Type 1} → statement M
 miscounted-spec =
-    tie.close
-    (tie.spec wrong-requires same-length returns wrong-requires-2 same-length-2 returns-2)
+    tie.close (tie.spec (λ c κs. search needs) (λ c. search needs) returns (λ c κs. search needs) (λ c. search needs) returns-2)

@@ -19,12 +19,6 @@ abbrev μ-loop : tie.MeasureT-loop
 loop-holds : tie.Need-loop-holds Inv-loop μ-loop
 loop-holds c = (omega arith, refl, fill-none _ 0)
 
-mul-t : tie.Need-mul-t Inv-loop μ-loop
-mul-t c = search needs
-
-slice-write-t : tie.Need-slice-write-t Inv-loop μ-loop
-slice-write-t c = search needs
-
 add-i : tie.Need-add-i Inv-loop μ-loop
 add-i c = omega arith
 
@@ -40,9 +34,6 @@ loop-again c =
       ap (λ (xs : List ℕ). set xs (l .i) 0) (l .inv .2) ∙ fill-more (l .i) 0 t₀ (omega arith),
     )
 
-same-length : tie.Need-same-length Inv-loop μ-loop
-same-length c = search needs
-
 returns : tie.Need-returns Inv-loop μ-loop
 returns c =
     let l = c .before .loop in
@@ -55,5 +46,5 @@ returns c =
 
 pub clear-spec : {M : Type 1} → statement M
 clear-spec =
-    tie.close
-    (tie.spec Inv-loop μ-loop loop-holds mul-t slice-write-t add-i loop-less loop-again same-length returns)
+    tie.close (tie.spec Inv-loop μ-loop loop-holds (λ c. search needs) (λ c. search needs) add-i loop-less loop-again (λ c. search needs)
+    returns)

@@ -19,23 +19,12 @@ looked c = c .before .before
 abbrev ts : tie.Start → List ℕ
 ts s = s .args .a ∷ s .args .b ∷ s .args .c ∷ s .args .d ∷ []
 
-is-row-requires : tie.Need-is-row-requires
-is-row-requires c κs = search needs
-
-of-neither-requires : tie.Need-of-neither-requires
-of-neither-requires c κs = search needs
-
 returns : tie.Need-returns
 returns c =
     let l : tie.After-is-row = c .before .before in
     let s = start l in
-    ap Refused (c .of-neither .ensures) ∙ not-row (s .args .row .now) (ts s) (sym (l .is-row .ensures) ∙ not-true _ (c .before .if1 .taken))
-
-enough-requires : tie.Need-enough-requires
-enough-requires c κs = search needs
-
-of-neither-requires-2 : tie.Need-of-neither-requires-2
-of-neither-requires-2 c κs = search needs
+    ap Refused (c .of-neither .ensures)
+    ∙ not-row (s .args .row .now) (ts s) (sym (l .is-row .ensures) ∙ not-true _ (c .before .if1 .taken))
 
 returns-2 : tie.Need-returns-2
 returns-2 c =
@@ -43,23 +32,18 @@ returns-2 c =
     let l = looked e in
     let s = start l in
     ap Refused (c .of-neither2 .ensures)
-    ∙ tables-short (s .args .row .now) (ts s) (sym (l .is-row .ensures) ∙ not-false _ (e .before .if1 .left)) (sym (e .enough .ensures) ∙ not-true _ (c .before .if2 .taken))
+    ∙ tables-short (s .args .row .now) (ts s) (sym (l .is-row .ensures) ∙ not-false _ (e .before .if1 .left))
+    (sym (e .enough .ensures) ∙ not-true _ (c .before .if2 .taken))
 
 returns-3 : tie.Need-returns-3
 returns-3 c =
     let e : tie.After-enough = c .before in
     let l = looked e in
     let s = start l in
-    all-ready (s .args .row .now) (ts s) (sym (l .is-row .ensures) ∙ not-false _ (e .before .if1 .left)) (sym (e .enough .ensures) ∙ not-false _ (c .if2 .left))
+    all-ready (s .args .row .now) (ts s) (sym (l .is-row .ensures) ∙ not-false _ (e .before .if1 .left))
+    (sym (e .enough .ensures) ∙ not-false _ (c .if2 .left))
 
 pub ready-spec : {M : Type 1} → statement M
 ready-spec =
-    tie.close
-    (tie.spec
-    is-row-requires
-    of-neither-requires
-    returns
-    enough-requires
-    of-neither-requires-2
-    returns-2
+    tie.close (tie.spec (λ c κs. search needs) (λ c κs. search needs) returns (λ c κs. search needs) (λ c κs. search needs) returns-2
     returns-3)

@@ -48,7 +48,8 @@ ready-open row ts = go (isRow row) (enough ts) refl refl
 pub open-goes : {A : Type 0} (row ts : List ℕ) (r : Unit {0} → Reply A) → Open row ts → opened row ts r ≡ r tt
 open-goes row ts r o = rw (o .proper) (rw (o .long) refl)
 
-pub not-open : {A : Type 0} (row ts : List ℕ) (r : Unit {0} → Reply A) {bad : Refusal} → readyOf row ts ≡ Refused bad → opened row ts r ≡ refuses bad
+pub not-open :
+    {A : Type 0} (row ts : List ℕ) (r : Unit {0} → Reply A) {bad : Refusal} → readyOf row ts ≡ Refused bad → opened row ts r ≡ refuses bad
 not-open row ts r {bad} = go (isRow row) (enough ts) refl refl
   where
     go : (a b : Bool) → isRow row ≡ a → enough ts ≡ b → readyOf row ts ≡ Refused bad → opened row ts r ≡ refuses bad

@@ -10,7 +10,7 @@ use lib.ListN.{length, replicate}
 use Rattle.refusal.specs.declared.Fault.{Fault}
 use Rattle.refusal.specs.declared.Refusal.{Refusal}
 use Rattle.refusal.specs.declared.Side.{Side}
-use Rattle.text.specs.definitions.Answer.{Reading, read, refused}
+use Rattle.text.specs.definitions.Bytes.{Reading, read, refused}
 use Rattle.reply.specs.definitions.Reply.{Reply, gives, refuses, asked, readAs, fitted, Work, work, zeros, cleared, untouched, workAfter}
 
 pub tables-kept : {A : Type 0} (x : Reply A) {bad : Refusal} (w : Work) → x ≡ refuses bad → bad .number ≤ 2 → w ≡ workAfter x w
@@ -25,14 +25,18 @@ pub record Zeros (a b c d a′ b′ c′ d′ : List ℕ) : Type 0 where
 
 pub tables-cleared : {A : Type 0} (x : Reply A) (a b c d : List ℕ) {a′ b′ c′ d′ : List ℕ} → untouched x ≡ false → Zeros a b c d a′ b′ c′ d′
     → work a′ b′ c′ d′ ≡ workAfter x (work a b c d)
-tables-cleared x a b c d h z = (λ i. work (z .first i) (z .second i) (z .third i) (z .fourth i)) ∙ sym (ap (λ e. cond e (work a b c d) (cleared (work a b c d))) h)
+tables-cleared x a b c d h z =
+    (λ i. work (z .first i) (z .second i) (z .third i) (z .fourth i)) ∙ sym (ap (λ e. cond e (work a b c d) (cleared (work a b c d))) h)
 
 -- ---- which replies clear the tables
-pub read-clears : {A B : Type 0} (s : Side) (y : Reading A) (k : A → Reply B) → ((bad : Fault) → y ≡ refused bad → 2 < bad .number) → ((a : A) → untouched (k a) ≡ false) → untouched (readAs s y k) ≡ false
+pub read-clears :
+    {A B : Type 0} (s : Side) (y : Reading A) (k : A → Reply B) → ((bad : Fault) → y ≡ refused bad → 2 < bad .number) →
+    ((a : A) → untouched (k a) ≡ false) → untouched (readAs s y k) ≡ false
 read-clears s (read a) k h f = f a
 read-clears s (refused bad) k h f = lt-leb (bad .number) 2 (h bad refl)
 
-pub asked-clears : {A : Type 0} (b : Bool) (e : ℕ) (r : Unit {0} → Reply A) → 2 < e → untouched (r tt) ≡ false → untouched (asked b e r) ≡ false
+pub asked-clears :
+    {A : Type 0} (b : Bool) (e : ℕ) (r : Unit {0} → Reply A) → 2 < e → untouched (r tt) ≡ false → untouched (asked b e r) ≡ false
 asked-clears true e r l h = h
 asked-clears false e r l h = lt-leb e 2 l
 

@@ -7,10 +7,10 @@ use native.Mathlib.Omega.{arith}
 use Rattle.horner.specs.definitions.Form.{Form}
 use lib.IntN.{ℤ}
 use Rattle.refusal.specs.declared.Fault.{Fault}
-use Rattle.text.specs.definitions.Answer.{Reading, refused}
-use Rattle.text.specs.definitions.FormJudging.{acceptForm}
+use Rattle.text.specs.definitions.Bytes.{Reading, refused}
+use Rattle.text.specs.definitions.FormReading.{acceptForm}
 use Rattle.text.specs.definitions.FormMeaning as F
-use Rattle.text.specs.definitions.Limits.{acceptTerm, passes, powersFit, weightFits, termsFit}
+use Rattle.text.specs.definitions.Limits.{acceptTerm, overLimit, powersFit, weightFits, termsFit}
 use Rattle.text.specs.definitions.Meaning.{RefusedAs, too-long, no-term-so, ended, unknown-letter, too-deep}
 use Rattle.text.specs.definitions.Tree.{Tree}
 use Rattle.text_laws.specs.laws.Accepted as T
@@ -30,21 +30,22 @@ syntax-number (ended i j k l) = omega arith
 syntax-number (unknown-letter i j k) = omega arith
 syntax-number (too-deep i j k) = omega arith
 
-passes-number : (row : List ℕ) (t : Tree) → (passes row t ≡ 0 → ⊥) → 2 < passes row t
-passes-number row t = go (powersFit row t) (weightFits row t) (termsFit row t) refl refl refl
+over-number : (row : List ℕ) (t : Tree) → (overLimit row t ≡ 0 → ⊥) → 2 < overLimit row t
+over-number row t = go (powersFit row t) (weightFits row t) (termsFit row t) refl refl refl
   where
-    go : (a b c : Bool) → powersFit row t ≡ a → weightFits row t ≡ b → termsFit row t ≡ c → (passes row t ≡ 0 → ⊥) → 2 < passes row t
-    go false b c h k l n = omega (arith, let i : passes row t ≡ 8 = rw (h, passes) refl in i)
-    go true false c h k l n = omega (arith, let i : passes row t ≡ 9 = rw (h, passes) (rw k refl) in i)
-    go true true false h k l n = omega (arith, let i : passes row t ≡ 10 = rw (h, passes) (rw (k, l) refl) in i)
-    go true true true h k l n = absurd (n (rw (h, passes) (rw (k, l) refl)))
+    go : (a b c : Bool) → powersFit row t ≡ a → weightFits row t ≡ b → termsFit row t ≡ c → (overLimit row t ≡ 0 → ⊥) → 2 < overLimit row t
+    go false b c h k l n = omega (arith, let i : overLimit row t ≡ 8 = rw (h, overLimit) refl in i)
+    go true false c h k l n = omega (arith, let i : overLimit row t ≡ 9 = rw (h, overLimit) (rw k refl) in i)
+    go true true false h k l n = omega (arith, let i : overLimit row t ≡ 10 = rw (h, overLimit) (rw (k, l) refl) in i)
+    go true true true h k l n = absurd (n (rw (h, overLimit) (rw (k, l) refl)))
 
 pub term-number : (row s : List ℕ) (bad : Fault) → acceptTerm row s ≡ refused bad → 2 < bad .number
 term-number row s bad h = go (T.outcome row s)
   where
     go : T.Outcome row s (acceptTerm row s) → 2 < bad .number
     go (T.not-term e′ p′ i j) = omega (arith, syntax-number (why row s e′ p′ i), same-number (sym j ∙ h))
-    go (T.too-big t e′ p′ i f j) = omega (arith, passes-number row (f .node) (λ z. f .over (sym (f .number) ∙ z)), f .number, same-number (sym j ∙ h))
+    go (T.too-big t e′ p′ i f j) =
+        omega (arith, over-number row (f .node) (λ z. f .over (sym (f .number) ∙ z)), f .number, same-number (sym j ∙ h))
     go (T.stands-as t i f j) = no-refusal (sym h ∙ j)
 
 -- ---- forms

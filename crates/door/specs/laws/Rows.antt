@@ -35,7 +35,8 @@ cons-twice : (x : ℕ) (xs : List ℕ) → capital x ≡ true → inRow xs x ≡
 cons-twice x xs h k = letters-cons x xs ∙ rw (h, k) refl
 
 module _ (row : List ℕ) (i : ℕ) (l : i < length row) where
-  pub letters-on : capital (getD row i 0) ≡ true → inRow (drop (i + 1) row) (getD row i 0) ≡ false → letters (drop i row) ≡ letters (drop (i + 1) row)
+  pub letters-on :
+      capital (getD row i 0) ≡ true → inRow (drop (i + 1) row) (getD row i 0) ≡ false → letters (drop i row) ≡ letters (drop (i + 1) row)
   letters-on h k = ap letters (one-on row i l) ∙ cons-on (getD row i 0) (drop (i + 1) row) h k
 
   pub letters-low : capital (getD row i 0) ≡ false → letters (drop i row) ≡ false

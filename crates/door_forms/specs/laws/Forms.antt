@@ -26,11 +26,15 @@ begun-form (R.Refused bad) h = no-forms (sym h)
 begun-form (R.Form x′ n′) {x} {n = n} h = let a : x′ ≡ x = cc in let b : n′ ≡ n = cc in ap₂ R.Form a b
 
 -- the left text was read, and is a form
-pub left-form : {m : ℕ} {s l : List ℕ} {q : FormReading} {x y : Measures} {n k : ℕ} {z : FormPair} → z ≡ begun q → z ≡ Forms x n y k → FormRead m s q l → IsForm m s x n l
+pub left-form :
+    {m : ℕ} {s l : List ℕ} {q : FormReading} {x y : Measures} {n k : ℕ} {z : FormPair} → z ≡ begun q → z ≡ Forms x n y k →
+    FormRead m s q l → IsForm m s x n l
 left-form {q = q} h i = read-form (begun-form q (sym h ∙ i))
 
 -- the left text is refused, and the right one not read
-pub left-refused : {m : ℕ} {s t l : List ℕ} (k : List ℕ) {q : FormReading} {z : FormPair} {bad : Refusal} → z ≡ begun q → z ≡ Refused bad → FormRead m s q l → PairRead m s t z k
+pub left-refused :
+    {m : ℕ} {s t l : List ℕ} (k : List ℕ) {q : FormReading} {z : FormPair} {bad : Refusal} → z ≡ begun q → z ≡ Refused bad →
+    FormRead m s q l → PairRead m s t z k
 left-refused k h i (refusal worse a j) = left-refusal worse a (h ∙ ap begun j)
 left-refused k h i (form x n F j) = no-forms (ap begun (sym j) ∙ sym h ∙ i)
 
@@ -58,14 +62,17 @@ right-read l j {x} {n} F (form y k G h) =
             made =
                 record {
                   size = G .made .size;
-                  is = ap (λ i. take k (drop i (putMid n (length l - n) l j))) (sym z) ∙ region-put n 0 k l j a (omega (arith, begins-le (G .made))) ∙ G .made .is;
+                  is =
+                      ap (λ i. take k (drop i (putMid n (length l - n) l j))) (sym z)
+                      ∙ region-put n 0 k l j a (omega (arith, begins-le (G .made))) ∙ G .made .is;
                 };
           };
     })
     (ap (ended x n) h)
 
 -- ---- what was read, by the enum
-pub read-pair : {m : ℕ} {s t l : List ℕ} {x y : Measures} {n k : ℕ} {r : FormPair} → r ≡ Forms x n y k → PairRead m s t r l → IsPair m s t x n y k l
+pub read-pair :
+    {m : ℕ} {s t l : List ℕ} {x y : Measures} {n k : ℕ} {r : FormPair} → r ≡ Forms x n y k → PairRead m s t r l → IsPair m s t x n y k l
 read-pair h (left-refusal bad a i) = no-forms (sym h ∙ i)
 read-pair h (right-refusal f bad a b i) = no-forms (sym h ∙ i)
 read-pair {x = x} {y} {n} {k} h (forms x′ n′ y′ k′ P i) =

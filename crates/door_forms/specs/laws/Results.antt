@@ -6,12 +6,10 @@ use Prim.Native.Nat.{ℕ, zero, suc, _≤_, min}
 use native.Mathlib.Omega.{arith}
 use lib.IntN.{ℤ, pos, negsuc}
 use lib.ListN.{length, take}
-use Rattle.horner.specs.definitions.Form.{Form, int, pop, pow, size}
-use Rattle.horner.specs.definitions.Integers.{ℤ-ring}
-use Rattle.horner.specs.definitions.Measures.{AllLe, Bounded, box, degrees, weight, one-if, count, terms}
-use Rattle.horner.specs.definitions.Normal.{Normal}
-use Rattle.horner.specs.definitions.Residues.{redℤ, prime, prime-pos}
-use Rattle.horner.specs.laws.Degree.{bounded-mono, bounded-degrees, length-degrees}
+use Rattle.horner.specs.definitions.Form.{Form, int, pop, pow, size, Normal}
+use Rattle.horner.specs.definitions.Rings.{ℤ-ring, redℤ, prime, prime-pos}
+use Rattle.horner.specs.laws.Degree.{Bounded, bounded-mono, bounded-degrees, length-degrees}
+use Rattle.horner.specs.definitions.Measures.{AllLe, box, degrees, weight, one-if, count, terms}
 use Rattle.horner.specs.laws.Hom.{mapForm}
 use Rattle.horner.specs.laws.Lifting.{bounded-map, normal-red}
 use Rattle.horner.specs.laws.Room.{words-3073}
@@ -23,9 +21,8 @@ use Rattle.code.specs.laws.Good.{good-at}
 use Rattle.code.specs.laws.Sizes.{size-enc}
 use Rattle.code_room.specs.Fit as Fit
 use Rattle.code_room.specs.laws.Lists.{below-limits}
-use Rattle.text.specs.definitions.Answer.{read}
-use Rattle.text.specs.definitions.FormJudging.{acceptForm}
-use Rattle.text.specs.definitions.FormText.{text}
+use Rattle.text.specs.definitions.Bytes.{read}
+use Rattle.text.specs.definitions.FormReading.{acceptForm, text}
 use Rattle.form_build.specs.Build.{overP}
 use Rattle.form_build.specs.laws.Accepted.{accepted-is}
 use Rattle.form_write.specs.Write.{textOf}
@@ -54,7 +51,9 @@ operand m s few f e =
     }
 
 -- a result, by the row of the table that was worked out for it
-pub result : {m w t : ℕ} {ds : List ℕ} {z : Form ℤ} → Normal ℤ-ring m z → length ds ≡ m → AllLe 63 ds → w ≤ 1073741823 → min t (box ds) ≤ 256 → Fits m w ds t z → Within m ds z
+pub result :
+    {m w t : ℕ} {ds : List ℕ} {z : Form ℤ} → Normal ℤ-ring m z → length ds ≡ m → AllLe 63 ds → w ≤ 1073741823 → min t (box ds) ≤ 256 →
+    Fits m w ds t z → Within m ds z
 result {m} {ds = ds} {z = z} n l a w t F =
     record {
       normal = n;
@@ -102,7 +101,13 @@ module _ {m : ℕ} {ds : List ℕ} {z : Form ℤ} (few-vars : m ≤ 4) (W : With
 
   pub few-words : length (enc 0 (overP z)) ≤ 3073
   few-words =
-      omega (arith, size-enc 0 (overP z), size-map (redℤ prime prime-pos) z, words-3073 ℤ-ring m z few-vars (W .normal) (omega (arith, W .few)))
+      omega (
+        arith,
+        size-enc 0 (overP z),
+        size-map (redℤ prime prime-pos) z,
+        words-3073 ℤ-ring m z few-vars (W .normal)
+            (omega (arith, W .few)),
+      )
 
   -- its code at the front of a table, where h is made there
   pub codes : {h : Form (Leaf 0)} {r : ℕ} {d : List ℕ} → h ≡ overP z → Made 0 h r d → Codes 0 (overP z) (take r d)

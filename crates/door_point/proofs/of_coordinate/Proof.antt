@@ -19,9 +19,6 @@ cast-result c =
     let l : raised x < 9223372036854775808 = raised-small x (f .sfits) in
     rw (read-is x f) (tt, record { fits = omega arith })
 
-cast-result-2 : tie.Need-cast-result-2
-cast-result-2 c = search needs
-
 returns : tie.Need-returns
 returns c =
     let x = c .args .x in
@@ -29,4 +26,4 @@ returns c =
     rw (read-is x f) (raised-remainder x (f .sfits))
 
 pub of-coordinate-spec : {M : Type 1} → statement M
-of-coordinate-spec = tie.close (tie.spec cast-up add-up cast-result cast-result-2 returns)
+of-coordinate-spec = tie.close (tie.spec cast-up add-up cast-result (λ c. search needs) returns)

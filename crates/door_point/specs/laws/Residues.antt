@@ -7,10 +7,10 @@ use native.Mathlib.Omega.{arith}
 use lib.IntN.{ℤ, pos}
 use lib.ListN.{length, take, drop, getD, set, length-map}
 use lib.Seq.{drop-cons, set-at, length-take-le, take-length, take-at}
-use Rattle.horner.specs.definitions.Residues.{redℤ, prime, prime-pos, below}
+use Rattle.horner.specs.definitions.Rings.{redℤ, prime, prime-pos, below}
 use Rattle.code.specs.Widths.{modulus}
 use Rattle.code_walk.specs.Points.{Leaves}
-use Rattle.reply.specs.definitions.Terms.{remainder}
+use Rattle.reply.specs.definitions.Calls.{remainder}
 use Rattle.door_point.specs.Point.{residuesOf}
 
 pub residues-length : (N : List ℤ) → length (residuesOf N) ≡ length N
@@ -50,7 +50,13 @@ module _ (N : List ℤ) (d : List ℕ) where
       → set (residuesOf (take k N) ++ drop k d) k (remainder (getD N k (pos 0))) ≡ residuesOf (take (k + 1) N) ++ drop (k + 1) d
   residues-more k h l =
       let e : length (residuesOf (take k N)) ≡ k = residues-length (take k N) ∙ length-take-le k N (omega arith) in
-      rw (add-one, drop-cons d k 0, set-at (residuesOf (take k N)) (getD d k 0) (drop (suc k) d) (remainder (getD N k (pos 0))) k e, residues-suc k h, append-assoc)
+      rw (
+        add-one,
+        drop-cons d k 0,
+        set-at (residuesOf (take k N)) (getD d k 0) (drop (suc k) d) (remainder (getD N k (pos 0))) k e,
+        residues-suc k h,
+        append-assoc,
+      )
 
   pub residues-all : (k : ℕ) → k ≤ length N → length N ≤ k → residuesOf (take k N) ++ drop k d ≡ residuesOf N ++ drop (length N) d
   residues-all k h l =

@@ -1,4 +1,5 @@
--- The whole of a call that gives a remainder at a point: refused 1 or 2 at the door, refused 12, or answered; the tables cleared but for 1 and 2.
+-- The whole of a call that gives a remainder at a point: refused 1 or 2 at the door, refused 12, or answered; the tables cleared but for 1
+-- and 2.
 use mathlib.Core.Bool.{Bool, true, false}
 use mathlib.Core.List.{List}
 use mathlib.Core.Path.{_≡_, refl, sym, ap, _∙_}
@@ -30,7 +31,8 @@ room-for row N r l e = omega (arith, row-length row r .1, l .second)
 abbrev pub pointed : (row ts : List ℕ) (N : List ℤ) → Reply ℕ → Reply ℕ
 pointed row ts N y = opened row ts (λ u. asked (eqb (length N) (length row)) 12 (λ v. y))
 
-cleared-whole : (x y : Reply ℕ) {r : Remaindered} (a b c d : List ℕ) {a′ b′ c′ d′ : List ℕ} → x ≡ y → untouched y ≡ false → r ≡ remainderedOf y
+cleared-whole :
+    (x y : Reply ℕ) {r : Remaindered} (a b c d : List ℕ) {a′ b′ c′ d′ : List ℕ} → x ≡ y → untouched y ≡ false → r ≡ remainderedOf y
     → Zeros a b c d a′ b′ c′ d′ → Remainders x r (work a b c d) (work a′ b′ c′ d′)
 cleared-whole x y a b c d h u i z =
     record { answer = ap toldRemainder i ∙ tells-remainder y ∙ sym h; tables = tables-cleared x a b c d (ap untouched h ∙ u) z }
@@ -39,7 +41,8 @@ module _ (row ts : List ℕ) (N : List ℤ) (x y : Reply ℕ) (is : x ≡ pointe
   abbrev rest : Bool → Reply ℕ
   rest b = asked b 12 (λ v. y)
 
-  pub refused-whole : {bad : Refusal} (a b c d : List ℕ) → readyOf row ts ≡ Closed.Refused bad → Remainders x (Refused bad) (work a b c d) (work a b c d)
+  pub refused-whole :
+      {bad : Refusal} (a b c d : List ℕ) → readyOf row ts ≡ Closed.Refused bad → Remainders x (Refused bad) (work a b c d) (work a b c d)
   refused-whole a b c d h =
       let k = is ∙ not-open row ts (λ u. rest (eqb (length N) (length row))) h in
       record { answer = sym k; tables = tables-kept x (work a b c d) k (ready-small row ts h) }
@@ -48,9 +51,13 @@ module _ (row ts : List ℕ) (N : List ℤ) (x y : Reply ℕ) (is : x ≡ pointe
   pub other-length : (a b c d : List ℕ) {a′ b′ c′ d′ : List ℕ} → Open row ts → (length N ≡ length row → ⊥) → Zeros a b c d a′ b′ c′ d′
       → Remainders x (Refused (ofNeither 12)) (work a b c d) (work a′ b′ c′ d′)
   other-length a b c d o n z =
-      cleared-whole x (refuses (ofNeither 12)) a b c d (is ∙ open-goes row ts (λ u. rest (eqb (length N) (length row))) o ∙ ap rest (ne-eqb (length N) (length row) n)) refl refl z
+      cleared-whole x (refuses (ofNeither 12)) a b c d
+      (is ∙ open-goes row ts (λ u. rest (eqb (length N) (length row))) o ∙ ap rest (ne-eqb (length N) (length row) n)) refl refl z
 
-  pub answered-whole : {r : Remaindered} (a b c d : List ℕ) {a′ b′ c′ d′ : List ℕ} → Open row ts → length N ≡ length row → untouched y ≡ false → r ≡ remainderedOf y
+  pub answered-whole :
+      {r : Remaindered} (a b c d : List ℕ) {a′ b′ c′ d′ : List ℕ} → Open row ts → length N ≡ length row → untouched y ≡ false →
+      r ≡ remainderedOf y
       → Zeros a b c d a′ b′ c′ d′ → Remainders x r (work a b c d) (work a′ b′ c′ d′)
   answered-whole a b c d o l u i z =
-      cleared-whole x y a b c d (is ∙ open-goes row ts (λ u. rest (eqb (length N) (length row))) o ∙ ap rest (eq-eqb (length N) (length row) l)) u i z
+      cleared-whole x y a b c d
+      (is ∙ open-goes row ts (λ u. rest (eqb (length N) (length row))) o ∙ ap rest (eq-eqb (length N) (length row) l)) u i z

@@ -16,7 +16,9 @@ pub refused-whole : (x : Reply (List ℕ)) {bad : Refusal} (res a b c d : List �
 refused-whole x res a b c d l k =
     record { answer = ap (said length) (sym k); result = ap (λ z. resultAfter z res) (sym k); tables = tables-kept x (work a b c d) k l }
 
-pub answered-whole : (x y : Reply (List ℕ)) {r : Written} (res a b c d : List ℕ) {res′ a′ b′ c′ d′ : List ℕ} → x ≡ y → untouched y ≡ false → r ≡ writtenOf y
+pub answered-whole :
+    (x y : Reply (List ℕ)) {r : Written} (res a b c d : List ℕ) {res′ a′ b′ c′ d′ : List ℕ} → x ≡ y → untouched y ≡ false →
+    r ≡ writtenOf y
     → res′ ≡ resultAfter y res → Zeros a b c d a′ b′ c′ d′ → Writes x r res res′ (work a b c d) (work a′ b′ c′ d′)
 answered-whole x y res a b c d h u i j z =
     record {

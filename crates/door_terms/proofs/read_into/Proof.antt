@@ -1,8 +1,6 @@
 -- `door_terms::read_into` meets its contract: what is refused, or the form copied to the front of the last table.
-use mathlib.Core.Path.{_≡_, sym, ap, _∙_}
+use mathlib.Core.Path.{sym}
 use native.Mathlib.Omega.{arith}
-use denote.Ref.{now}
-use lib.ListN.{length, take, drop}
 use lib.Seq.{length-take-le}
 use Rattle.code.proofs.Lists.{begins-le}
 use Rattle.term_read.specs.laws.Reading.{read-form}
@@ -16,82 +14,54 @@ use Rattle.door_terms.proofs.read_into.Lts as lts
 use Rattle.code.proofs.copy.Reads as copy-reads
 use Rattle.term_read.proofs.read_term.Reads as read-term-reads
 
-read-term-requires : tie.Need-read-term-requires
-read-term-requires c κs = search needs
+-- the places that are looked at, each seen from a later one
+abbrev start : tie.After-read-term → tie.Start
+start c = c .before .before .before .before .before .before .before .before .before .before .before
 
-enum-known-reading : tie.Need-enum-known-reading
-enum-known-reading c = search needs
+abbrev after-read-term : tie.After-enum-told → tie.After-read-term
+after-read-term c = c .before .before .before .before .before .before .before .before .before .before
 
-enum-told : tie.Need-enum-told
-enum-told c = search needs
-
-same-length : tie.Need-same-length
-same-length c = search needs
-
-same-length-2 : tie.Need-same-length-2
-same-length-2 c = search needs
-
-same-length-3 : tie.Need-same-length-3
-same-length-3 c = search needs
-
-same-length-4 : tie.Need-same-length-4
-same-length-4 c = search needs
+abbrev after-read-term-from-reading : tie.After-reading → tie.After-read-term
+after-read-term-from-reading c = c .before .before .before .before .before .before .before .before .before .before
 
 returns : tie.Need-returns
-returns c = refused-any _ (c .enum-told .given .1) (c .before .before .before .before .before .before .before .before .before .before .read-term .ensures)
+returns c = refused-any _ (c .enum-told .given .1) (after-read-term c .read-term .ensures)
 
 slice-reshare-prefix-copy : tie.Need-slice-reshare-prefix-copy
 slice-reshare-prefix-copy c =
-    let read-term = c .before .before .before .before .before .before .before .before .before .before .before .read-term in
+    let read-term = after-read-term-from-reading (c .before) .read-term in
     begins-le (read-form (c .before .reading .given .1) (read-term .ensures) .made)
 
 slice-aggregate-copy : tie.Need-slice-aggregate-copy
 slice-aggregate-copy c =
-    let read-term = c .before .before .before .before .before .before .before .before .before .before .before .before .read-term in
-    sym (length-take-le (c .before .before .reading .given .0 .0) (read-term .last .1 .1 .0) (begins-le (read-form (c .before .before .reading .given .1) (read-term .ensures) .made)))
+    let at-reading = c .before .before in
+    let read-term = after-read-term-from-reading at-reading .read-term in
+    sym (length-take-le (at-reading .reading .given .0 .0) (read-term .last .1 .1 .0)
+    (begins-le (read-form (at-reading .reading .given .1) (read-term .ensures) .made)))
 
 copy-requires : tie.Need-copy-requires
 copy-requires c κs =
-    let read-term = c .before .before .before .before .before .before .before .before .before .before .before .before .before .read-term in
-    let start = c .before .before .before .before .before .before .before .before .before .before .before .before .before .before .before .before .before .before .before .before .before .before .before .before in
-    let T = read-form (c .before .before .before .reading .given .1) (read-term .ensures) in
-    omega (arith, length-take-le (c .before .before .before .reading .given .0 .0) (read-term .last .1 .1 .0) (begins-le (T .made)), term-words (start .pre .0) T, start .pre .1 .fourth, read-term .kept .1 .1 .1 .1 .1 .0)
-
-same-length-5 : tie.Need-same-length-5
-same-length-5 c = search needs
-
-same-length-6 : tie.Need-same-length-6
-same-length-6 c = search needs
-
-same-length-7 : tie.Need-same-length-7
-same-length-7 c = search needs
-
-same-length-8 : tie.Need-same-length-8
-same-length-8 c = search needs
+    let at-reading : tie.After-reading = c .before .before .before in
+    let at-read-term = after-read-term-from-reading at-reading in
+    let s = start at-read-term in
+    let read-term = at-read-term .read-term in
+    let T = read-form (at-reading .reading .given .1) (read-term .ensures) in
+    omega (
+      arith,
+      length-take-le (at-reading .reading .given .0 .0) (read-term .last .1 .1 .0) (begins-le (T .made)),
+      term-words (s .pre .0) T,
+      s .pre .1 .fourth,
+      read-term .kept .1 .1 .1 .1 .1 .0,
+    )
 
 returns-2 : tie.Need-returns-2
 returns-2 c =
-    let reading = c .before .before .before .before .before .before .reading in
-    let read-term = c .before .before .before .before .before .before .before .before .before .before .before .before .before .before .before .before .read-term in
-    copied _ (reading .given .1) (read-term .ensures) (c .before .before .copy .ensures)
+    let at-reading : tie.After-reading = c .before .before .before .before .before .before in
+    let at-read-term = after-read-term-from-reading at-reading in
+    copied _ (at-reading .reading .given .1) (at-read-term .read-term .ensures) (c .before .before .copy .ensures)
 
 pub read-into-spec : {M : Type 1} → statement M
 read-into-spec =
-    tie.close
-    (tie.spec
-    read-term-requires
-    enum-known-reading
-    enum-told
-    same-length
-    same-length-2
-    same-length-3
-    same-length-4
-    returns
-    slice-reshare-prefix-copy
-    slice-aggregate-copy
-    copy-requires
-    same-length-5
-    same-length-6
-    same-length-7
-    same-length-8
-    returns-2)
+    tie.close (tie.spec (λ c κs. search needs) (λ c. search needs) (λ c. search needs) (λ c. search needs) (λ c. search needs)
+    (λ c. search needs) (λ c. search needs) returns slice-reshare-prefix-copy slice-aggregate-copy copy-requires (λ c. search needs)
+    (λ c. search needs) (λ c. search needs) (λ c. search needs) returns-2)

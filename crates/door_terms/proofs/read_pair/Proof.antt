@@ -1,5 +1,4 @@
 -- `door_terms::read_pair` meets its contract: the left text is refused, or the right one, or both forms stand side by side.
-use mathlib.Core.Path.{sym}
 use native.Mathlib.Omega.{arith}
 use Rattle.code.proofs.Lists.{length-tail-part}
 use Rattle.term_read.specs.laws.Terms.{term-words}
@@ -13,70 +12,93 @@ use Rattle.door_terms.proofs.begun.Reads as begun-reads
 use Rattle.door_terms.proofs.ended.Reads as ended-reads
 use Rattle.door_terms.proofs.read_into.Reads as read-into-reads
 
-read-into-requires : tie.Need-read-into-requires
-read-into-requires c κs = search needs
+-- the places that are looked at, each seen from a later one
+abbrev start : tie.After-read-into → tie.Start
+start c = c .before .before .before .before .before .before .before .before .before .before .before .before
 
-begun-requires : tie.Need-begun-requires
-begun-requires c κs = search needs
+abbrev after-read-into : tie.After-begun → tie.After-read-into
+after-read-into c = c .before .before .before .before .before .before .before .before .before
 
-enum-known-left : tie.Need-enum-known-left
-enum-known-left c = search needs
-
-enum-told : tie.Need-enum-told
-enum-told c = search needs
-
-same-length : tie.Need-same-length
-same-length c = search needs
-
-same-length-2 : tie.Need-same-length-2
-same-length-2 c = search needs
-
-same-length-3 : tie.Need-same-length-3
-same-length-3 c = search needs
-
-same-length-4 : tie.Need-same-length-4
-same-length-4 c = search needs
+abbrev after-left : tie.After-read-into-arg7 → tie.After-left
+after-left c = c .before .before .before .before
 
 returns : tie.Need-returns
-returns c = left-refused _ ((c .before .before .begun) .ensures) ((c .enum-told) .given .1) ((c .before .before .before .before .before .before .before .before .before .before .before .read-into) .ensures)
+returns c =
+    left-refused _ ((c .before .before .begun) .ensures) ((c .enum-told) .given .1)
+    ((after-read-into (c .before .before) .read-into) .ensures)
 
 mul-read-into : tie.Need-mul-read-into
-mul-read-into c = omega (arith, term-words ((c .before .before .before .before .before .before .before .before .before .before .before .before .before .before .before .before .before .before .before .before .before .before .before .before .before .before .before) .pre .0) (left-form ((c .before .before .before .before .before .before .begun) .ensures) ((c .before .before .before .before .left) .given .1) ((c .before .before .before .before .before .before .before .before .before .before .before .before .before .before .before .read-into) .ensures)))
+mul-read-into c =
+    let at-left = after-left c in
+    let at-begun = at-left .before .before in
+    let at-read-into = after-read-into at-begun in
+    omega (
+      arith,
+      term-words ((start at-read-into) .pre .0)
+          (left-form ((at-begun .begun) .ensures) ((at-left .left) .given .1) ((at-read-into .read-into) .ensures)),
+    )
 
 sub-read-into : tie.Need-sub-read-into
-sub-read-into c = omega (arith, term-words ((c .before .before .before .before .before .before .before .before .before .before .before .before .before .before .before .before .before .before .before .before .before .before .before .before .before .before .before) .pre .0) (left-form ((c .before .before .before .before .before .before .begun) .ensures) ((c .before .before .before .before .left) .given .1) ((c .before .before .before .before .before .before .before .before .before .before .before .before .before .before .before .read-into) .ensures)), (c .before .before .before .before .before .before .before .before .before .before .before .before .before .before .before .read-into) .kept .1 .1 .1 .1 .1 .0, (c .before .before .before .before .before .before .before .before .before .before .before .before .before .before .before .before .before .before .before .before .before .before .before .before .before .before .before) .pre .1 .1)
+sub-read-into c =
+    let at-left = after-left c in
+    let at-begun = at-left .before .before in
+    let at-read-into = after-read-into at-begun in
+    let s = start at-read-into in
+    omega (
+      arith,
+      term-words (s .pre .0) (left-form ((at-begun .begun) .ensures) ((at-left .left) .given .1) ((at-read-into .read-into) .ensures)),
+      (at-read-into .read-into) .kept .1 .1 .1 .1 .1 .0,
+      s .pre .1 .1,
+    )
 
 part-read-into-start : tie.Need-part-read-into-start
-part-read-into-start c = omega (arith, term-words ((c .before .before .before .before .before .before .before .before .before .before .before .before .before .before .before .before .before .before .before .before .before .before .before .before .before .before .before) .pre .0) (left-form ((c .before .before .before .before .before .before .begun) .ensures) ((c .before .before .before .before .left) .given .1) ((c .before .before .before .before .before .before .before .before .before .before .before .before .before .before .before .read-into) .ensures)), (c .before .before .before .before .before .before .before .before .before .before .before .before .before .before .before .read-into) .kept .1 .1 .1 .1 .1 .0, (c .before .before .before .before .before .before .before .before .before .before .before .before .before .before .before .before .before .before .before .before .before .before .before .before .before .before .before) .pre .1 .1)
-
-part-read-into-end : tie.Need-part-read-into-end
-part-read-into-end c = search needs
+part-read-into-start c =
+    let at-left = after-left c in
+    let at-begun = at-left .before .before in
+    let at-read-into = after-read-into at-begun in
+    let s = start at-read-into in
+    omega (
+      arith,
+      term-words (s .pre .0) (left-form ((at-begun .begun) .ensures) ((at-left .left) .given .1) ((at-read-into .read-into) .ensures)),
+      (at-read-into .read-into) .kept .1 .1 .1 .1 .1 .0,
+      s .pre .1 .1,
+    )
 
 read-into-requires-2 : tie.Need-read-into-requires-2
 read-into-requires-2 c κs =
-    let f = (c .before .before .before .before .before .before .before .before .before .before .before .before .before .before .before .before .read-into) in
-    let T = left-form ((c .before .before .before .before .before .before .before .begun) .ensures) ((c .before .before .before .before .before .left) .given .1) (f .ensures) in
-    ((c .before .before .before .before .before .before .before .before .before .before .before .before .before .before .before .before .before .before .before .before .before .before .before .before .before .before .before .before) .pre .0, omega (arith, f .kept .1 .1 .0, f .kept .1 .1 .1 .0, f .kept .1 .1 .1 .1 .0, f .kept .1 .1 .1 .1 .1 .0, (c .before .before .before .before .before .before .before .before .before .before .before .before .before .before .before .before .before .before .before .before .before .before .before .before .before .before .before .before) .pre .1 .0, (c .before .before .before .before .before .before .before .before .before .before .before .before .before .before .before .before .before .before .before .before .before .before .before .before .before .before .before .before) .pre .1 .1, term-words ((c .before .before .before .before .before .before .before .before .before .before .before .before .before .before .before .before .before .before .before .before .before .before .before .before .before .before .before .before) .pre .0) T, length-tail-part ((c .before .before .before .before .before .left) .given .0 .0) (f .last .1 .1 .1 .1 .1 .0)))
-
-ended-requires : tie.Need-ended-requires
-ended-requires c κs = search needs
-
-same-length-5 : tie.Need-same-length-5
-same-length-5 c = search needs
-
-same-length-6 : tie.Need-same-length-6
-same-length-6 c = search needs
-
-same-length-7 : tie.Need-same-length-7
-same-length-7 c = search needs
-
-same-length-8 : tie.Need-same-length-8
-same-length-8 c = search needs
+    let at-left = after-left (c .before) in
+    let at-begun = at-left .before .before in
+    let at-read-into = after-read-into at-begun in
+    let s = start at-read-into in
+    let f = (at-read-into .read-into) in
+    let T = left-form ((at-begun .begun) .ensures) ((at-left .left) .given .1) (f .ensures) in (
+      s .pre .0,
+      omega (
+        arith,
+        f .kept .1 .1 .0,
+        f .kept .1 .1 .1 .0,
+        f .kept .1 .1 .1 .1 .0,
+        f .kept .1 .1 .1 .1 .1 .0,
+        s .pre .1 .0,
+        s .pre .1 .1,
+        term-words (s .pre .0) T,
+        length-tail-part ((at-left .left) .given .0 .0) (f .last .1 .1 .1 .1 .1 .0),
+      ),
+    )
 
 returns-2 : tie.Need-returns-2
 returns-2 c =
-    let T = left-form ((c .before .before .before .before .before .before .before .before .before .before .before .before .before .before .before .before .before .begun) .ensures) ((c .before .before .before .before .before .before .before .before .before .before .before .before .before .before .before .left) .given .1) ((c .before .before .before .before .before .before .before .before .before .before .before .before .before .before .before .before .before .before .before .before .before .before .before .before .before .before .read-into) .ensures) in
-    rw (c .ended .ensures) (right-read ((c .before .before .before .before .before .before .before .before .before .before .before .before .before .before .before .before .before .before .before .before .before .before .before .before .before .before .read-into) .last .1 .1 .1 .1 .1 .0) ((c .before .before .before .before .before .before .before .before .before .read-into2) .last .1 .1 .1 .1 .1 .0) T ((c .before .before .before .before .before .before .before .before .before .read-into2) .ensures))
+    let at-read-into2 : tie.After-read-into2 = c .before .before .before .before .before .before .before .before .before in
+    let at-left = after-left (at-read-into2 .before .before) in
+    let at-begun = at-left .before .before in
+    let read-into = after-read-into at-begun .read-into in
+    let T = left-form ((at-begun .begun) .ensures) ((at-left .left) .given .1) (read-into .ensures) in
+    rw (c .ended .ensures) (right-read (read-into .last .1 .1 .1 .1 .1 .0) ((at-read-into2 .read-into2) .last .1 .1 .1 .1 .1 .0) T
+    ((at-read-into2 .read-into2) .ensures))
 
 pub read-pair-spec : {M : Type 1} → statement M
-read-pair-spec = tie.close (tie.spec read-into-requires begun-requires enum-known-left enum-told same-length same-length-2 same-length-3 same-length-4 returns mul-read-into sub-read-into part-read-into-start part-read-into-end read-into-requires-2 ended-requires same-length-5 same-length-6 same-length-7 same-length-8 returns-2)
+read-pair-spec =
+    tie.close (tie.spec (λ c κs. search needs) (λ c κs. search needs) (λ c. search needs) (λ c. search needs) (λ c. search needs)
+    (λ c. search needs) (λ c. search needs) (λ c. search needs) returns mul-read-into sub-read-into part-read-into-start
+    (λ c. search needs) read-into-requires-2 (λ c κs. search needs) (λ c. search needs) (λ c. search needs) (λ c. search needs)
+    (λ c. search needs) returns-2)

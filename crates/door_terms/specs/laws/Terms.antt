@@ -7,7 +7,7 @@ use borrow.Rule.Slice.PartMut.{putMid}
 use lib.ListN.{length, take, drop}
 use Rattle.code.proofs.Lists.{begins-le, copied-front}
 use Rattle.code.proofs.Regions.{region-before, region-put}
-use Rattle.text.specs.definitions.Answer.{Reading, read}
+use Rattle.text.specs.definitions.Bytes.{Reading}
 use Rattle.text.specs.definitions.Limits.{acceptTerm}
 use Rattle.reply.specs.definitions.Reply.{Reply, refuses, readAs}
 use Rattle.text.specs.definitions.Tree.{Tree}
@@ -25,10 +25,13 @@ use Rattle.door_terms.specs.declared.TermPair.the-variants.{Forms, Refus
 
 -- ---- one form, copied to the front of another table
 -- a refusal says nothing of the tables
-pub refused-any : {row s l : List ℕ} {r : TermReading} {bad : Fault} (k : List ℕ) → r ≡ R.Refused bad → TermRead row s r l → TermRead row s r k
+pub refused-any :
+    {row s l : List ℕ} {r : TermReading} {bad : Fault} (k : List ℕ) → r ≡ R.Refused bad → TermRead row s r l → TermRead row s r k
 refused-any {bad = bad} k h t = refusal bad (read-refusal h t) h
 
-pub copied : {row s l d′ : List ℕ} {r : TermReading} {n : ℕ} (d : List ℕ) → r ≡ R.Form n → TermRead row s r l → d′ ≡ take n l ++ d → TermRead row s (R.Form n) d′
+pub copied :
+    {row s l d′ : List ℕ} {r : TermReading} {n : ℕ} (d : List ℕ) → r ≡ R.Form n → TermRead row s r l → d′ ≡ take n l ++ d →
+    TermRead row s (R.Form n) d′
 copied {n = n} d h t e =
     let T = read-form h t in
     form n (record { t = T .t; accepted = T .accepted; made = copied-front d (T .made) e }) refl
@@ -42,16 +45,21 @@ begun-form (R.Refused bad) h = no-forms (sym h)
 begun-form (R.Form k) {n} h = let e : k ≡ n = cc in ap R.Form e
 
 -- the left text was read, and is a form
-pub left-form : {row s l : List ℕ} {q : TermReading} {n z : ℕ} {x : TermPair} → x ≡ begun q → x ≡ Forms n z → TermRead row s q l → IsTerm row s n l
+pub left-form :
+    {row s l : List ℕ} {q : TermReading} {n z : ℕ} {x : TermPair} → x ≡ begun q → x ≡ Forms n z → TermRead row s q l → IsTerm row s n l
 left-form {q = q} h i = read-form (begun-form q (sym h ∙ i))
 
 -- the left text is refused, and the right one not read
-pub left-refused : {row s t l : List ℕ} (k : List ℕ) {q : TermReading} {x : TermPair} {bad : Refusal} → x ≡ begun q → x ≡ Refused bad → TermRead row s q l → PairRead row s t x k
+pub left-refused :
+    {row s t l : List ℕ} (k : List ℕ) {q : TermReading} {x : TermPair} {bad : Refusal} → x ≡ begun q → x ≡ Refused bad →
+    TermRead row s q l → PairRead row s t x k
 left-refused k h i (refusal worse a j) = left-refusal worse a (h ∙ ap begun j)
 left-refused k h i (form n t j) = no-forms (ap begun (sym j) ∙ sym h ∙ i)
 
 -- the right text was read into the part behind the left form
-pub right-read : {row s t : List ℕ} (l m : List ℕ) {n : ℕ} {r : TermReading} → IsTerm row s n l → TermRead row t r m → PairRead row s t (ended n r) (putMid n (length l - n) l m)
+pub right-read :
+    {row s t : List ℕ} (l m : List ℕ) {n : ℕ} {r : TermReading} → IsTerm row s n l → TermRead row t r m →
+    PairRead row s t (ended n r) (putMid n (length l - n) l m)
 right-read l m {n} F (refusal bad a j) = right-refusal (F .t) bad (F .accepted) a (ap (ended n) j)
 right-read l m {n} F (form k G j) =
     let a = begins-le (F .made) in
@@ -66,7 +74,9 @@ right-read l m {n} F (form k G j) =
       right-made =
           record {
             size = G .made .size;
-            is = ap (λ i. take k (drop i (putMid n (length l - n) l m))) (sym z) ∙ region-put n 0 k l m a (omega (arith, begins-le (G .made))) ∙ G .made .is;
+            is =
+                ap (λ i. take k (drop i (putMid n (length l - n) l m))) (sym z)
+                ∙ region-put n 0 k l m a (omega (arith, begins-le (G .made))) ∙ G .made .is;
           };
     })
     (ap (ended n) j)
@@ -82,7 +92,8 @@ pair-forms {row} {s} {t} {l} {k = k} {m} h (forms k′ m′ Q i) =
     subst (λ z. IsPair row s t z m l) a (subst (λ z. IsPair row s t k′ z l) b Q)
 
 -- what any call on two terms replies where one is refused
-pub pair-refused : {B : Type 0} {row s t l : List ℕ} {q : TermPair} {bad : Refusal} (k : Tree → Tree → Reply B) → q ≡ Refused bad → PairRead row s t q l
+pub pair-refused :
+    {B : Type 0} {row s t l : List ℕ} {q : TermPair} {bad : Refusal} (k : Tree → Tree → Reply B) → q ≡ Refused bad → PairRead row s t q l
     → readAs Left (acceptTerm row s) (λ f. readAs Right (acceptTerm row t) (k f)) ≡ refuses bad
 pair-refused {row = row} {s} {t} {bad = bad} k h (left-refusal worse a i) =
     let same : onSide Left worse ≡ bad = cc in

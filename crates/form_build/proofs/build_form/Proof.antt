@@ -10,13 +10,11 @@ build-at-requires c κs =
     let p = c .before .before .before .pre in
     accepted-ready _ (p .0 .0) (p .0 .1) (p .1 .0) (p .1 .1)
 
-same-length : tie.Need-same-length
-same-length c = search needs
-
 returns : tie.Need-returns
 returns c =
-    let start = c .before .before .before .before .before .before in
-    λ f e. c .before .before .build-at .ensures .made f _ (accepted-stands _ _ (start .pre .0 .0) f e) (accepted-fit _ _ (start .pre .0 .0) f e)
+    let start : tie.Start = c .before .before .before .before .before .before in
+    λ f e. c .before .before .build-at .ensures .made f _ (accepted-stands _ _ (start .pre .0 .0) f e)
+    (accepted-fit _ _ (start .pre .0 .0) f e)
 
 pub build-form-spec : {M : Type 1} → statement M
-build-form-spec = tie.close (tie.spec build-at-requires same-length returns)
+build-form-spec = tie.close (tie.spec build-at-requires (λ c. search needs) returns)

@@ -4,31 +4,16 @@ use borrow.Author.Needs.{needs}
 use Rattle.form_build.proofs.joined.Statement.{statement}
 use Rattle.form_build.proofs.joined.Tie as tie
 
-cut-sum-requires : tie.Need-cut-sum-requires
-cut-sum-requires c κs = search needs
-
-cut-sum-requires-2 : tie.Need-cut-sum-requires-2
-cut-sum-requires-2 c κs = search needs
-
-cut-sum-requires-3 : tie.Need-cut-sum-requires-3
-cut-sum-requires-3 c κs = search needs
-
-larger-requires : tie.Need-larger-requires
-larger-requires c κs = search needs
-
-larger-requires-2 : tie.Need-larger-requires-2
-larger-requires-2 c κs = search needs
-
-larger-requires-3 : tie.Need-larger-requires-3
-larger-requires-3 c κs = search needs
-
 returns : tie.Need-returns
 returns c =
+    let at-cut-sum3 : tie.After-cut-sum3 = c .before .before .before in
+    let at-cut-sum2 = at-cut-sum3 .before in
+    let at-cut-sum = at-cut-sum2 .before in
     λ j.
     record {
-      weight = c .before .before .before .before .before .cut-sum .ensures j;
-      terms = c .before .before .before .before .cut-sum2 .ensures j;
-      d0 = c .before .before .before .cut-sum3 .ensures j;
+      weight = at-cut-sum .cut-sum .ensures j;
+      terms = at-cut-sum2 .cut-sum2 .ensures j;
+      d0 = at-cut-sum3 .cut-sum3 .ensures j;
       d1 = c .before .before .larger .ensures j;
       d2 = c .before .larger2 .ensures j;
       d3 = c .larger3 .ensures j;
@@ -36,12 +21,5 @@ returns c =
 
 pub joined-spec : {M : Type 1} → statement M
 joined-spec =
-    tie.close
-    (tie.spec
-    cut-sum-requires
-    cut-sum-requires-2
-    cut-sum-requires-3
-    larger-requires
-    larger-requires-2
-    larger-requires-3
-    returns)
+    tie.close (tie.spec (λ c κs. search needs) (λ c κs. search needs) (λ c κs. search needs) (λ c κs. search needs) (λ c κs. search needs)
+    (λ c κs. search needs) returns)

@@ -5,12 +5,10 @@ use Prim.Native.Nat.{ℕ, zero, suc, _≤_}
 use native.Mathlib.Omega.{arith}
 use lib.IntN.{ℤ}
 use lib.ListN.{length, take}
-use Rattle.horner.specs.definitions.Form.{Form, int, pop, pow, size}
-use Rattle.horner.specs.definitions.Integers.{ℤ-ring}
-use Rattle.horner.specs.definitions.Measures.{AllLe, Bounded, degrees}
-use Rattle.horner.specs.definitions.Normal.{Normal}
-use Rattle.horner.specs.definitions.Residues.{redℤ, prime, prime-pos}
-use Rattle.horner.specs.laws.Degree.{Below, bounded-mono, bounded-degrees, length-degrees}
+use Rattle.horner.specs.definitions.Form.{Form, int, pop, pow, size, Normal}
+use Rattle.horner.specs.definitions.Rings.{ℤ-ring, redℤ, prime, prime-pos}
+use Rattle.horner.specs.laws.Degree.{Bounded, Below, bounded-mono, bounded-degrees, length-degrees}
+use Rattle.horner.specs.definitions.Measures.{AllLe, degrees}
 use Rattle.horner.specs.laws.Hom.{mapForm}
 use Rattle.horner.specs.laws.Lifting.{bounded-map, normal-red}
 use Rattle.horner.specs.laws.Room.{words-3073}
@@ -19,10 +17,9 @@ use Rattle.code.specs.Widths.{ringOf}
 use Rattle.code.specs.laws.Codes.{coded}
 use Rattle.code.specs.laws.Good.{good-at}
 use Rattle.code.specs.laws.Sizes.{size-enc}
-use Rattle.text.specs.definitions.Answer.{read}
-use Rattle.text.specs.definitions.FormJudging.{acceptForm}
+use Rattle.text.specs.definitions.Bytes.{read}
+use Rattle.text.specs.definitions.FormReading.{acceptForm, text}
 use Rattle.text.specs.definitions.FormMeaning.{IsForm, IsFormText}
-use Rattle.text.specs.definitions.FormText.{text}
 use Rattle.text_laws.specs.laws.FormAccepted.{accepts}
 use Rattle.form_head.specs.Heads.{Stands}
 use Rattle.form_build.specs.Build.{overP, Fit, ReadyAt, Accepted}
@@ -52,7 +49,8 @@ module _ (m : ℕ) (s : List ℕ) (few : m ≤ 4) (f : Form ℤ) (e : acceptForm
   pub accepted-bounded : Bounded (limits m) f
   accepted-bounded =
       let a = accepted-is in
-      bounded-mono f (degrees m f) (limits m) (below-limits m (degrees m f) (length-degrees ℤ-ring m f (a .normal)) (a .degrees-fit)) (bounded-degrees ℤ-ring m f (a .normal))
+      bounded-mono f (degrees m f) (limits m) (below-limits m (degrees m f) (length-degrees ℤ-ring m f (a .normal)) (a .degrees-fit))
+      (bounded-degrees ℤ-ring m f (a .normal))
 
   pub accepted-normal : Normal (ringOf 0) m (overP f)
   accepted-normal = let a = accepted-is in normal-red prime prime-pos m f (omega (arith, a .weight-fits)) (a .normal)

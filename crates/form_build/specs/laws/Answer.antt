@@ -2,7 +2,7 @@
 use mathlib.Core.Bool.{Bool, true, false, not, _&&_}
 use mathlib.Core.List.{List, [], _∷_}
 use mathlib.Core.Path.{_≡_, refl, sym, ap, _∙_, subst}
-use Prim.Native.Nat.{ℕ, zero, suc, _+_, _-_, _≤_, min, max}
+use Prim.Native.Nat.{ℕ, zero, suc, _+_, _≤_, min, max}
 use native.Mathlib.Nat.{sub-zero}
 use native.Mathlib.Omega.{arith}
 use borrow.Author.Tests.{eq-eqb, ne-eqb, lt-ltb, le-ltb, leb-true, leb-false}
@@ -10,18 +10,16 @@ use lib.Dec.{ltb, leb}
 use lib.IntN.{ℤ}
 use lib.ListN.{length, getD}
 use Rattle.refusal.specs.Refusal.{fault}
-use Rattle.horner.specs.definitions.Form.{Form}
-use Rattle.horner.specs.definitions.Integers.{ℤ-ring}
+use Rattle.horner.specs.definitions.Form.{Form, Normal}
+use Rattle.horner.specs.definitions.Rings.{ℤ-ring}
 use Rattle.horner.specs.definitions.Measures.{AllLe, weight, degrees, count, terms}
-use Rattle.horner.specs.definitions.Normal.{Normal}
 use Rattle.horner.specs.laws.Degree.{length-degrees}
-use Rattle.text.specs.definitions.Answer.{Reading, read, fine}
-use Rattle.text.specs.definitions.Bytes.{all}
-use Rattle.text.specs.definitions.FormJudging.{nodes, passes, thenMeasured, thenJudged, acceptForm}
+use Rattle.text.specs.definitions.Bytes.{onward, Reading, read, fine, all}
+use Rattle.text.specs.definitions.FormReading.{nodes, overLimit, formMeasured, formJudged, acceptForm, text}
 use Rattle.text.specs.definitions.FormMeaning.{IsFormText}
-use Rattle.text.specs.definitions.FormText.{text}
 use Rattle.text_laws.specs.laws.Descent.{judgedAt}
-use Rattle.text_laws.specs.laws.FormAccepted.{Fits, Measure, within, degree, heavy, many, measure, Judged as Verdict, upright, fallen, judged}
+use Rattle.text_laws.specs.laws.FormAccepted.{Fits, Measure, within, degree, heavy, many, measure, Judged as Verdict, upright, fallen}
+use Rattle.text_laws.specs.laws.FormAccepted.{judged}
 use Rattle.text_laws.specs.laws.FormNormal.{stand-normal}
 use Rattle.text_laws.specs.laws.FormReading.{reads}
 use Rattle.text_laws.specs.laws.Picks.{pick, pick-yes, pick-no}
@@ -70,7 +68,8 @@ and-true false = refl
 abbrev low : ℕ → Bool
 low d = leb d 63
 
-all-four : (ds : List ℕ) → length ds ≤ 4 → all low ds ≡ (low (getD ds 0 0) && (low (getD ds 1 0) && (low (getD ds 2 0) && low (getD ds 3 0))))
+all-four :
+    (ds : List ℕ) → length ds ≤ 4 → all low ds ≡ (low (getD ds 0 0) && (low (getD ds 1 0) && (low (getD ds 2 0) && low (getD ds 3 0))))
 all-four [] h = refl
 all-four (a ∷ []) h = refl
 all-four (a ∷ b ∷ []) h = refl
@@ -87,18 +86,25 @@ module _ (m : ℕ) (few : m ≤ 4) (f : Form ℤ) (n : Normal ℤ-ring m f) wher
   degree-low : (k : ℕ) → ltb 63 (min (degreeAt f k) 64) ≡ not (low (getD (degrees m f) k 0))
   degree-low k = over-cut 63 (degreeAt f k) ∙ ap (λ d. not (low d)) (sym (degree-at m f n k))
 
-  limit-is : limitM (atLeastOne (cutOf f)) ≡ passes m f
+  limit-is : limitM (atLeastOne (cutOf f)) ≡ overLimit m f
   limit-is =
-      (λ i. pick (degree-low 0 i) 8 (pick (degree-low 1 i) 8 (pick (degree-low 2 i) 8 (pick (degree-low 3 i) 8 (pick (over-cut 1073741823 (weight f) i) 9 (pick (over-terms (count ℤ-ring f) i) 10 0))))))
-      ∙ six-tests (low (getD (degrees m f) 0 0)) (low (getD (degrees m f) 1 0)) (low (getD (degrees m f) 2 0)) (low (getD (degrees m f) 3 0)) (leb (weight f) 1073741823) (leb (terms ℤ-ring f) 256)
-      ∙ ap (λ b. elim b [ true ↦ elim (leb (weight f) 1073741823) [ true ↦ elim (leb (terms ℤ-ring f) 256) [ true ↦ 0 | false ↦ 10 ] | false ↦ 9 ] | false ↦ 8 ])
+      (λ i. pick (degree-low 0 i) 8 (pick (degree-low 1 i) 8 (pick (degree-low 2 i) 8
+      (pick (degree-low 3 i) 8 (pick (over-cut 1073741823 (weight f) i) 9 (pick (over-terms (count ℤ-ring f) i) 10 0))))))
+      ∙ six-tests (low (getD (degrees m f) 0 0)) (low (getD (degrees m f) 1 0)) (low (getD (degrees m f) 2 0))
+      (low (getD (degrees m f) 3 0)) (leb (weight f) 1073741823) (leb (terms ℤ-ring f) 256)
+      ∙ ap (λ b. elim b [
+        | true ↦ elim (leb (weight f) 1073741823)
+            [ true ↦ elim (leb (terms ℤ-ring f) 256) [ true ↦ 0 | false ↦ 10 ] | false ↦ 9 ]
+        | false ↦ 8
+      ])
       (sym (all-four (degrees m f) (omega (arith, few, length-degrees ℤ-ring m f n))))
 
   small-min : (x K : ℕ) → x ≤ K → min x (suc K) ≡ x
   small-min x K h = omega arith
 
   degree-is : AllLe 63 (degrees m f) → (k : ℕ) → min (degreeAt f k) 64 ≡ getD (degrees m f) k 0
-  degree-is h k = small-min (degreeAt f k) 63 (subst (λ d. d ≤ 63) (degree-at m f n k) (all-at (degrees m f) h k)) ∙ sym (degree-at m f n k)
+  degree-is h k =
+      small-min (degreeAt f k) 63 (subst (λ d. d ≤ 63) (degree-at m f n k) (all-at (degrees m f) h k)) ∙ sym (degree-at m f n k)
 
   -- within the limits nothing was cut
   exact : Fits m f → atLeastOne (cutOf f) ≡ measuresOf m f
@@ -120,15 +126,19 @@ module _ (m : ℕ) (few : m ≤ 4) (f : Form ℤ) (n : Normal ℤ-ring m f) wher
   within-limits e (heavy i h k) z = absurd (omega arith)
   within-limits e (many i h k l) z = absurd (omega arith)
 
-  limited-is : (a : Measures) → a ≡ atLeastOne (cutOf f) → limitedM a ≡ judgedOf m (fine (passes m f) 0 (λ u. read f))
-  limited-is a q = go (passes m f) refl
+  limited-is : (a : Measures) → a ≡ atLeastOne (cutOf f) → limitedM a ≡ judgedOf m (fine (overLimit m f) 0 (λ u. read f))
+  limited-is a q = go (overLimit m f) refl
     where
-      l : limitM a ≡ passes m f
+      l : limitM a ≡ overLimit m f
       l = ap limitM q ∙ limit-is
 
-      go : (e : ℕ) → passes m f ≡ e → limitedM a ≡ judgedOf m (fine e 0 (λ u. read f))
-      go zero e = pick-yes (Formed a) (Refused (fault (limitM a) 0)) (eq-eqb (limitM a) 0 (l ∙ e)) ∙ ap Formed (q ∙ exact (within-limits (passes m f) (measure m f) e))
-      go (suc k) e = pick-no (Formed a) (Refused (fault (limitM a) 0)) (ne-eqb (limitM a) 0 (λ z. omega (arith, z, l, e))) ∙ ap (λ x. Refused (fault x 0)) (l ∙ e)
+      go : (e : ℕ) → overLimit m f ≡ e → limitedM a ≡ judgedOf m (fine e 0 (λ u. read f))
+      go zero e =
+          pick-yes (Formed a) (Refused (fault (limitM a) 0)) (eq-eqb (limitM a) 0 (l ∙ e))
+          ∙ ap Formed (q ∙ exact (within-limits (overLimit m f) (measure m f) e))
+      go (suc k) e =
+          pick-no (Formed a) (Refused (fault (limitM a) 0)) (ne-eqb (limitM a) 0 (λ z. omega (arith, z, l, e)))
+          ∙ ap (λ x. Refused (fault x 0)) (l ∙ e)
 
 -- ---- the text
 module _ (m : ℕ) (few : m ≤ 4) (s : List ℕ) (R : IsRead s) where
@@ -138,25 +148,40 @@ module _ (m : ℕ) (few : m ≤ 4) (s : List ℕ) (R : IsRead s) where
   pub read-standing : Standing s 0
   read-standing = record { g = R .f; rest = []; stands = text-stands is-text }
 
-  accept-read : acceptForm m s ≡ thenMeasured m (judgedAt m 0 0 (R .f))
+  accept-read : acceptForm m s ≡ onward (judgedAt m 0 0 (R .f)) (formMeasured m)
   unfolding acceptForm
-  accept-read = ap (thenJudged m) (R .is)
+  accept-read = ap (λ (r : Reading (Form ℤ)). onward r (formJudged m)) (R .is)
 
   pub answer-wrong : (p : ℕ) → SeenAt m s 0 (Wrong p) → Refused (fault 7 p) ≡ judgedOf m (acceptForm m s)
-  answer-wrong p S = go (judgedAt m 0 0 (R .f)) (judged m (R .f) (nodes 0 0 (R .f))) (S m 0 (R .f) [] (sub-zero m) (text-stands is-text)) ∙ ap (judgedOf m) (sym accept-read)
+  answer-wrong p S =
+      go (judgedAt m 0 0 (R .f)) (judged m (R .f) (nodes 0 0 (R .f))) (S m 0 (R .f) [] (sub-zero m) (text-stands is-text))
+      ∙ ap (judgedOf m) (sym accept-read)
     where
-      go : (x : Reading (Form ℤ)) → Verdict m (R .f) (nodes 0 0 (R .f)) x → Wrong p ≡ seen x (shapeOf (R .f)) (0 + length (text (R .f))) → Refused (fault 7 p) ≡ judgedOf m (thenMeasured m x)
-      go x (upright a e) q = absurd (let w = q ∙ ap (λ z. seen z (shapeOf (R .f)) (0 + length (text (R .f)))) e in let z : _≡_ {A = ℕ} 0 1 = cc in omega arith)
+      go :
+          (x : Reading (Form ℤ)) → Verdict m (R .f) (nodes 0 0 (R .f)) x → Wrong p ≡ seen x (shapeOf (R .f)) (0 + length (text (R .f))) →
+          Refused (fault 7 p) ≡ judgedOf m (onward x (formMeasured m))
+      go x (upright a e) q =
+          absurd
+          (let w = q ∙ ap (λ z. seen z (shapeOf (R .f)) (0 + length (text (R .f)))) e in let z : _≡_ {A = ℕ} 0 1 = cc in omega arith)
       go x (fallen ls k js j a w e) q =
           let v : Wrong p ≡ Wrong (k .place) = q ∙ ap (λ z. seen z (shapeOf (R .f)) (0 + length (text (R .f)))) e in
           let u : p ≡ k .place = cc in
-          ap (λ x. Refused (fault 7 x)) u ∙ ap (λ z. judgedOf m (thenMeasured m z)) (sym e)
+          ap (λ x. Refused (fault 7 x)) u ∙ ap (λ z. judgedOf m (onward z (formMeasured m))) (sym e)
 
-  pub answer-fine : (shape next : ℕ) → SeenAt m s 0 (Fine shape next) → {a b : Measures} {end : ℕ} → MeasuredAt s 0 a end → b ≡ atLeastOne a → limitedM b ≡ judgedOf m (acceptForm m s)
-  answer-fine shape next S {a} {b} M q = go (judgedAt m 0 0 (R .f)) (judged m (R .f) (nodes 0 0 (R .f))) (S m 0 (R .f) [] (sub-zero m) (text-stands is-text)) ∙ ap (judgedOf m) (sym accept-read)
+  pub answer-fine :
+      (shape next : ℕ) → SeenAt m s 0 (Fine shape next) → {a b : Measures} {end : ℕ} → MeasuredAt s 0 a end → b ≡ atLeastOne a →
+      limitedM b ≡ judgedOf m (acceptForm m s)
+  answer-fine shape next S {a} {b} M q =
+      go (judgedAt m 0 0 (R .f)) (judged m (R .f) (nodes 0 0 (R .f))) (S m 0 (R .f) [] (sub-zero m) (text-stands is-text))
+      ∙ ap (judgedOf m) (sym accept-read)
     where
-      go : (x : Reading (Form ℤ)) → Verdict m (R .f) (nodes 0 0 (R .f)) x → Fine shape next ≡ seen x (shapeOf (R .f)) (0 + length (text (R .f))) → limitedM b ≡ judgedOf m (thenMeasured m x)
+      go :
+          (x : Reading (Form ℤ)) → Verdict m (R .f) (nodes 0 0 (R .f)) x →
+          Fine shape next ≡ seen x (shapeOf (R .f)) (0 + length (text (R .f))) → limitedM b ≡ judgedOf m (onward x (formMeasured m))
       go x (upright a e) v =
-          limited-is m few (R .f) (rw sub-zero at (stand-normal m (R .f) 0 0 a)) b (q ∙ ap atLeastOne (M .is (R .f) [] (text-stands is-text)))
-          ∙ ap (λ z. judgedOf m (thenMeasured m z)) (sym e)
-      go x (fallen ls k js j a w e) v = absurd (let u = v ∙ ap (λ z. seen z (shapeOf (R .f)) (0 + length (text (R .f)))) e in let z : _≡_ {A = ℕ} 0 1 = cc in omega arith)
+          limited-is m few (R .f) (rw sub-zero at (stand-normal m (R .f) 0 0 a)) b
+          (q ∙ ap atLeastOne (M .is (R .f) [] (text-stands is-text)))
+          ∙ ap (λ z. judgedOf m (onward z (formMeasured m))) (sym e)
+      go x (fallen ls k js j a w e) v =
+          absurd
+          (let u = v ∙ ap (λ z. seen z (shapeOf (R .f)) (0 + length (text (R .f)))) e in let z : _≡_ {A = ℕ} 0 1 = cc in omega arith)

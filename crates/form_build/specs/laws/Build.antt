@@ -9,7 +9,7 @@ use lib.IntN.{ℤ, pos, negsuc, natAbs}
 use lib.ListN.{length, length-append}
 use borrow.Author.Tests.{eq-eqb, ne-eqb}
 use Rattle.horner.specs.definitions.Form.{Form, int, pop, pow}
-use Rattle.horner.specs.definitions.Residues.{prime}
+use Rattle.horner.specs.definitions.Rings.{prime}
 use Rattle.code.specs.Coding.{Begins, enc}
 use Rattle.code.specs.laws.Good.{good-pop, good-pow}
 use Rattle.code.specs.laws.Sizes.{enc-pos}
@@ -29,8 +29,10 @@ pop-fit f = let h = good-pop (f .good) in (h .1 .0, record { good = h .1 .1; lig
 
 pub pow-fit : {i : ℕ} {p q : Form ℤ} → Fit (pow i p q) → (i ≤ 63) × (Fit p × Fit q)
 pow-fit f =
-    let h = good-pow (f .good) in
-    (h .1 .0, (record { good = h .1 .1 .0; light = omega (arith, f .light) }, record { good = h .1 .1 .1; light = omega (arith, f .light) }))
+    let h = good-pow (f .good) in (
+      h .1 .0,
+      (record { good = h .1 .1 .0; light = omega (arith, f .light) }, record { good = h .1 .1 .1; light = omega (arith, f .light) }),
+    )
 
 -- ---- lengths
 pop-length : (i : ℕ) (p : Form ℤ) → length (enc 0 (overP (pop i p))) ≡ suc (length (enc 0 (overP p)))
@@ -48,7 +50,8 @@ natural-word n number h e =
     let k : number ≡ n = omega (arith, e) in
     ap (λ x. x ∷ []) (k ∙ sym (NatL.mod-eq-of-lt {n = n} {m = prime} (omega arith)))
 
-below-word : (n number : ℕ) → suc n ≤ 1073741823 → number ≡ min (suc n) 1073741824 → (2147483647 - number) ∷ [] ≡ enc 0 (overP (int (negsuc n)))
+below-word :
+    (n number : ℕ) → suc n ≤ 1073741823 → number ≡ min (suc n) 1073741824 → (2147483647 - number) ∷ [] ≡ enc 0 (overP (int (negsuc n)))
 unfolding enc
 below-word n number h e =
     let k : number ≡ suc n = omega (arith, e) in
@@ -56,11 +59,15 @@ below-word n number h e =
     let b : (prime - suc n) % prime ≡ prime - suc n = NatL.mod-eq-of-lt (omega arith) in
     ap (λ x. x ∷ []) (ap (λ x. 2147483647 - x) k ∙ sym b ∙ ap (λ x. (prime - x) % prime) (sym a))
 
-leaf-code : (kind number first at : ℕ) (z : ℤ) → natAbs z ≤ 1073741823 → HeadIs at kind number first (int z) → leafWord kind number ∷ [] ≡ enc 0 (overP (int z))
+leaf-code :
+    (kind number first at : ℕ) (z : ℤ) → natAbs z ≤ 1073741823 → HeadIs at kind number first (int z) →
+    leafWord kind number ∷ [] ≡ enc 0 (overP (int z))
 leaf-code kind number first at (pos n) h H =
-    ap (λ b. elim b [ true ↦ number | false ↦ 2147483647 - number ] ∷ []) (eq-eqb kind 0 (H .is-kind)) ∙ natural-word n number h (H .is-number)
+    ap (λ b. elim b [ true ↦ number | false ↦ 2147483647 - number ] ∷ []) (eq-eqb kind 0 (H .is-kind))
+    ∙ natural-word n number h (H .is-number)
 leaf-code kind number first at (negsuc n) h H =
-    ap (λ b. elim b [ true ↦ number | false ↦ 2147483647 - number ] ∷ []) (ne-eqb kind 0 (λ e. omega (arith, H .is-kind))) ∙ below-word n number h (H .is-number)
+    ap (λ b. elim b [ true ↦ number | false ↦ 2147483647 - number ] ∷ []) (ne-eqb kind 0 (λ e. omega (arith, H .is-kind)))
+    ∙ below-word n number h (H .is-number)
 
 -- ---- what is asked and given, node by node
 -- n words of p and the head are not too many of l, and their number and i make a word
@@ -90,9 +97,27 @@ module _ {s : List ℕ} {at kind number first : ℕ} (H : Headed s at kind numbe
       go (int (pos n)) rest h f m = absurd (omega (arith, H _ _ h .is-kind))
       go (int (negsuc n)) rest h f m = absurd (omega (arith, H _ _ h .is-kind))
       go (pop i p) rest h f m =
-          record { g = p; rest = _; stands = pop-part H h; fit = pop-fit f .1; room = omega (arith, e, m, pop-length i p); small = omega (arith, e, r .small) }
+          record {
+            g = p;
+            rest = _;
+            stands = pop-part H h;
+            fit = pop-fit f .1;
+            room = omega (arith, e, m, pop-length i p);
+            small = omega (
+              arith,
+              e,
+              r .small,
+            );
+          }
       go (pow i p q) rest h f m =
-          record { g = p; rest = _; stands = pow-left H h; fit = pow-fit f .1 .0; room = omega (arith, e, m, pow-length i p q); small = omega (arith, e, r .small) }
+          record {
+            g = p;
+            rest = _;
+            stands = pow-left H h;
+            fit = pow-fit f .1 .0;
+            room = omega (arith, e, m, pow-length i p q);
+            small = omega (arith, e, r .small);
+          }
 
   module _ {n mid : ℕ} {e : List ℕ} (B : BuiltAt s first n mid e) where
     pub node-fits : 2 ≤ kind → {l : ℕ} → ReadyAt s at l → NodeFits l n number
@@ -102,9 +127,17 @@ module _ {s : List ℕ} {at kind number first : ℕ} (H : Headed s at kind numbe
         go (int (pos n)) rest h f m = absurd (omega (arith, H _ _ h .is-kind))
         go (int (negsuc n)) rest h f m = absurd (omega (arith, H _ _ h .is-kind))
         go (pop i p) rest h f m =
-            record { count = omega (arith, m, pop-length i p, B .made p _ (pop-part H h) (pop-fit f .1) .size); small = r .small; low = omega (arith, H _ _ h .is-number, pop-fit f .0) }
+            record {
+              count = omega (arith, m, pop-length i p, B .made p _ (pop-part H h) (pop-fit f .1) .size);
+              small = r .small;
+              low = omega (arith, H _ _ h .is-number, pop-fit f .0);
+            }
         go (pow i p q) rest h f m =
-            record { count = omega (arith, m, pow-length i p q, B .made p _ (pow-left H h) (pow-fit f .1 .0) .size); small = r .small; low = omega (arith, H _ _ h .is-number, pow-fit f .0) }
+            record {
+              count = omega (arith, m, pow-length i p q, B .made p _ (pow-left H h) (pow-fit f .1 .0) .size);
+              small = r .small;
+              low = omega (arith, H _ _ h .is-number, pow-fit f .0);
+            }
 
     pub ready-second : kind ≡ 3 → {l : ℕ} (l′ : ℕ) → l′ ≡ l - (1 + n) → ReadyAt s at l → ReadyAt s (mid + 1) l′
     ready-second k {l} l′ q r = go (r .g) (r .rest) (r .stands) (r .fit) (r .room)
@@ -141,7 +174,9 @@ module _ {s : List ℕ} {at kind number first : ℕ} (H : Headed s at kind numbe
             )
 
     -- the head in front of p's code, and q's behind
-    pub pop-made : kind ≡ 2 → {d : List ℕ} → ((l : List ℕ) → Begins n l e → Begins (1 + n) ((2147483648 + number) ∷ l) d) → BuiltAt s at (1 + n) (mid + 1) d
+    pub pop-made :
+        kind ≡ 2 → {d : List ℕ} → ((l : List ℕ) → Begins n l e → Begins (1 + n) ((2147483648 + number) ∷ l) d) →
+        BuiltAt s at (1 + n) (mid + 1) d
     unfolding enc
     pop-made k {d} put = record { ends = ends-pop H mid k (B .ends); made = go }
       where
@@ -150,11 +185,13 @@ module _ {s : List ℕ} {at kind number first : ℕ} (H : Headed s at kind numbe
         go (int (negsuc n)) rest h f = absurd (omega (arith, H _ _ h .is-kind))
         go (pop i p) rest h f =
             let w : number ≡ i = omega (arith, H _ _ h .is-number, pop-fit f .0) in
-            subst (λ x. Begins (1 + n) ((2147483648 + x) ∷ enc 0 (overP p)) d) w (put (enc 0 (overP p)) (B .made p _ (pop-part H h) (pop-fit f .1)))
+            subst (λ x. Begins (1 + n) ((2147483648 + x) ∷ enc 0 (overP p)) d) w
+            (put (enc 0 (overP p)) (B .made p _ (pop-part H h) (pop-fit f .1)))
         go (pow i p q) rest h f = absurd (omega (arith, H _ _ h .is-kind))
 
     pub pow-made : kind ≡ 3 → (m next : ℕ) (e₂ d : List ℕ) → BuiltAt s (mid + 1) m next e₂
-        → ((k l : List ℕ) → Begins n k e → Begins m l e₂ → Begins (1 + n + m) ((2147483648 + 64 * n + number) ∷ k ++ l) d) → BuiltAt s at (1 + n + m) (next + 1) d
+        → ((k l : List ℕ) → Begins n k e → Begins m l e₂ → Begins (1 + n + m) ((2147483648 + 64 * n + number) ∷ k ++ l) d) → BuiltAt s
+        at (1 + n + m) (next + 1) d
     unfolding enc
     pow-made k m next e₂ d C put = record { ends = ends-pow H mid (B .ends) next k (C .ends); made = go }
       where

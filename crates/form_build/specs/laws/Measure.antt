@@ -9,11 +9,9 @@ use borrow.Author.Tests.{eq-eqb, ne-eqb}
 use lib.Dec.{eqb}
 use lib.IntN.{ℤ, pos, negsuc, natAbs}
 use lib.ListN.{length, getD}
-use Rattle.horner.specs.definitions.Form.{Form, int, pop, pow}
-use Rattle.horner.specs.definitions.Integers.{ℤ-ring, isZeroℤ}
+use Rattle.horner.specs.definitions.Form.{Form, int, pop, pow, Normal, tl}
+use Rattle.horner.specs.definitions.Rings.{ℤ-ring, isZeroℤ}
 use Rattle.horner.specs.definitions.Measures.{zeros, firstOr0, maxs, weight, count, degrees}
-use Rattle.horner.specs.definitions.Normal.{Normal}
-use Rattle.horner.specs.definitions.Value.{tl}
 use Rattle.horner.specs.laws.Compare.{lt-or-ge}
 use Rattle.horner.specs.laws.Degree.{length-degrees, length-tl}
 use Rattle.text_laws.specs.laws.Picks.{pick}
@@ -135,10 +133,14 @@ module _ {s : List ℕ} {at kind number first : ℕ} (H : Headed s at kind numbe
         go : (g : Form ℤ) (rest : List ℕ) → Stands s at g rest → r ≡ cutOf g
         go (int (pos n)) rest h = absurd (omega (arith, H _ _ h .is-kind))
         go (int (negsuc n)) rest h = absurd (omega (arith, H _ _ h .is-kind))
-        go (pop i p) rest h = e ∙ ap (popM number) (A .is p _ (pop-part H h)) ∙ pop-cut number p ∙ ap (λ z. cutOf (pop z p)) (H _ _ h .is-number) ∙ far-cut i p
+        go (pop i p) rest h =
+            e ∙ ap (popM number) (A .is p _ (pop-part H h)) ∙ pop-cut number p ∙ ap (λ z. cutOf (pop z p)) (H _ _ h .is-number)
+            ∙ far-cut i p
         go (pow i p q) rest h = absurd (omega (arith, H _ _ h .is-kind))
 
-    pub pow-measured : kind ≡ 3 → {b : Measures} {next : ℕ} → MeasuredAt s (mid + 1) b next → (r : Measures) → r ≡ powM number a b → MeasuredAt s at r (next + 1)
+    pub pow-measured :
+        kind ≡ 3 → {b : Measures} {next : ℕ} → MeasuredAt s (mid + 1) b next → (r : Measures) → r ≡ powM number a b →
+        MeasuredAt s at r (next + 1)
     pow-measured k {b} {next} B r e = record { ends = ends-pow H mid (A .ends) next k (B .ends); is = go }
       where
         go : (g : Form ℤ) (rest : List ℕ) → Stands s at g rest → r ≡ cutOf g

@@ -20,16 +20,15 @@ abbrev μ-loop : tie.MeasureT-loop
 loop-holds : tie.Need-loop-holds Inv-loop μ-loop
 loop-holds c = (search needs, refl)
 
-shared-slice-read-is-digit : tie.Need-shared-slice-read-is-digit Inv-loop μ-loop
-shared-slice-read-is-digit c = search needs
-
 is-digit-requires : tie.Need-is-digit-requires Inv-loop μ-loop
 is-digit-requires c κs = tt
 
 returns : tie.Need-returns Inv-loop μ-loop
 returns c =
-    let l = c .before .before .before .before .loop in
-    sym (digits-off _ (l .i) (c .before .before .before .loop-test .taken) (sym (c .before .is-digit .ensures) ∙ not-true _ (c .if1 .taken))) ∙ l .inv .1
+    let in-loop : tie.In-loop Inv-loop μ-loop = c .before .before .before in
+    let at-loop = in-loop .before in
+    let l = at-loop .loop in
+    sym (digits-off _ (l .i) (in-loop .loop-test .taken) (sym (c .before .is-digit .ensures) ∙ not-true _ (c .if1 .taken))) ∙ l .inv .1
 
 add-i : tie.Need-add-i Inv-loop μ-loop
 add-i c = omega arith
@@ -39,9 +38,13 @@ loop-less c = omega arith
 
 loop-again : tie.Need-loop-again Inv-loop μ-loop
 loop-again c =
-    let loop = c .before .before .before .before .loop in
-    let l = loop in
-    (omega arith, sym (digits-on _ (l .i) (c .before .before .before .loop-test .taken) (sym (c .before .is-digit .ensures) ∙ not-false _ (c .if1 .left))) ∙ l .inv .1)
+    let in-loop : tie.In-loop Inv-loop μ-loop = c .before .before .before in
+    let at-loop = in-loop .before in
+    let l = at-loop .loop in (
+      omega arith,
+      sym (digits-on _ (l .i) (in-loop .loop-test .taken) (sym (c .before .is-digit .ensures) ∙ not-false _ (c .if1 .left)))
+          ∙ l .inv .1,
+    )
 
 returns-2 : tie.Need-returns-2 Inv-loop μ-loop
 returns-2 c =
@@ -50,4 +53,4 @@ returns-2 c =
 
 pub digits-end-spec : {M : Type 1} → statement M
 digits-end-spec =
-    tie.close (tie.spec Inv-loop μ-loop loop-holds shared-slice-read-is-digit is-digit-requires returns add-i loop-less loop-again returns-2)
+    tie.close (tie.spec Inv-loop μ-loop loop-holds (λ c. search needs) is-digit-requires returns add-i loop-less loop-again returns-2)

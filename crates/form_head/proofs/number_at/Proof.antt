@@ -6,8 +6,7 @@ use Prim.Native.Nat.{ℕ, _+_, _-_, _≤_, min}
 use native.Mathlib.Omega.{arith}
 use lib.ListN.{length, take, drop, length-drop}
 use borrow.Author.Needs.{needs}
-use Rattle.text.specs.definitions.Bytes.{all, digit}
-use Rattle.text.specs.definitions.Numerals.{valueFrom}
+use Rattle.text.specs.definitions.Bytes.{all, digit, valueFrom}
 use Rattle.form_head.specs.Heads.{digits}
 use Rattle.form_head.specs.laws.Digits.{digits-short, digits-all, digits-take}
 use Rattle.form_head.proofs.number_at.Statement.{statement}
@@ -15,31 +14,26 @@ use Rattle.form_head.proofs.number_at.Tie as tie
 
 -- the part from the place to the end of the digits
 part-is : (s : List ℕ) (at e : ℕ) → e ≡ at + length (digits (drop at s)) → take (e - at) (drop at s) ≡ digits (drop at s)
-part-is s at e q = ap (λ k. take k (drop at s)) (let z : e - at ≡ length (digits (drop at s)) = omega (arith, q) in z) ∙ digits-take (drop at s)
+part-is s at e q =
+    ap (λ k. take k (drop at s)) (let z : e - at ≡ length (digits (drop at s)) = omega (arith, q) in z) ∙ digits-take (drop at s)
 
 end-inside : (s : List ℕ) (at e : ℕ) → at ≤ length s → e ≡ at + length (digits (drop at s)) → e ≤ length s
 end-inside s at e h q = omega (arith, q, digits-short (drop at s), length-drop at s)
-
-digits-end-requires : tie.Need-digits-end-requires
-digits-end-requires c κs = search needs
-
-sub-cut-value : tie.Need-sub-cut-value
-sub-cut-value c = search needs
-
-part-cut-value-start : tie.Need-part-cut-value-start
-part-cut-value-start c = search needs
 
 part-cut-value-end : tie.Need-part-cut-value-end
 part-cut-value-end c = omega (arith, end-inside (c .before .before .args .s .now) _ _ (c .before .before .pre) (c .digits-end .ensures))
 
 cut-value-requires : tie.Need-cut-value-requires
-cut-value-requires c κs = ap (all digit) (part-is _ _ _ (c .before .digits-end .ensures)) ∙ digits-all (drop (c .before .before .before .args .at) (c .before .before .before .args .s .now))
+cut-value-requires c κs =
+    let start : tie.Start = c .before .before .before in
+    ap (all digit) (part-is _ _ _ (c .before .digits-end .ensures)) ∙ digits-all (drop (start .args .at) (start .args .s .now))
 
 returns : tie.Need-returns
 returns c =
+    let start : tie.Start = c .before .before .before .before in
     let e = c .before .before .digits-end .ensures in
-    record { is-value = c .cut-value .ensures ∙ ap (λ w. min (valueFrom 0 w) (c .before .before .before .before .args .limit)) (part-is _ _ _ e); is-next = e }
+    record { is-value = c .cut-value .ensures ∙ ap (λ w. min (valueFrom 0 w) (start .args .limit)) (part-is _ _ _ e); is-next = e }
 
 pub number-at-spec : {M : Type 1} → statement M
 number-at-spec =
-    tie.close (tie.spec digits-end-requires sub-cut-value part-cut-value-start part-cut-value-end cut-value-requires returns)
+    tie.close (tie.spec (λ c κs. search needs) (λ c. search needs) (λ c. search needs) part-cut-value-end cut-value-requires returns)

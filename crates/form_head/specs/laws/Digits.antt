@@ -7,16 +7,16 @@ use native.Mathlib.Omega.{arith}
 use native.Mathlib.Numerals.{add-one}
 use lib.ListN.{length, take, drop, getD, drop-of-length-le}
 use lib.Seq.{drop-cons}
-use Rattle.text.specs.definitions.Bytes.{digit, all}
-use Rattle.text.specs.definitions.Numerals.{dec}
+use Rattle.text.specs.definitions.Bytes.{digit, all, decimal}
 use Rattle.text_laws.specs.laws.Bytes.{and-l, and-r, and-i, digit-range}
-use Rattle.text_laws.specs.laws.Numerals.{Leading, leading-dec, dec-short}
+use Rattle.text_laws.specs.laws.Numerals.{Leading, leading-decimal, decimal-short}
 use Rattle.form_head.specs.Heads.{digits, NoDigit}
 
 pub digits-of : (w rest : List ℕ) → all digit w ≡ true → NoDigit rest → digits (w ++ rest) ≡ w
 digits-of [] [] h n = refl
 digits-of [] (x ∷ rest) h n = rw (n, digits)
-digits-of (x ∷ w) rest h n = rw (and-l (digit x) (all digit w) h, digits) (ap (λ l. x ∷ l) (digits-of w rest (and-r (digit x) (all digit w) h) n))
+digits-of (x ∷ w) rest h n =
+    rw (and-l (digit x) (all digit w) h, digits) (ap (λ l. x ∷ l) (digits-of w rest (and-r (digit x) (all digit w) h) n))
 
 by-first : (x : ℕ) (l : List ℕ) (P : List ℕ → Type 0) → (digit x ≡ true → P (x ∷ digits l)) → (digit x ≡ false → P []) → P (digits (x ∷ l))
 by-first x l P f g = go (digit x) refl
@@ -64,11 +64,12 @@ pub record Digits (w : List ℕ) : Type 0 where
 
 of-leading : (w : List ℕ) → Leading w → Digits w
 of-leading [] l = absurd l
-of-leading (x ∷ w) l = record { some = omega arith; first = digit-range x (l .1) .0; last = digit-range x (l .1) .1; digits = and-i (l .1) (l .2) }
+of-leading (x ∷ w) l =
+    record { some = omega arith; first = digit-range x (l .1) .0; last = digit-range x (l .1) .1; digits = and-i (l .1) (l .2) }
 
 of-zero : (w : List ℕ) → w ≡ 48 ∷ [] → Digits w
 of-zero w e = rw e (record { some = omega arith; first = omega arith; last = omega arith; digits = refl })
 
-pub dec-digits : (n : ℕ) → Digits (dec n)
-dec-digits zero = of-zero (dec 0) (dec-short 0 (omega arith))
-dec-digits (suc n) = of-leading (dec (suc n)) (leading-dec n)
+pub decimal-digits : (n : ℕ) → Digits (decimal n)
+decimal-digits zero = of-zero (decimal 0) (decimal-short 0 (omega arith))
+decimal-digits (suc n) = of-leading (decimal (suc n)) (leading-decimal n)

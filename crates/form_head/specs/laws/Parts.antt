@@ -6,15 +6,18 @@ use native.Mathlib.Omega.{arith}
 use lib.IntN.{ℤ, pos, negsuc}
 use lib.ListN.{length, drop, length-append}
 use Rattle.horner.specs.definitions.Form.{Form, int, pop, pow}
-use Rattle.text.specs.definitions.FormText.{text, popHead, powHead}
+use Rattle.text.specs.definitions.FormReading.{text, popHead, powHead}
 use Rattle.form_head.specs.Heads.{Stands, Standing, Headed, Ends}
 use Rattle.form_head.specs.laws.Heads.{drop-on, text-some, stands-inside}
 
 -- ---- by the places that the definitions give
-pop-at : {s : List ℕ} {at i : ℕ} {p : Form ℤ} {rest : List ℕ} → Stands s at (pop i p) rest → Stands s (at + length (popHead i)) p (41 ∷ rest)
+pop-at :
+    {s : List ℕ} {at i : ℕ} {p : Form ℤ} {rest : List ℕ} → Stands s at (pop i p) rest → Stands s (at + length (popHead i)) p (41 ∷ rest)
 pop-at {s} {at} {i} {p} {rest} h =
     record {
-      parts = drop-on s at (popHead i) ((text p ++ (41 ∷ [])) ++ rest) (h .parts ∙ append-assoc (popHead i) (text p ++ (41 ∷ [])) rest) ∙ append-assoc (text p) (41 ∷ []) rest;
+      parts =
+          drop-on s at (popHead i) ((text p ++ (41 ∷ [])) ++ rest) (h .parts ∙ append-assoc (popHead i) (text p ++ (41 ∷ [])) rest)
+          ∙ append-assoc (text p) (41 ∷ []) rest;
       calm = refl;
     }
 
@@ -23,7 +26,8 @@ left-at : {s : List ℕ} {at i : ℕ} {p q : Form ℤ} {rest : List ℕ} → Sta
 left-at {s} {at} {i} {p} {q} {rest} h =
     record {
       parts =
-          drop-on s at (powHead i) ((text p ++ (32 ∷ text q ++ (41 ∷ []))) ++ rest) (h .parts ∙ append-assoc (powHead i) (text p ++ (32 ∷ text q ++ (41 ∷ []))) rest)
+          drop-on s at (powHead i) ((text p ++ (32 ∷ text q ++ (41 ∷ []))) ++ rest)
+          (h .parts ∙ append-assoc (powHead i) (text p ++ (32 ∷ text q ++ (41 ∷ []))) rest)
           ∙ append-assoc (text p) (32 ∷ text q ++ (41 ∷ [])) rest ∙ ap (λ l. text p ++ (32 ∷ l)) (append-assoc (text q) (41 ∷ []) rest);
       calm = refl;
     }
@@ -76,7 +80,13 @@ module _ {s : List ℕ} {at kind number first : ℕ} (H : Headed s at kind numbe
   ends-pop next k E (int (pos n)) rest h = absurd (omega (arith, H _ _ h .is-kind))
   ends-pop next k E (int (negsuc n)) rest h = absurd (omega (arith, H _ _ h .is-kind))
   ends-pop next k E (pop i p) rest h =
-      omega (arith, H _ _ h .is-next, E p _ (pop-part h), length-append (popHead i) (text p ++ (41 ∷ [])), length-append (text p) (41 ∷ []))
+      omega (
+        arith,
+        H _ _ h .is-next,
+        E p _ (pop-part h),
+        length-append (popHead i) (text p ++ (41 ∷ [])),
+        length-append (text p) (41 ∷ []),
+      )
   ends-pop next k E (pow i p q) rest h = absurd (omega (arith, H _ _ h .is-kind))
 
   pub first-standing : 2 ≤ kind → Standing s at → Standing s first
@@ -131,7 +141,8 @@ ends-inside next E S =
     (omega (arith, e, text-some (S .g)), omega (arith, e, stands-inside (S .stands)))
 
 -- neither an integer nor POP
-pub kind-pow : {s : List ℕ} {at kind number first : ℕ} → Headed s at kind number first → Standing s at → 2 ≤ kind → (kind ≡ 2 → ⊥) → kind ≡ 3
+pub kind-pow :
+    {s : List ℕ} {at kind number first : ℕ} → Headed s at kind number first → Standing s at → 2 ≤ kind → (kind ≡ 2 → ⊥) → kind ≡ 3
 kind-pow {s} {at} {kind} {number} {first} H S k n = go (S .g) (S .rest) (S .stands)
   where
     go : (g : Form ℤ) (rest : List ℕ) → Stands s at g rest → kind ≡ 3

@@ -10,9 +10,8 @@ use Rattle.refusal.specs.declared.Fault.{Fault}
 use Rattle.horner.specs.definitions.Form.{Form as HForm}
 use Rattle.code.specs.Coding.{Made, Begins, Coded}
 use Rattle.code.proofs.Lists.{begins-le}
-use Rattle.text.specs.definitions.Answer.{Reading, read, refused}
-use Rattle.text.specs.definitions.FormJudging.{acceptForm, thenJudged}
-use Rattle.text.specs.definitions.FormReading.{readForm}
+use Rattle.text.specs.definitions.Bytes.{onward, Reading, read, refused}
+use Rattle.text.specs.definitions.FormReading.{acceptForm, formJudged, readForm}
 use Rattle.measure.specs.declared.Measures.{Measures}
 use Rattle.measure.specs.Measure.{Small}
 use Rattle.form_syntax.specs.Answer.{formSyntaxOf}
@@ -32,7 +31,7 @@ module _ (m : ℕ) (s : List ℕ) where
   unfolding acceptForm
   syntax-refused bad = go (readForm s)
     where
-      go : (x : Reading (HForm ℤ)) → formSyntaxOf x ≡ Syn.Refused bad → J.Refused bad ≡ judgedOf m (thenJudged m x)
+      go : (x : Reading (HForm ℤ)) → formSyntaxOf x ≡ Syn.Refused bad → J.Refused bad ≡ judgedOf m (onward x (formJudged m))
       go (read f) h = absurd (let z : _≡_ {A = ℕ} 0 1 = cc in omega arith)
       go (refused worse) h = let i : bad ≡ worse = cc in ap J.Refused i
 
@@ -69,7 +68,8 @@ pub read-form : {m : ℕ} {s l : List ℕ} {a : Measures} {n : ℕ} {r : FormRea
 read-form h (refusal bad x i) = no-form (sym h ∙ i)
 read-form {a = a} {n} h (form b k t i) = let d : b ≡ a = cc in let e : k ≡ n = cc in rw (d, e) at t
 
-pub read-refusal : {m : ℕ} {s l : List ℕ} {bad : Fault} {r : FormReading} → r ≡ Refused bad → FormRead m s r l → acceptForm m s ≡ refused bad
+pub read-refusal :
+    {m : ℕ} {s l : List ℕ} {bad : Fault} {r : FormReading} → r ≡ Refused bad → FormRead m s r l → acceptForm m s ≡ refused bad
 read-refusal h (form a n t i) = no-form (sym i ∙ h)
 read-refusal {bad = bad} h (refusal worse a i) = let j : worse ≡ bad = cc in a ∙ ap refused j
 

@@ -8,9 +8,6 @@ use borrow.Author.Needs.{needs}
 use Rattle.form_syntax.proofs.expect.Statement.{statement}
 use Rattle.form_syntax.proofs.expect.Tie as tie
 
-is-at-requires : tie.Need-is-at-requires
-is-at-requires c κs = search needs
-
 add-t5 : tie.Need-add-t5
 add-t5 c = omega (arith, at-inside (now (c .before .before .before .args .s)) _ _ (sym (c .before .is-at .ensures) ∙ c .if1 .taken))
 
@@ -21,4 +18,4 @@ returns-2 : tie.Need-returns-2
 returns-2 c = expect-no (now (c .before .before .before .args .s)) _ _ (sym (c .before .is-at .ensures) ∙ c .if1 .left)
 
 pub expect-spec : {M : Type 1} → statement M
-expect-spec = tie.close (tie.spec is-at-requires add-t5 returns returns-2)
+expect-spec = tie.close (tie.spec (λ c κs. search needs) add-t5 returns returns-2)

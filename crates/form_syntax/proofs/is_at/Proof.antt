@@ -9,11 +9,8 @@ use Rattle.form_syntax.proofs.is_at.Tie as tie
 returns : tie.Need-returns
 returns c = sym (is-end (now (c .before .args .s)) _ _ (c .if1 .taken))
 
-shared-slice-read-result : tie.Need-shared-slice-read-result
-shared-slice-read-result c = search needs
-
 returns-2 : tie.Need-returns-2
 returns-2 c = sym (is-byte (now (c .before .before .args .s)) _ _ (c .before .if1 .left))
 
 pub is-at-spec : {M : Type 1} → statement M
-is-at-spec = tie.close (tie.spec returns shared-slice-read-result returns-2)
+is-at-spec = tie.close (tie.spec returns (λ c. search needs) returns-2)

@@ -13,9 +13,10 @@ use Rattle.refusal.specs.Refusal.{fault}
 use Rattle.refusal.specs.declared.Fault.{Fault}
 use Rattle.horner.specs.definitions.Form.{Form as HForm}
 use Rattle.horner.specs.laws.Compare.{lt-or-ge}
-use Rattle.text.specs.definitions.Answer.{Reading, read, refused, refusedAt}
+use Rattle.text.specs.definitions.Bytes.{Reading, read, refused, refusedAt}
 use Rattle.text.specs.definitions.FormReading.{popKind, powKind, readForm}
-use Rattle.text.specs.program.FormKinds.{start, open0, openPO, openPOP, openPOW, done, Wait, popWait, powWait, restWait, moved, stuck, move, check, verdict, syntax}
+use Rattle.text.specs.program.FormKinds.{start, open0, openPO, openPOP, openPOW, done, Wait, popWait, powWait, restWait, moved, stuck}
+use Rattle.text.specs.program.FormKinds.{move, check, verdict, syntax}
 use Rattle.text_laws.specs.laws.FormWalk.{syntax-verdict}
 use Rattle.form_syntax.specs.declared.Part.{Part}
 use Rattle.form_syntax.specs.declared.Part.the-variants.{On, Off}
@@ -23,7 +24,8 @@ use Rattle.form_syntax.specs.declared.FormSyntax.{FormSyntax}
 use Rattle.form_syntax.specs.declared.FormSyntax.the-variants.{Form, Refused}
 use Rattle.form_syntax.specs.Answer.{formSyntaxOf}
 use Rattle.form_syntax.specs.Found.{room, from, isAt, after, Takes, Expects, IntAt, IndexAt, LettersAt, FormAt, LastAt, PopAt, PowAt}
-use Rattle.form_syntax.specs.laws.Steps.{at-inside, at-byte, is-byte, within-from, within-on, on, off, goes, opened, closed, stops, ends, step-at}
+use Rattle.form_syntax.specs.laws.Steps.{at-inside, at-byte, is-byte, within-from, within-on, on, off, goes, opened, closed, stops}
+use Rattle.form_syntax.specs.laws.Steps.{ends, step-at}
 
 -- ---- the last form, and `)`
 module _ (s : List ℕ) (at depth : ℕ) (x : Part) (f : FormAt s at depth x) where
@@ -85,7 +87,8 @@ form-int s at depth r h = record { within = h .within; takes = λ ws l. h .takes
 
 module _ (s : List ℕ) (at depth : ℕ) (o : isAt s at 40 ≡ true) where
   -- at `(`
-  opens : (ws : List Wait) (b : Bool) → length ws ≡ depth → ltb depth 256 ≡ b → from s at start ws ≡ goes s at (moved open0 ws) (cond b 0 6)
+  opens :
+      (ws : List Wait) (b : Bool) → length ws ≡ depth → ltb depth 256 ≡ b → from s at start ws ≡ goes s at (moved open0 ws) (cond b 0 6)
   opens ws b l k =
       opened s at start ws (at-inside s at 40 o)
       ∙ ap (λ (x : ℕ). goes s at (move start ws x) (check room start (length ws) x)) (at-byte s at 40 o)
@@ -108,13 +111,17 @@ module _ (s : List ℕ) (at depth : ℕ) (o : isAt s at 40 ≡ true) where
       pub form-pop : isAt s n 80 ≡ true → (r : Part) → PopAt s (n + 1) (depth + 1) r → FormAt s at depth r
       form-pop k r p = record {
         within = within-from s at (n + 1) r named-at (p .within);
-        takes = λ ws l. on e (name-takes ws l) (record { leads = step-at s n openPO ws 80 k refl refl ∙ p .takes ws (omega (arith, l)) .leads });
+        takes =
+            λ ws l. on e (name-takes ws l)
+            (record { leads = step-at s n openPO ws 80 k refl refl ∙ p .takes ws (omega (arith, l)) .leads });
       }
 
       pub form-pow : isAt s n 87 ≡ true → (r : Part) → PowAt s (n + 1) (depth + 1) r → FormAt s at depth r
       form-pow k r p = record {
         within = within-from s at (n + 1) r named-at (p .within);
-        takes = λ ws l. on e (name-takes ws l) (record { leads = step-at s n openPO ws 87 k refl refl ∙ p .takes ws (omega (arith, l)) .leads });
+        takes =
+            λ ws l. on e (name-takes ws l)
+            (record { leads = step-at s n openPO ws 87 k refl refl ∙ p .takes ws (omega (arith, l)) .leads });
       }
 
       pub form-none : isAt s n 80 ≡ false → isAt s n 87 ≡ false → FormAt s at depth (Off (fault 4 n))
@@ -123,11 +130,14 @@ module _ (s : List ℕ) (at depth : ℕ) (o : isAt s at 40 ≡ true) where
           by : (ws : List Wait) → (n < length s) ⊎ (length s ≤ n) → from s n openPO ws ≡ refusedAt 4 n
           by ws (inl i) =
               stops s n openPO ws i
-              (ap₂ (λ (a b : Bool). cond a (moved openPOP ws) (cond b (moved openPOW ws) stuck)) (sym (is-byte s n 80 i) ∙ p) (sym (is-byte s n 87 i) ∙ w))
+              (ap₂ (λ (a b : Bool). cond a (moved openPOP ws) (cond b (moved openPOW ws) stuck)) (sym (is-byte s n 80 i) ∙ p)
+              (sym (is-byte s n 87 i) ∙ w))
           by ws (inr i) = ends s n openPO ws i refl
 
 -- a byte behind the name stands further on than the form
-pub further : (s : List ℕ) (at m : ℕ) → isAt s at 40 ≡ true → (x : Part) → LettersAt s (at + 1) x → {n : ℕ} → x ≡ On n → (y : ℕ) → isAt s n y ≡ true → 2 * (length s - at) ≡ m → 2 * (length s - (n + 1)) < m
+pub further :
+    (s : List ℕ) (at m : ℕ) → isAt s at 40 ≡ true → (x : Part) → LettersAt s (at + 1) x → {n : ℕ} → x ≡ On n → (y : ℕ) →
+    isAt s n y ≡ true → 2 * (length s - at) ≡ m → 2 * (length s - (n + 1)) < m
 further s at m o x t {n} e y k l = omega (arith, at-inside s at 40 o, within-on s (at + 1) n x e (t .within), at-inside s n y k)
 
 -- ---- the whole text
@@ -158,7 +168,8 @@ module _ (s : List ℕ) where
     judge-off e = sym (answers ∙ ap (λ (z : Part). answerOf (after z (λ p. from s p done []))) e)
 
     pub judge-whole : {e : ℕ} → x ≡ On e → e ≡ length s → Form ≡ formSyntaxOf (readForm s)
-    judge-whole {e} q w = sym (answers ∙ ap (λ (z : Part). answerOf (after z (λ p. from s p done []))) q ∙ ap answerOf (closed s e done [] (omega arith)))
+    judge-whole {e} q w =
+        sym (answers ∙ ap (λ (z : Part). answerOf (after z (λ p. from s p done []))) q ∙ ap answerOf (closed s e done [] (omega arith)))
 
     pub judge-more : {e : ℕ} → x ≡ On e → (e ≡ length s → ⊥) → Refused (fault 4 e) ≡ formSyntaxOf (readForm s)
     judge-more {e} q w =

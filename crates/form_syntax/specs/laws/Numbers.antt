@@ -12,7 +12,8 @@ use Rattle.refusal.specs.Refusal.{fault}
 use Rattle.horner.specs.laws.Compare.{lt-or-ge}
 use Rattle.text.specs.definitions.Bytes.{digit}
 use Rattle.text.specs.definitions.FormReading.{Kind}
-use Rattle.text.specs.program.FormKinds.{start, sign, zeroInt, digits, open0, before-i, zero-i, digits-i, done, Wait, Move, moved, stuck, pushed, leave, first, move, isWhole, check}
+use Rattle.text.specs.program.FormKinds.{start, sign, zeroInt, digits, open0, before-i, zero-i, digits-i, done, Wait, moved, stuck}
+use Rattle.text.specs.program.FormKinds.{pushed, leave, first, move, isWhole, check}
 use Rattle.text_laws.specs.laws.Bytes.{digit-range, not-both}
 use Rattle.form_syntax.specs.declared.Part.{Part}
 use Rattle.form_syntax.specs.declared.Part.the-variants.{On, Off}
@@ -44,7 +45,8 @@ module _ (s : List ℕ) (at i : ℕ) (r : Running s at i) where
     where
       goes : (k : Kind) (ws : List Wait) → move (digits-i k) ws (getD s i 0) ≡ moved (digits-i k) ws
       goes k ws =
-          ap (λ (b : Bool). cond b (moved start (pushed k ws)) (cond (digit (getD s i 0)) (moved (digits-i k) ws) stuck)) (digit-no-space (getD s i 0) d)
+          ap (λ (b : Bool). cond b (moved start (pushed k ws)) (cond (digit (getD s i 0)) (moved (digits-i k) ws) stuck))
+          (digit-no-space (getD s i 0) d)
           ∙ ap (λ (b : Bool). cond b (moved (digits-i k) ws) stuck) d
 
   pub running-off : i < length s → digit (getD s i 0) ≡ false → DigitsAt s at i
@@ -52,7 +54,10 @@ module _ (s : List ℕ) (at i : ℕ) (r : Running s at i) where
     more = r .more;
     inside = r .inside;
     number = λ ws. r .number ws ∙ alike s i digits done ws h (ap (λ (b : Bool). cond b (moved digits ws) (leave ws (getD s i 0))) d) refl;
-    index = λ k ws. r .index k ws ∙ alike s i (digits-i k) (zero-i k) ws h (ap (λ (b : Bool). cond (eqb (getD s i 0) 32) (moved start (pushed k ws)) (cond b (moved (digits-i k) ws) stuck)) d) refl;
+    index =
+        λ k ws. r .index k ws
+        ∙ alike s i (digits-i k) (zero-i k) ws h
+        (ap (λ (b : Bool). cond (eqb (getD s i 0) 32) (moved start (pushed k ws)) (cond b (moved (digits-i k) ws) stuck)) d) refl;
   }
 
   pub running-end : length s ≤ i → DigitsAt s at i
@@ -80,7 +85,9 @@ zero-done s p ws = by (lt-or-ge p (length s))
     by (inr h) = alike-end s p zeroInt done ws h (whole-zero ws)
 
 -- the first byte, where it is neither `(` nor `-`
-start-move : (x : ℕ) (ws : List Wait) → eqb x 40 ≡ false → eqb x 45 ≡ false → move start ws x ≡ cond (eqb x 48) (moved zeroInt ws) (cond (digit x) (moved digits ws) stuck)
+start-move :
+    (x : ℕ) (ws : List Wait) → eqb x 40 ≡ false → eqb x 45 ≡ false →
+    move start ws x ≡ cond (eqb x 48) (moved zeroInt ws) (cond (digit x) (moved digits ws) stuck)
 start-move x ws o m =
     ap (λ (b : Bool). cond b (moved open0 ws) (first ws x)) o
     ∙ ap (λ (b : Bool). cond b (moved sign ws) (cond (eqb x 48) (moved zeroInt ws) (cond (digit x) (moved digits ws) stuck))) m
@@ -105,7 +112,9 @@ module _ (s : List ℕ) (at : ℕ) where
   natural-zero h e = record {
     within = (omega arith, omega arith);
     index = λ k ws. record { leads = step s at (before-i k) ws h (ap (move (before-i k) ws) e) refl };
-    number = λ o m ws. record { leads = step s at start ws h (ap (move start ws) e) (ap (check room start (length ws)) e) ∙ zero-done s (at + 1) ws };
+    number =
+        λ o m ws. record
+        { leads = step s at start ws h (ap (move start ws) e) (ap (check room start (length ws)) e) ∙ zero-done s (at + 1) ws };
     signed = λ z ws. absurd (not-both (is-byte s at 48 h ∙ eq-eqb (getD s at 0) 48 e) z);
   }
 
@@ -117,12 +126,17 @@ module _ (s : List ℕ) (at : ℕ) where
     none x f = sym (is-byte s at x h) ∙ f
 
     -- the first byte is a digit, or none
-    index-goes : (k : Kind) (ws : List Wait) {d : Bool} → digit (getD s at 0) ≡ d → move (before-i k) ws (getD s at 0) ≡ cond d (moved (digits-i k) ws) stuck
+    index-goes :
+        (k : Kind) (ws : List Wait) {d : Bool} → digit (getD s at 0) ≡ d →
+        move (before-i k) ws (getD s at 0) ≡ cond d (moved (digits-i k) ws) stuck
     index-goes k ws e = ap₂ (λ (x y : Bool). cond x (moved (zero-i k) ws) (cond y (moved (digits-i k) ws) stuck)) none-48 e
 
-    start-goes : isAt s at 40 ≡ false → isAt s at 45 ≡ false → (ws : List Wait) {d : Bool} → digit (getD s at 0) ≡ d → move start ws (getD s at 0) ≡ cond d (moved digits ws) stuck
+    start-goes :
+        isAt s at 40 ≡ false → isAt s at 45 ≡ false → (ws : List Wait) {d : Bool} → digit (getD s at 0) ≡ d →
+        move start ws (getD s at 0) ≡ cond d (moved digits ws) stuck
     start-goes o m ws e =
-        start-move (getD s at 0) ws (none 40 o) (none 45 m) ∙ ap₂ (λ (x y : Bool). cond x (moved zeroInt ws) (cond y (moved digits ws) stuck)) none-48 e
+        start-move (getD s at 0) ws (none 40 o) (none 45 m)
+        ∙ ap₂ (λ (x y : Bool). cond x (moved zeroInt ws) (cond y (moved digits ws) stuck)) none-48 e
 
     pub natural-none : digit (getD s at 0) ≡ false → NaturalAt s at (Off (fault 4 at))
     natural-none d = record {
@@ -136,7 +150,9 @@ module _ (s : List ℕ) (at : ℕ) where
     natural-more e d r = record {
       within = (omega (arith, r .more), r .inside);
       index = λ k ws. record { leads = step s at (before-i k) ws h (index-goes k ws d) refl ∙ r .index k ws };
-      number = λ o m ws. record { leads = step s at start ws h (start-goes o m ws d) (start-check (getD s at 0) (length ws) (none 40 o)) ∙ r .number ws };
+      number =
+          λ o m ws. record
+          { leads = step s at start ws h (start-goes o m ws d) (start-check (getD s at 0) (length ws) (none 40 o)) ∙ r .number ws };
       signed = λ z ws. record { leads = step s at sign ws h (sign-move (getD s at 0) ws true none-48 d) refl ∙ r .number ws };
     }
 
@@ -152,7 +168,9 @@ module _ (s : List ℕ) (at : ℕ) where
     pub int-zero : isAt s (at + 1) 48 ≡ true → IntAt s at (Off (fault 4 (at + 1)))
     int-zero z = record {
       within = tt;
-      takes = λ ws. record { leads = minus ws ∙ stops s (at + 1) sign ws (at-inside s (at + 1) 48 z) (ap (move sign ws) (at-byte s (at + 1) 48 z)) };
+      takes =
+          λ ws. record
+          { leads = minus ws ∙ stops s (at + 1) sign ws (at-inside s (at + 1) 48 z) (ap (move sign ws) (at-byte s (at + 1) 48 z)) };
     }
 
     pub int-signed : (r : Part) → isAt s (at + 1) 48 ≡ false → NaturalAt s (at + 1) r → IntAt s at r

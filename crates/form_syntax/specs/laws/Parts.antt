@@ -10,7 +10,7 @@ use borrow.Author.Tests.{eq-eqb}
 use Rattle.refusal.specs.Refusal.{fault}
 use Rattle.refusal.specs.declared.Fault.{Fault}
 use Rattle.horner.specs.laws.Compare.{lt-or-ge}
-use Rattle.text.specs.definitions.Answer.{refusedAt}
+use Rattle.text.specs.definitions.Bytes.{refusedAt}
 use Rattle.text.specs.definitions.FormReading.{Kind, popKind, powKind}
 use Rattle.text.specs.program.FormKinds.{Stand, open0, openP, before-i, zero-i, Wait, moved, stuck}
 use Rattle.form_syntax.specs.declared.Part.{Part}
@@ -23,14 +23,17 @@ module _ (s : List ℕ) (at x : ℕ) where
   pub expect-yes : isAt s at x ≡ true → Expects s at x (On (at + 1))
   expect-yes h = record {
     within = (omega arith, omega (arith, at-inside s at x h));
-    takes = λ {a} {b} {us} {vs} w. record { leads = step-at s at a us x h (w .is x ∙ ap (λ (t : Bool). cond t (moved b vs) stuck) (eq-eqb x x refl)) (w .free x) };
+    takes =
+        λ {a} {b} {us} {vs} w. record
+        { leads = step-at s at a us x h (w .is x ∙ ap (λ (t : Bool). cond t (moved b vs) stuck) (eq-eqb x x refl)) (w .free x) };
   }
 
   pub expect-no : isAt s at x ≡ false → Expects s at x (Off (fault 4 at))
   expect-no h = record { within = tt; takes = λ {a} {b} {us} {vs} w. record { leads = by a b us vs w (lt-or-ge at (length s)) } }
     where
       by : (a b : Stand) (us vs : List Wait) → Wants x a us b vs → (at < length s) ⊎ (length s ≤ at) → from s at a us ≡ refusedAt 4 at
-      by a b us vs w (inl i) = stops s at a us i (w .is (getD s at 0) ∙ ap (λ (t : Bool). cond t (moved b vs) stuck) (sym (is-byte s at x i) ∙ h))
+      by a b us vs w (inl i) =
+          stops s at a us i (w .is (getD s at 0) ∙ ap (λ (t : Bool). cond t (moved b vs) stuck) (sym (is-byte s at x i) ∙ h))
       by a b us vs w (inr i) = ends s at a us i (w .more)
 
 -- ---- `PO`

@@ -9,7 +9,7 @@ use lib.Dec.{eqb, ltb}
 use lib.ListN.{length, getD, drop, drop-of-length-le}
 use borrow.Author.Tests.{ltb-true, lt-ltb, le-ltb, eqb-true}
 use Rattle.refusal.specs.declared.Fault.{Fault}
-use Rattle.text.specs.definitions.Answer.{Reading, refusedAt, fine}
+use Rattle.text.specs.definitions.Bytes.{Reading, refusedAt, fine}
 use Rattle.text.specs.program.FormKinds.{Stand, Wait, Move, moved, stuck, move, isWhole, caseMove, check, ended, walk}
 use Rattle.text_laws.specs.laws.Bytes.{and-l, and-r}
 use Rattle.text_word.proofs.Walk.{one-on}
@@ -60,13 +60,16 @@ module _ (s : List ℕ) (p : ℕ) (a : Stand) (us : List Wait) where
   unfolding from
   opened h =
       ap (λ (l : List ℕ). walk room p a us l) (one-on s p h)
-      ∙ ap (λ (q : ℕ). caseMove (move a us (getD s p 0)) (refusedAt 4 p) (λ b vs. fine (check room a (length us) (getD s p 0)) p (λ u. walk room q b vs (drop (p + 1) s)))) (sym (add-one p))
+      ∙ ap (λ (q : ℕ). caseMove (move a us (getD s p 0)) (refusedAt 4 p)
+      (λ b vs. fine (check room a (length us) (getD s p 0)) p (λ u. walk room q b vs (drop (p + 1) s)))) (sym (add-one p))
 
   pub closed : length s ≤ p → from s p a us ≡ ended room (isWhole a us) p
   unfolding from
   closed h = ap (λ (l : List ℕ). walk room p a us l) (drop-of-length-le s {i = p} h)
 
-  pub step : {b : Stand} {vs : List Wait} → p < length s → move a us (getD s p 0) ≡ moved b vs → check room a (length us) (getD s p 0) ≡ 0 → from s p a us ≡ from s (p + 1) b vs
+  pub step :
+      {b : Stand} {vs : List Wait} → p < length s → move a us (getD s p 0) ≡ moved b vs → check room a (length us) (getD s p 0) ≡ 0 →
+      from s p a us ≡ from s (p + 1) b vs
   step h m c = opened h ∙ ap₂ (goes s p) m c
 
   pub stops : p < length s → move a us (getD s p 0) ≡ stuck → from s p a us ≡ refusedAt 4 p
@@ -76,14 +79,18 @@ module _ (s : List ℕ) (p : ℕ) (a : Stand) (us : List Wait) where
   ends h w = closed h ∙ ap (λ (b : Bool). ended room b p) w
 
   -- at a byte that is known
-  pub step-at : (x : ℕ) {b : Stand} {vs : List Wait} → isAt s p x ≡ true → move a us x ≡ moved b vs → check room a (length us) x ≡ 0 → from s p a us ≡ from s (p + 1) b vs
+  pub step-at :
+      (x : ℕ) {b : Stand} {vs : List Wait} → isAt s p x ≡ true → move a us x ≡ moved b vs → check room a (length us) x ≡ 0 →
+      from s p a us ≡ from s (p + 1) b vs
   step-at x h m c =
       let e = at-byte s p x h in
       step (at-inside s p x h) (ap (move a us) e ∙ m) (ap (check room a (length us)) e ∙ c)
 
 -- ---- two stands that no byte and no end tells apart
 module _ (s : List ℕ) (p : ℕ) (a b : Stand) (us : List Wait) where
-  pub alike : p < length s → move a us (getD s p 0) ≡ move b us (getD s p 0) → check room a (length us) (getD s p 0) ≡ check room b (length us) (getD s p 0) → from s p a us ≡ from s p b us
+  pub alike :
+      p < length s → move a us (getD s p 0) ≡ move b us (getD s p 0) →
+      check room a (length us) (getD s p 0) ≡ check room b (length us) (getD s p 0) → from s p a us ≡ from s p b us
   alike h m c = opened s p a us h ∙ ap₂ (goes s p) m c ∙ sym (opened s p b us h)
 
   pub alike-end : length s ≤ p → isWhole a us ≡ isWhole b us → from s p a us ≡ from s p b us

@@ -2,7 +2,7 @@
 -- Assumes nothing.
 use Prim.Native.Nat.{_/_, ℕ, _<_}
 use native.Mathlib.Omega.{arith}
-use borrow.Fn.Kinds.{In, Out}
+use borrow.Fn.Kinds.{In}
 use borrow.Fn.PlainCycle.{Measures, is, falls, and}
 use Rattle.form_write.specs.laws.Sizes.{numeral-short, numeral-long, numeral-most}
 use Rattle.form_write.proofs.+digits_of.{statement}

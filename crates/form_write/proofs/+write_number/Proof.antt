@@ -6,7 +6,7 @@ use native.Mathlib.Omega.{arith}
 use lib.ListN.{length-set}
 use borrow.Fn.Kinds.{In, Out}
 use borrow.Fn.PlainCycle.{Measures, is, falls, and}
-use Rattle.text_laws.specs.laws.Numerals.{dec-short, dec-long}
+use Rattle.text_laws.specs.laws.Numerals.{decimal-short, decimal-long}
 use Rattle.form_write.specs.laws.Sizes.{numeral-long, numeral-some}
 use Rattle.form_write.specs.laws.Wrote.{wrote-none, wrote-as, wrote-byte, wrote-length}
 use Rattle.form_write.proofs.+write_number.{statement}
@@ -47,7 +47,7 @@ pub +write-number-spec : {M : Type 1} → statement M
     (λ c.
     let s = c .before .before in
     wrote-as (wrote-byte (wrote-none (s .args .out .now)) (48 + s .args .n) (omega (arith, numeral-some (s .args .n), s .pre .1)))
-    (sym (dec-short (s .args .n) (c .if1 .taken))))
+    (sym (decimal-short (s .args .n) (c .if1 .taken))))
     (λ c κs.
     let s : At lts.Start t = c .before .before .before in
     (omega (arith, s .pre .0, c .before .if1 .left), omega (arith, s .pre .1, numeral-long (s .args .n) (c .before .if1 .left))))
@@ -74,4 +74,4 @@ pub +write-number-spec : {M : Type 1} → statement M
     let if1 = at-else1 .if1 in
     wrote-as (wrote-byte (c .before .before .write-number .ensures) (48 + s .args .n % 10)
     (omega (arith, c .before .before .write-number .ensures .size, s .pre .1, numeral-long (s .args .n) (if1 .left))))
-    (sym (dec-long (s .args .n) (if1 .left))))
+    (sym (decimal-long (s .args .n) (if1 .left))))

@@ -8,17 +8,8 @@ use Rattle.form_write.specs.laws.Sizes.{leaf-length-plain, leaf-length-m
 use Rattle.form_write.proofs.leaf_length.Statement.{statement}
 use Rattle.form_write.proofs.leaf_length.Tie as tie
 
-digits-of-requires : tie.Need-digits-of-requires
-digits-of-requires c κs = search needs
-
 returns : tie.Need-returns
 returns c = c .digits-of .ensures ∙ sym (leaf-length-plain (c .before .before .args .x) (c .before .if1 .taken))
-
-sub-digits-of : tie.Need-sub-digits-of
-sub-digits-of c = search needs
-
-digits-of-requires-2 : tie.Need-digits-of-requires-2
-digits-of-requires-2 c κs = search needs
 
 add-result : tie.Need-add-result
 add-result c = omega (arith, c .digits-of2 .ensures, numeral-most (2147483647 - c .before .before .args .x) (omega arith))
@@ -32,5 +23,4 @@ returns-2 c = omega (
 
 pub leaf-length-spec : {M : Type 1} → statement M
 leaf-length-spec =
-    tie.close
-    (tie.spec digits-of-requires returns sub-digits-of digits-of-requires-2 add-result returns-2)
+    tie.close (tie.spec (λ c κs. search needs) returns (λ c. search needs) (λ c κs. search needs) add-result returns-2)

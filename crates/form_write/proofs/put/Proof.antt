@@ -1,10 +1,9 @@
 -- `form_write::put` meets its contract. The invariant: the first i bytes of text stand in front.
-use mathlib.Core.List.{[], _∷_, _++_}
-use mathlib.Core.Path.{_≡_, refl, sym, ap, _∙_}
-use Prim.Native.Nat.{_+_, _-_, _≤_, _<_}
+use mathlib.Core.Path.{sym, ap, _∙_}
+use Prim.Native.Nat.{_-_, _≤_}
 use native.Mathlib.Numerals.{add-one}
 use native.Mathlib.Omega.{arith}
-use lib.ListN.{length, take, getD, length-set}
+use lib.ListN.{length, take, getD}
 use lib.Seq.{take-suc, take-all}
 use denote.Ref.{now}
 use Rattle.form_write.specs.Write.{Wrote}

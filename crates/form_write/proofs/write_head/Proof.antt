@@ -34,9 +34,6 @@ sub-write-number c = simp length-set (omega (arith, c .before .pre, head-length 
 part-write-number-start : tie.Need-part-write-number-start
 part-write-number-start c = simp length-set (omega (arith, c .before .pre, head-length (c .before .args .c) (c .before .args .i)))
 
-part-write-number-end : tie.Need-part-write-number-end
-part-write-number-end c = search needs
-
 write-number-requires : tie.Need-write-number-requires
 write-number-requires c κs =
     let s = c .before .before in
@@ -85,19 +82,5 @@ returns c =
 
 pub write-head-spec : {M : Type 1} → statement M
 write-head-spec =
-    tie.close
-    (tie.spec
-    slice-write-out
-    slice-write-out-2
-    slice-write-out-3
-    slice-write-out-4
-    slice-write-out-5
-    sub-write-number
-    part-write-number-start
-    part-write-number-end
-    write-number-requires
-    add-e
-    slice-write-out-6
-    add-result
-    same-length
-    returns)
+    tie.close (tie.spec slice-write-out slice-write-out-2 slice-write-out-3 slice-write-out-4 slice-write-out-5 sub-write-number
+    part-write-number-start (λ c. search needs) write-number-requires add-e slice-write-out-6 add-result same-length returns)

@@ -15,9 +15,6 @@ write-number-requires c κs =
     let s : tie.Start = c .before .before .before in
     omega (arith, leaf-length-plain (s .args .x) (c .before .if1 .taken), s .pre .1)
 
-same-length : tie.Need-same-length
-same-length c = search needs
-
 returns : tie.Need-returns
 returns c =
     let at-then1 : tie.Then1 = c .before .before .before .before in
@@ -28,9 +25,6 @@ slice-write-out : tie.Need-slice-write-out
 slice-write-out c =
     let s = c .before .before in
     omega (arith, leaf-length-minus (s .args .x) (c .if1 .left) (s .pre .0), s .pre .1)
-
-sub-write-number : tie.Need-sub-write-number
-sub-write-number c = search needs
 
 cast-write-number : tie.Need-cast-write-number
 cast-write-number c = omega arith
@@ -44,9 +38,6 @@ part-write-number-start : tie.Need-part-write-number-start
 part-write-number-start c =
     let s = c .before .before in
     simp length-set (omega (arith, leaf-length-minus (s .args .x) (c .if1 .left) (s .pre .0), s .pre .1))
-
-part-write-number-end : tie.Need-part-write-number-end
-part-write-number-end c = search needs
 
 write-number-requires-2 : tie.Need-write-number-requires-2
 write-number-requires-2 c κs =
@@ -83,18 +74,5 @@ returns-2 c =
 
 pub write-leaf-spec : {M : Type 1} → statement M
 write-leaf-spec =
-    tie.close
-    (tie.spec
-    write-number-requires
-    same-length
-    returns
-    slice-write-out
-    sub-write-number
-    cast-write-number
-    sub-write-number-2
-    part-write-number-start
-    part-write-number-end
-    write-number-requires-2
-    add-result
-    same-length-2
-    returns-2)
+    tie.close (tie.spec write-number-requires (λ c. search needs) returns slice-write-out (λ c. search needs) cast-write-number
+    sub-write-number-2 part-write-number-start (λ c. search needs) write-number-requires-2 add-result same-length-2 returns-2)

@@ -5,11 +5,12 @@ use native.Mathlib.Omega.{arith}
 use lib.IntN.{ℤ}
 use Rattle.horner.specs.definitions.Form.{Form}
 use Rattle.horner.specs.definitions.Measures.{AllLe, weightOf, degreesOf, weight}
-use Rattle.horner.specs.definitions.Residues.{redℤ, prime, prime-pos}
-use Rattle.horner.specs.definitions.Term.{Term, Over, normℤ, normP}
+use Rattle.horner.specs.definitions.Rings.{redℤ, prime, prime-pos}
+use Rattle.horner.specs.laws.Within.{Over}
+use Rattle.horner.specs.definitions.Term.{Term, normℤ, normP}
 use Rattle.horner.specs.laws.Hom.{mapForm}
 use Rattle.horner.specs.laws.Lifting.{lift-form, exact}
-use Rattle.text.specs.definitions.FormText.{text}
+use Rattle.text.specs.definitions.FormReading.{text}
 use Rattle.form_write.specs.Write.{textOf}
 
 pub text-reduced : (f : Form ℤ) → weight f ≤ 1073741823 → textOf (mapForm (redℤ prime prime-pos) f) ≡ text f

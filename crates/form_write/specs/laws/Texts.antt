@@ -42,5 +42,6 @@ module _ {l : List ℕ} where
 
   pub text-pow-at :
       PowAt 0 l →
-      (((headText 87 (getD l 0 0 % 64) ++ textOf (dec 0 (first l))) ++ (32 ∷ [])) ++ textOf (dec 0 (rest l))) ++ (41 ∷ []) ≡ textOf (dec 0 l)
+      (((headText 87 (getD l 0 0 % 64) ++ textOf (dec 0 (first l))) ++ (32 ∷ [])) ++ textOf (dec 0 (rest l))) ++ (41 ∷ []) ≡ textOf
+      (dec 0 l)
   text-pow-at v = text-pow (getD l 0 0 % 64) (dec 0 (first l)) (dec 0 (rest l)) ∙ ap textOf (sym (v .is))

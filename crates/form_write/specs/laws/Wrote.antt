@@ -46,9 +46,12 @@ module _ {r : ℕ} {w old new : List ℕ} (h : Wrote r w old new) where
   wrote-room = ap length wrote-part ∙ length-drop r old
 
   -- a text that was written through the part
-  pub wrote-on : {s : ℕ} {u e : List ℕ} → Wrote s u (take (length new - r) (drop r new)) e → Wrote (r + s) (w ++ u) old (putMid r (length new - r) new e)
+  pub wrote-on :
+      {s : ℕ} {u e : List ℕ} → Wrote s u (take (length new - r) (drop r new)) e →
+      Wrote (r + s) (w ++ u) old (putMid r (length new - r) new e)
   wrote-on {s} {u} {e} g =
-      let k : drop (length new - r) (drop r new) ≡ [] = drop-of-length-le (drop r new) {i = length new - r} (omega (arith, length-drop r new)) in
+      let k : drop (length new - r) (drop r new) ≡ [] = drop-of-length-le (drop r new) {i = length new - r}
+      (omega (arith, length-drop r new)) in
       record {
         size = omega (arith, h .size, g .size, length-append w u);
         fits = omega (arith, h .fits, g .fits, wrote-room);
@@ -56,6 +59,7 @@ module _ {r : ℕ} {w old new : List ℕ} (h : Wrote r w old new) where
             ap (λ (l : List ℕ). take r new ++ (e ++ l)) k
             ∙ ap (λ (l : List ℕ). take r new ++ l) (append-nil e)
             ∙ ap (λ (l : List ℕ). l ++ e) wrote-front
-            ∙ ap (λ (l : List ℕ). w ++ l) (g .is ∙ ap (λ (l : List ℕ). u ++ drop s l) wrote-part ∙ ap (λ (l : List ℕ). u ++ l) (drop-drop s r old))
+            ∙ ap (λ (l : List ℕ). w ++ l)
+            (g .is ∙ ap (λ (l : List ℕ). u ++ drop s l) wrote-part ∙ ap (λ (l : List ℕ). u ++ l) (drop-drop s r old))
             ∙ sym (append-assoc w u (drop (r + s) old));
       }

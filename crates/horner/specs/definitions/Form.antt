@@ -1,10 +1,15 @@
--- Sparse Horner forms (Definition 4) and the operations on them (Definitions 7 to 12).
+-- Sparse Horner forms (Definition 4), the operations on them (Definitions 7 to 12), their values (Definition 5), and which are normal
+-- (Definition 6 as document 01 corrects it, with levels).
 -- Definitions 9 and 11 call themselves on forms that are no parts of their arguments, so `sumF` and `prodF` take a number that falls with
 -- each call; `sum` and `prod` start them with the two sizes, which is always enough: Clauses has each clause as printed, of `sum` and
 -- `prod` themselves.
-use mathlib.Core.Bool.{Bool, false, cond}
-use Prim.Native.Nat.{ℕ, zero, suc, _+_}
-use Rattle.horner.specs.definitions.Ring.{Ring}
+use mathlib.Core.Bool.{Bool, false, cond, true, not}
+use mathlib.Core.List.{List, [], _∷_, map}
+use mathlib.Core.Path.{_≡_}
+use Prim.Native.Nat.{ℕ, zero, suc, _+_, _-_, _≤_}
+use lib.Dec.{T}
+use lib.ListN.{drop}
+use Rattle.horner.specs.definitions.Rings.{Ring, power, nat}
 
 -- ---- two numbers compared, with their distance
 pub data Cmp : Type 0 where
@@ -143,3 +148,64 @@ module _ {A : Type 0} (R : Ring A) where
   -- Definition 13 (b): "x = v_i: norm(x, V) = pop(i, (POW 1 1 0))"
   abbrev pub letter : ℕ → Form A
   letter i = mkpop i (pow 1 (int unit) zeroForm)
+
+-- ---- the value of a form at a point, which lists the values of the variables in the row's order
+module _ {A : Type 0} where
+  -- N without its first member, and without its first i: N^(1) and N^(i) of document 000
+  abbrev pub tl : List A → List A
+  tl [] = []
+  tl (a ∷ N) = N
+
+  abbrev pub after : ℕ → List A → List A
+  after zero N = N
+  after (suc i) N = after i (tl N)
+
+module _ {A : Type 0} (R : Ring A) where
+  open Ring R using (_⊞_, _·_, nil)
+
+  -- Definition 5. "(a) If h is an integer, then evalh(h, N) = h. (b) If h = (POP i p), then evalh(h, N) = evalh(p, N^(i)). (c) If h =
+  -- (POW i p q) and head(N) = n, then evalh(h, N) = n^i evalh(p, N) + evalh(q, N^(1)). (d) If h = (POW i p q) and N = (), then evalh(h,
+  -- N) = 0."
+  abbrev pub evalh : Form A → List A → A
+  evalh (int c) N = c
+  evalh (pop i p) N = evalh p (drop i N)
+  evalh (pow i p q) (a ∷ N) = power R a i · evalh p (a ∷ N) ⊞ evalh q N
+  evalh (pow i p q) [] = nil
+
+  -- the first member; 0 where there is none
+  abbrev pub hd : List A → A
+  hd [] = nil
+  hd (a ∷ N) = a
+
+  -- a point of natural numbers
+  abbrev pub nats : List ℕ → List A
+  nats N = map (nat R) N
+
+-- ---- normal forms
+module _ {A : Type 0} where
+  abbrev pub isPow : Form A → Bool
+  isPow (int c) = false
+  isPow (pop i p) = false
+  isPow (pow i p q) = true
+
+module _ {A : Type 0} (R : Ring A) where
+  open Ring R using (isNil)
+
+  -- "its p is neither 0 nor (POW j r 0)"; and as a test
+  abbrev pub Lead : Form A → Type 0
+  Lead (int c) = isNil c ≡ false
+  Lead (pop i p) = Unit {0}
+  Lead (pow j r s) = isZero R s ≡ false
+
+  abbrev pub leads : Form A → Bool
+  leads (int c) = not (isNil c)
+  leads (pop i p) = true
+  leads (pow j r s) = not (isZero R s)
+
+  -- Definition 6. "A form stands at a level, 0 at the outside. POP i puts p at the level plus i; POW leaves p at its level and puts q one
+  -- higher. .. It is normal when each POP has i of at least 1 and a POW inside; each POW stands at a level below the row's length, has i
+  -- of at least 1, and its p is neither 0 nor (POW j r 0)." Here n is the row's length less the level: how many variables are left.
+  abbrev pub Normal : ℕ → Form A → Type 0
+  Normal n (int c) = Unit {0}
+  Normal n (pop i p) = (1 ≤ i) × T (isPow p) × Normal (n - i) p
+  Normal n (pow i p q) = (1 ≤ i) × (1 ≤ n) × Normal n p × Lead p × Normal (n - 1) q

@@ -1,12 +1,14 @@
--- Document 01's measures: weight, degree in each variable, terms; of terms by the table, of forms as the polynomial's own.
-use mathlib.Core.Bool.{cond}
+-- Document 01's measures: weight, degree in each variable, terms; of terms by the table, of forms as the polynomial's own, by its
+-- coefficients and not by how it is written.
+use mathlib.Core.Bool.{cond, Bool, _&&_}
 use mathlib.Core.List.{List, [], _∷_, map}
-use Prim.Native.Nat.{ℕ, zero, suc, _+_, _-_, _≤_, _*_, _^_, max, min}
+use Prim.Native.Nat.{ℕ, zero, suc, _+_, _-_, _≤_, _*_, _^_, max, min, _%_}
+use lib.Dec.{eqb}
 use lib.IntN.{ℤ, natAbs}
-use Rattle.horner.specs.definitions.Form.{Form, int, pop, pow}
-use Rattle.horner.specs.definitions.Ring.{Ring}
-use Rattle.horner.specs.definitions.Term.{Term, num, var, minus, plus, diff, times, expt, Over}
-use Rattle.horner.specs.definitions.Value.{tl, after}
+use lib.ListN.{getD}
+use Rattle.horner.specs.definitions.Form.{Form, int, pop, pow, lower, zeroForm, tl}
+use Rattle.horner.specs.definitions.Rings.{Ring}
+use Rattle.horner.specs.definitions.Term.{Term, num, var, minus, plus, diff, times, expt}
 
 -- ---- lists of degrees, one for each variable of the row
 abbrev pub zeros : ℕ → List ℕ → List ℕ
@@ -75,12 +77,6 @@ termsOf n (diff s t) = min (termsOf n s + termsOf n t) (boxOf n (diff s t))
 termsOf n (times s t) = min (termsOf n s * termsOf n t) (boxOf n (times s t))
 termsOf n (expt s k) = min (termsOf n s ^ k) (boxOf n (expt s k))
 
--- what the laws ask of a term over a row of n: its letters, its degrees and its weight
-pub record Within (n : ℕ) (t : Term) : Type 0 where
-  pub over : Over n t
-  pub degrees : AllLe 63 (degreesOf n t)
-  pub weight : weightOf t ≤ 1073741823
-
 -- ---- of a form: "those of the polynomial itself"
 -- a size of coefficients, summed over the leaves (laws/Coefficients: over all coefficients of the polynomial)
 module _ {A : Type 0} (ν : A → ℕ) where
@@ -114,15 +110,45 @@ module _ {A : Type 0} where
   degrees n (pop i p) = zeros i (degrees (n - i) p)
   degrees n (pow i p q) = (i + firstOr0 (degrees n p)) ∷ maxs (tl (degrees n p)) (degrees (n - 1) q)
 
-  -- no power is above ds, variable by variable
-  abbrev pub Bounded : List ℕ → Form A → Type 0
-  Bounded ds (int c) = Unit {0}
-  Bounded ds (pop i p) = Bounded (after i ds) p
-  Bounded [] (pow i p q) = ⊥
-  Bounded (d ∷ ds) (pow i p q) = (i ≤ d) × Bounded ((d - i) ∷ ds) p × Bounded ds q
-
   -- how many parentheses open at once
   abbrev pub nest : Form A → ℕ
   nest (int c) = 0
   nest (pop i p) = suc (nest p)
   nest (pow i p q) = suc (max (nest p) (nest q))
+
+-- ---- the coefficients of the polynomial that a normal form stands for
+module _ {A : Type 0} (R : Ring A) where
+  open Ring R using (nil)
+
+  -- ---- in the first variable alone, lowest power first: forms in the other variables
+  abbrev pub shift : ℕ → List (Form A) → List (Form A)
+  shift zero ps = ps
+  shift (suc i) ps = zeroForm R ∷ shift i ps
+
+  abbrev pub coefs : Form A → List (Form A)
+  coefs (int c) = int c ∷ []
+  coefs (pop zero p) = []
+  coefs (pop (suc i) p) = lower i p ∷ []
+  coefs (pow zero p q) = []
+  coefs (pow (suc i) p q) = q ∷ shift i (coefs p)
+
+  -- the coefficient of the first variable's k-th power; laws/Grid, val-coefs: the value is the sum of their values times these powers
+  abbrev pub coefOf : ℕ → Form A → Form A
+  coefOf k x = getD (coefs x) k (zeroForm R)
+
+  -- the number that is left where no variable is
+  abbrev pub constant : Form A → A
+  constant (int c) = c
+  constant (pop i p) = nil
+  constant (pow i p q) = nil
+
+  -- the coefficient of v_0^k_0 v_1^k_1 ..
+  abbrev pub coefAt : List ℕ → Form A → A
+  coefAt [] x = constant x
+  coefAt (k ∷ ks) x = coefAt ks (coefOf k x)
+
+-- each coefficient of the form is a multiple of m
+abbrev pub multiplesOf : ℕ → Form ℤ → Bool
+multiplesOf m (int z) = eqb (natAbs z % m) 0
+multiplesOf m (pop i p) = multiplesOf m p
+multiplesOf m (pow i p q) = multiplesOf m p && multiplesOf m q

@@ -7,8 +7,7 @@ use Prim.Native.Nat.{ℕ, zero, suc, _≤_, _<_}
 use lib.ListN.{length}
 use Rattle.horner.specs.definitions.Form.{Form, int, pop, pow, lower, isZero, sum, negate, scale}
 use Rattle.horner.specs.definitions.Measures.{maxs, degrees}
-use Rattle.horner.specs.definitions.Residues.{Res, prime, P-ring}
-use Rattle.horner.specs.definitions.Ring.{Ring, power, nat}
+use Rattle.horner.specs.definitions.Rings.{Res, prime, P-ring, Ring, power, nat}
 use Rattle.horner.specs.definitions.Term.{Term, normP, evalP}
 
 -- no coordinate above the bounds

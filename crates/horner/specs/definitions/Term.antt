@@ -2,13 +2,10 @@
 -- A row V = (v_0 .. v_(n-1)) enters by its length alone: the letter v_i is `var i`, and an alist ((v_0 n_0) .. (v_(n-1) n_(n-1))) of
 -- Definition 2 is the list of its values (n_0 .. n_(n-1)).
 use mathlib.Core.List.{List}
-use Prim.Native.Nat.{ℕ, _<_}
+use Prim.Native.Nat.{ℕ}
 use lib.IntN.{ℤ}
-use Rattle.horner.specs.definitions.Form.{Form, int, sum, negate, prod, raise, letter}
-use Rattle.horner.specs.definitions.Integers.{ℤ-ring}
-use Rattle.horner.specs.definitions.Residues.{Res, redℤ, prime, prime-pos, P-ring}
-use Rattle.horner.specs.definitions.Ring.{Ring, power}
-use Rattle.horner.specs.definitions.Value.{after, hd, nats}
+use Rattle.horner.specs.definitions.Form.{Form, int, sum, negate, prod, raise, letter, after, hd, nats}
+use Rattle.horner.specs.definitions.Rings.{ℤ-ring, Res, redℤ, prime, prime-pos, P-ring, Ring, power}
 
 -- Definition 1: "(a) An integer; (b) A member of V; (c) A list (- x); (d) A list (op x y), op one of +, -, *; (e) A list (EXPT x n)"
 pub data Term : Type 0 where
@@ -19,16 +16,6 @@ pub data Term : Type 0 where
   diff : Term → Term → Term
   times : Term → Term → Term
   expt : Term → ℕ → Term
-
--- a term over a row of n: each letter stands in the row
-abbrev pub Over : ℕ → Term → Type 0
-Over n (num z) = Unit {0}
-Over n (var i) = i < n
-Over n (minus s) = Over n s
-Over n (plus s t) = Over n s × Over n t
-Over n (diff s t) = Over n s × Over n t
-Over n (times s t) = Over n s × Over n t
-Over n (expt s k) = Over n s
 
 -- over a ring, with ι z in it for the integer z
 module _ {A : Type 0} (R : Ring A) (ι : ℤ → A) where

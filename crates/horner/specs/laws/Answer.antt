@@ -9,18 +9,18 @@ use Prim.Native.Nat.{ℕ, zero, suc, _+_, _-_, _<_}
 use native.Mathlib.Omega.{arith}
 use lib.IntN.{ℤ}
 use lib.ListN.{length}
-use Rattle.horner.specs.definitions.Form.{Form, int, pop, pow, isZero, negate}
-use Rattle.horner.specs.definitions.Measures.{zeros, firstOr0, maxs, AllLe, degreesOf, Within, weight, degrees, Bounded}
-use Rattle.horner.specs.definitions.Normal.{Normal}
+use Rattle.horner.specs.definitions.Form.{Form, int, pop, pow, isZero, negate, Normal, tl, nats}
+use Rattle.horner.specs.laws.Within.{Within}
+use Rattle.horner.specs.laws.Degree.{Bounded, bounded-mono, length-maxs, maxs-left, maxs-right, length-degrees, bounded-degrees}
+use Rattle.horner.specs.laws.Degree.{degrees-least, all-le-below}
+use Rattle.horner.specs.definitions.Measures.{zeros, firstOr0, maxs, AllLe, degreesOf, weight, degrees}
 use Rattle.horner.specs.definitions.Points.{Before, firstPoint, gap, sides, IsPoint}
-use Rattle.horner.specs.definitions.Residues.{Res, redℤ, lift, prime, prime-pos, P-ring}
+use Rattle.horner.specs.laws.Residues.{lift}
+use Rattle.horner.specs.definitions.Rings.{Res, redℤ, prime, prime-pos, P-ring}
 use Rattle.horner.specs.definitions.Term.{Term, diff, normℤ, evalℤ, normP, evalP}
-use Rattle.horner.specs.definitions.Value.{tl, nats}
 use Rattle.horner.specs.laws.Bounds.{bounded-sum, bounded-negate}
 use Rattle.horner.specs.laws.Cancel.{difference}
 use Rattle.horner.specs.laws.Canonical.{length-box, val-difference}
-use Rattle.horner.specs.laws.Degree.{bounded-mono, length-maxs, maxs-left, maxs-right, length-degrees, bounded-degrees}
-use Rattle.horner.specs.laws.Degree.{degrees-least, all-le-below}
 use Rattle.horner.specs.laws.First.{first-is, IsFirst}
 use Rattle.horner.specs.laws.Grid.{grid}
 use Rattle.horner.specs.laws.Hom.{mapForm}

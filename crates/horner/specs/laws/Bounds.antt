@@ -6,12 +6,11 @@ use native.Mathlib.Nat as NatL
 use native.Mathlib.Omega.{arith}
 use lib.ListN.{length}
 use Rattle.horner.specs.definitions.Form.{Form, int, pop, pow, size, mkpop, lower, isZero, zeroForm, mkpow, addInt, sumF, sum}
-use Rattle.horner.specs.definitions.Form.{negate, scale, prodF, prod, raise}
-use Rattle.horner.specs.definitions.Measures.{firstOr0, sums, multiples, Bounded}
-use Rattle.horner.specs.definitions.Ring.{Ring}
-use Rattle.horner.specs.definitions.Value.{tl, after}
+use Rattle.horner.specs.definitions.Form.{negate, scale, prodF, prod, raise, tl, after}
+use Rattle.horner.specs.laws.Degree.{Bounded, Below, below-refl, bounded-mono}
+use Rattle.horner.specs.definitions.Measures.{firstOr0, sums, multiples}
+use Rattle.horner.specs.definitions.Rings.{Ring}
 use Rattle.horner.specs.laws.Compare.{cmp-cases}
-use Rattle.horner.specs.laws.Degree.{Below, below-refl, bounded-mono}
 use Rattle.horner.specs.laws.Grid.{bounded-lower}
 use Rattle.horner.specs.laws.Tests.{cond-cases}
 use Rattle.horner.specs.laws.Value.{size-pos, after-add, lower-fits, lower-fits′, size-mkpop}

@@ -3,9 +3,10 @@ use mathlib.Core.Bool.{true≢false}
 use mathlib.Core.Path.{_≡_, sym, _∙_, ap, ap₂, subst, _≡⟨_⟩_, _∎}
 use Prim.Native.Nat.{ℕ, zero, suc, _+_, _-_, _≤_}
 use native.Mathlib.Omega.{arith}
-use Rattle.horner.specs.definitions.Form.{Form, int, pop, pow, size, mkpop, isZero, zeroForm, mkpow, sumF, sum, negate}
-use Rattle.horner.specs.definitions.Normal.{IsPow, Lead, Normal}
-use Rattle.horner.specs.definitions.Ring.{Ring}
+use lib.Dec.{T}
+use Rattle.horner.specs.definitions.Form.{Form, int, pop, pow, size, mkpop, isZero, zeroForm, mkpow, sumF, sum, negate, isPow, Lead}
+use Rattle.horner.specs.definitions.Form.{Normal}
+use Rattle.horner.specs.definitions.Rings.{Ring}
 use Rattle.horner.specs.laws.Compare.{cmp-cases}
 use Rattle.horner.specs.laws.Normal.{lead-negate, pow-negate}
 use Rattle.horner.specs.laws.Ring.{neg-unique, neg-neg}
@@ -41,8 +42,8 @@ module _ {A : Type 0} (R : Ring A) where
   negate-negate (pow i p q) = ap₂ (pow i) (negate-negate p) (negate-negate q)
 
   -- a POP is no negation of a POW, nor (POW d r 0) of a form that leads
-  pop-not : (i : ℕ) (p q : Form A) → IsPow q → pop i p ≡ negate R q → ⊥
-  pop-not i p q h e = subst IsPow (sym e) (pow-negate R q h)
+  pop-not : (i : ℕ) (p q : Form A) → T (isPow q) → pop i p ≡ negate R q → ⊥
+  pop-not i p q h e = subst (λ x. T (isPow x)) (sym e) (pow-negate R q h)
 
   tail-not : (i : ℕ) (p q : Form A) → Lead R q → pow i p (zeroForm R) ≡ negate R q → ⊥
   tail-not i p q h e = true≢false (sym isNil-nil ∙ subst (Lead R) (sym e) (lead-negate R q h))

@@ -6,16 +6,13 @@ use native.Mathlib.Nat as NatL
 use native.Mathlib.Omega.{arith}
 use lib.IntN.{ℤ, pos, negsuc, negℤ, _+ℤ_, _*ℤ_, natAbs}
 use lib.ListN.{length}
-use Rattle.horner.specs.definitions.Form.{Form, sum, negate}
-use Rattle.horner.specs.definitions.Integers.{ℤ-ring}
-use Rattle.horner.specs.definitions.Measures.{AllLe, degrees, Bounded}
-use Rattle.horner.specs.definitions.Normal.{Normal}
+use Rattle.horner.specs.definitions.Form.{Form, sum, negate, Normal, nats}
+use Rattle.horner.specs.definitions.Rings.{ℤ-ring, Ring, nat}
+use Rattle.horner.specs.laws.Degree.{Bounded, length-degrees, bounded-degrees, all-le-total, total}
+use Rattle.horner.specs.definitions.Measures.{AllLe, degrees}
 use Rattle.horner.specs.definitions.Points.{InBox}
-use Rattle.horner.specs.definitions.Ring.{Ring, nat}
-use Rattle.horner.specs.definitions.Value.{nats}
 use Rattle.horner.specs.laws.Bounds.{bounded-sum, bounded-negate}
 use Rattle.horner.specs.laws.Cancel.{difference}
-use Rattle.horner.specs.laws.Degree.{length-degrees, bounded-degrees, all-le-total, total}
 use Rattle.horner.specs.laws.Grid.{Vanishes, grid}
 use Rattle.horner.specs.laws.Normal.{normal-sum, normal-negate}
 use Rattle.horner.specs.laws.Roots.{Regular}

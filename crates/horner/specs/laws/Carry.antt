@@ -6,13 +6,11 @@ use Prim.Native.Nat.{ℕ, _+_, _≤_, _<_, _*_, _^_}
 use native.Mathlib.Omega.{arith}
 use lib.IntN.{ℤ, _+ℤ_, _*ℤ_, natAbs}
 use lib.ListN.{length, length-map}
-use Rattle.horner.specs.definitions.Form.{Form, int, pop, pow, sum, negate, prod, raise}
-use Rattle.horner.specs.definitions.Integers.{ℤ-ring}
-use Rattle.horner.specs.definitions.Measures.{sums, multiples, AllLe, weight, Bounded}
-use Rattle.horner.specs.definitions.Normal.{Normal}
-use Rattle.horner.specs.definitions.Residues.{Res, redℤ, lift, prime, prime-pos, P-ring}
-use Rattle.horner.specs.definitions.Ring.{power}
-use Rattle.horner.specs.definitions.Value.{nats}
+use Rattle.horner.specs.definitions.Form.{Form, int, pop, pow, sum, negate, prod, raise, Normal, nats}
+use Rattle.horner.specs.definitions.Rings.{ℤ-ring, Res, redℤ, prime, prime-pos, P-ring, power}
+use Rattle.horner.specs.laws.Degree.{Bounded}
+use Rattle.horner.specs.definitions.Measures.{sums, multiples, AllLe, weight}
+use Rattle.horner.specs.laws.Residues.{lift}
 use Rattle.horner.specs.laws.Bounds.{bounded-sum, bounded-prod, bounded-raise}
 use Rattle.horner.specs.laws.Canonical.{canon-box}
 use Rattle.horner.specs.laws.Hom.{Hom, mapForm, map-power, val-map}

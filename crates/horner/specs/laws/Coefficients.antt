@@ -7,13 +7,10 @@ use Prim.Native.Nat.{ℕ, zero, suc, _+_, _-_, _≤_}
 use native.Mathlib.Omega.{arith}
 use lib.IntN.{ℤ, natAbs}
 use lib.ListN.{length, getD}
-use Rattle.horner.specs.definitions.Coefficients.{shift, coefs, coefOf, constant, coefAt}
-use Rattle.horner.specs.definitions.Form.{Form, int, pop, pow, zeroForm}
-use Rattle.horner.specs.definitions.Integers.{ℤ-ring}
-use Rattle.horner.specs.definitions.Measures.{meas, weight, one-if, count, Bounded}
-use Rattle.horner.specs.definitions.Normal.{Normal}
-use Rattle.horner.specs.definitions.Ring.{Ring, power}
-use Rattle.horner.specs.definitions.Value.{tl, hd}
+use Rattle.horner.specs.definitions.Measures.{shift, coefs, coefOf, constant, coefAt, meas, weight, one-if, count}
+use Rattle.horner.specs.definitions.Form.{Form, int, pop, pow, zeroForm, Normal, tl, hd}
+use Rattle.horner.specs.definitions.Rings.{ℤ-ring, Ring, power}
+use Rattle.horner.specs.laws.Degree.{Bounded}
 use Rattle.horner.specs.laws.Count.{count-size}
 use Rattle.horner.specs.laws.Grid.{All, vals, val-coefs, normal-coefs, bounded-coefs, length-coefs}
 use Rattle.horner.specs.laws.Measure.{meas-lower}

@@ -5,11 +5,10 @@ use mathlib.Core.Path.{_≡_, refl, sym, _∙_, ap, ap₂}
 use Prim.Native.Nat.{ℕ, zero, suc, _+_, _-_, _≤_, _*_}
 use native.Mathlib.Nat as NatL
 use native.Mathlib.Omega.{arith}
-use Rattle.horner.specs.definitions.Form.{Form, int, pop, pow, isZero}
-use Rattle.horner.specs.definitions.Measures.{box, one-if, count, Bounded}
-use Rattle.horner.specs.definitions.Normal.{Normal}
-use Rattle.horner.specs.definitions.Ring.{Ring}
-use Rattle.horner.specs.definitions.Value.{after}
+use Rattle.horner.specs.definitions.Form.{Form, int, pop, pow, isZero, Normal, after}
+use Rattle.horner.specs.laws.Degree.{Bounded}
+use Rattle.horner.specs.definitions.Measures.{box, one-if, count}
+use Rattle.horner.specs.definitions.Rings.{Ring}
 use Rattle.horner.specs.laws.Measure.{Size}
 use Rattle.horner.specs.laws.Normal.{lead-not-zero, pow-not-zero}
 use Rattle.horner.specs.laws.Ring.{mul-nil, nil-mul, neg-neg, neg-nil}

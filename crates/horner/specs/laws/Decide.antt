@@ -5,10 +5,8 @@ use mathlib.Core.Path.{_≡_, sym, ap, ap₂, subst}
 use Prim.Native.Nat.{ℕ, _-_, _<_}
 use lib.Dec.{T, eqb, eqb→eq, eqb-refl, leb, leb→le, le→leb}
 use lib.IntN.{ℤ, pos, negsuc}
-use Rattle.horner.specs.definitions.Form.{Form, int, pop, pow, isZero}
-use Rattle.horner.specs.definitions.Normal.{Lead, Normal, isPow, leads}
-use Rattle.horner.specs.definitions.Residues.{Res, res-ext}
-use Rattle.horner.specs.definitions.Ring.{Ring}
+use Rattle.horner.specs.definitions.Form.{Form, int, pop, pow, isZero, Lead, Normal, isPow, leads}
+use Rattle.horner.specs.definitions.Rings.{Res, res-ext, Ring}
 use Rattle.horner.specs.laws.Tests.{is-false, and-both, and-intro}
 
 -- ---- equality, by a test of coefficients

@@ -4,12 +4,18 @@ use mathlib.Core.Path.{_≡_, refl, sym, _∙_, ap, subst}
 use Prim.Native.Nat.{ℕ, zero, suc, _+_, _-_, _≤_}
 use native.Mathlib.Omega.{arith}
 use lib.ListN.{length}
-use Rattle.horner.specs.definitions.Form.{Form, int, pop, pow}
-use Rattle.horner.specs.definitions.Measures.{zeros, firstOr0, maxs, AllLe, degrees, Bounded}
-use Rattle.horner.specs.definitions.Normal.{Normal}
-use Rattle.horner.specs.definitions.Ring.{Ring}
-use Rattle.horner.specs.definitions.Value.{tl, after}
+use Rattle.horner.specs.definitions.Form.{Form, int, pop, pow, Normal, tl, after}
+use Rattle.horner.specs.definitions.Measures.{zeros, firstOr0, maxs, AllLe, degrees}
+use Rattle.horner.specs.definitions.Rings.{Ring}
 use Rattle.horner.specs.laws.Normal.{pow-level}
+
+module _ {A : Type 0} where
+  -- no power is above ds, variable by variable
+  abbrev pub Bounded : List ℕ → Form A → Type 0
+  Bounded ds (int c) = Unit {0}
+  Bounded ds (pop i p) = Bounded (after i ds) p
+  Bounded [] (pow i p q) = ⊥
+  Bounded (d ∷ ds) (pow i p q) = (i ≤ d) × Bounded ((d - i) ∷ ds) p × Bounded ds q
 
 -- ---- longer bounds
 abbrev pub Below : List ℕ → List ℕ → Type 0

@@ -8,12 +8,9 @@ use Prim.Native.Nat.{ℕ, zero, suc, _+_, _-_, _≤_, _<_, _*_}
 use native.Mathlib.Omega.{arith}
 use lib.IntN.{ℤ, pos, negsuc, negℤ, _*ℤ_, natAbs}
 use lib.ListN.{length}
-use Rattle.horner.specs.definitions.Coefficients.{coefs}
-use Rattle.horner.specs.definitions.Form.{Form, int, pop, pow, mkpop, lower, isZero, mkpow, scale, prod}
-use Rattle.horner.specs.definitions.Integers.{isZeroℤ, ℤ-ring}
-use Rattle.horner.specs.definitions.Normal.{Lead, Normal}
-use Rattle.horner.specs.definitions.Ring.{Ring, nat}
-use Rattle.horner.specs.definitions.Value.{nats}
+use Rattle.horner.specs.definitions.Measures.{coefs}
+use Rattle.horner.specs.definitions.Form.{Form, int, pop, pow, mkpop, lower, isZero, mkpow, scale, prod, Lead, Normal, nats}
+use Rattle.horner.specs.definitions.Rings.{isZeroℤ, ℤ-ring, Ring, nat}
 use Rattle.horner.specs.laws.Canonical.{pos-mul-nil, ℤ-regular}
 use Rattle.horner.specs.laws.Compare.{cmp-cases}
 use Rattle.horner.specs.laws.Equations.{prod-pop-int, prod-pop-pop, prod-pop-pow}

@@ -5,7 +5,7 @@ use Prim.Native.Nat.{ℕ, zero, suc, _+_, _-_, _≤_, _<_}
 use native.Mathlib.Omega.{arith}
 use Rattle.horner.specs.definitions.Form.{Cmp, same, more, less, cmp, caseCmp, Form, int, pop, pow, size, mkpop, lower, zeroForm}
 use Rattle.horner.specs.definitions.Form.{mkpow, addInt, sumF, sum, scale, prodF, prod}
-use Rattle.horner.specs.definitions.Ring.{Ring}
+use Rattle.horner.specs.definitions.Rings.{Ring}
 use Rattle.horner.specs.laws.Value.{size-pos, no-fuel, lower-fits, lower-fits′, size-mkpop}
 
 -- ---- what cmp computes

@@ -4,10 +4,8 @@ use mathlib.Core.Path.{_≡_, refl, sym, _∙_, ap, ap₂, _≡⟨_⟩_, _∎}
 use Prim.Native.Nat.{ℕ, zero, suc, _+_, _-_, _≤_}
 use native.Mathlib.Omega.{arith}
 use lib.ListN.{length, drop, length-drop}
-use Rattle.horner.specs.definitions.Form.{Form, int, pop, pow, mkpop, mkpow, sum, negate, prod, raise}
-use Rattle.horner.specs.definitions.Normal.{Normal}
-use Rattle.horner.specs.definitions.Ring.{Ring, power}
-use Rattle.horner.specs.definitions.Value.{after, evalh}
+use Rattle.horner.specs.definitions.Form.{Form, int, pop, pow, mkpop, mkpow, sum, negate, prod, raise, Normal, after, evalh}
+use Rattle.horner.specs.definitions.Rings.{Ring, power}
 use Rattle.horner.specs.laws.Normal.{normal-mkpow, normal-sum, normal-negate, normal-prod, normal-raise}
 use Rattle.horner.specs.laws.Product.{val-prod, val-raise}
 use Rattle.horner.specs.laws.Value.{after-add, val-mkpow, val-sum, val-negate, val}

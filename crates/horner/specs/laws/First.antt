@@ -8,12 +8,11 @@ use Prim.Native.Nat.{ℕ, zero, suc, _+_, _-_, _≤_, _<_}
 use native.Mathlib.Nat as NatL
 use native.Mathlib.Omega.{arith}
 use lib.ListN.{length}
-use Rattle.horner.specs.definitions.Form.{Form, int, pop, pow, isZero, sum, scale}
-use Rattle.horner.specs.definitions.Measures.{AllLe, Bounded}
-use Rattle.horner.specs.definitions.Normal.{Normal}
+use Rattle.horner.specs.definitions.Form.{Form, int, pop, pow, isZero, sum, scale, Normal, nats}
+use Rattle.horner.specs.laws.Degree.{Bounded}
+use Rattle.horner.specs.definitions.Measures.{AllLe}
 use Rattle.horner.specs.definitions.Points.{InBox, Before, least, atFirst, firstPoint}
-use Rattle.horner.specs.definitions.Ring.{Ring, power, nat}
-use Rattle.horner.specs.definitions.Value.{nats}
+use Rattle.horner.specs.definitions.Rings.{Ring, power, nat}
 use Rattle.horner.specs.laws.Bounds.{bounded-sum, bounded-scale}
 use Rattle.horner.specs.laws.Grid.{bounded-lower, number-zero, Vanishes, grid}
 use Rattle.horner.specs.laws.Normal.{normal-lower, normal-sum, normal-scale}

@@ -6,13 +6,11 @@ use mathlib.Core.Path.{_≡_, sym, _∙_, ap, subst, _≡⟨_⟩_, _∎}
 use Prim.Native.Nat.{ℕ, zero, suc, _+_, _-_, _≤_, _<_}
 use native.Mathlib.Omega.{arith}
 use lib.ListN.{length, length-map}
-use Rattle.horner.specs.definitions.Coefficients.{shift, coefs}
-use Rattle.horner.specs.definitions.Form.{Form, int, pop, pow, lower, zeroForm}
-use Rattle.horner.specs.definitions.Measures.{AllLe, Bounded}
-use Rattle.horner.specs.definitions.Normal.{Normal}
+use Rattle.horner.specs.definitions.Measures.{shift, coefs, AllLe}
+use Rattle.horner.specs.definitions.Form.{Form, int, pop, pow, lower, zeroForm, Normal, tl, after, hd, nats}
+use Rattle.horner.specs.laws.Degree.{Bounded}
 use Rattle.horner.specs.definitions.Points.{InBox}
-use Rattle.horner.specs.definitions.Ring.{Ring, power, nat}
-use Rattle.horner.specs.definitions.Value.{tl, after, hd, nats}
+use Rattle.horner.specs.definitions.Rings.{Ring, power, nat}
 use Rattle.horner.specs.laws.Normal.{normal-lower, lead-not-zero, lower-not-zero}
 use Rattle.horner.specs.laws.Ring.{nil-add, unit-mul, mul-nil}
 use Rattle.horner.specs.laws.Roots.{horner, AllNil, Regular, roots}

@@ -8,16 +8,13 @@ use Prim.Native.Nat.{ℕ, zero, suc, _+_, _-_, _≤_, _<_, max}
 use native.Mathlib.Nat as NatL
 use native.Mathlib.Omega.{arith}
 use lib.ListN.{length, getD, List·getD-eq-default}
-use Rattle.horner.specs.definitions.Coefficients.{shift, coefs, coefOf, coefAt}
-use Rattle.horner.specs.definitions.Form.{Form, int, pop, pow, isZero, zeroForm}
-use Rattle.horner.specs.definitions.Measures.{zeros, firstOr0, maxs, degrees, Bounded}
-use Rattle.horner.specs.definitions.Normal.{Normal}
+use Rattle.horner.specs.definitions.Measures.{shift, coefs, coefOf, coefAt, zeros, firstOr0, maxs, degrees}
+use Rattle.horner.specs.definitions.Form.{Form, int, pop, pow, isZero, zeroForm, Normal, tl}
+use Rattle.horner.specs.laws.Degree.{Bounded, length-zeros, length-tl, length-degrees}
 use Rattle.horner.specs.definitions.Points.{InBox}
-use Rattle.horner.specs.definitions.Ring.{Ring}
-use Rattle.horner.specs.definitions.Value.{tl}
+use Rattle.horner.specs.definitions.Rings.{Ring}
 use Rattle.horner.specs.laws.Coefficients.{coefAt-zero, bounded-coefOf}
 use Rattle.horner.specs.laws.Compare.{lt-or-ge}
-use Rattle.horner.specs.laws.Degree.{length-zeros, length-tl, length-degrees}
 use Rattle.horner.specs.laws.Grid.{length-coefs}
 use Rattle.horner.specs.laws.Normal.{lead-not-zero, pow-not-zero, pow-level}
 

@@ -3,10 +3,8 @@ use mathlib.Core.List.{List, [], _∷_, map}
 use mathlib.Core.Path.{_≡_, refl, sym, _∙_, ap, ap₂, _≡⟨_⟩_, _∎}
 use Prim.Native.Nat.{ℕ, zero, suc}
 use lib.IntN.{ℤ, pos, negsuc, negℤ, _+ℤ_, _*ℤ_, sucℤ, predℤ, suc-pred, +ℤ-idl, +ℤ-invr, sucℤ-+ℤ, predℤ-+ℤ, sucℤ-*ℤ, predℤ-*ℤ, zero-*ℤ}
-use Rattle.horner.specs.definitions.Form.{Form, int, pop, pow}
-use Rattle.horner.specs.definitions.Integers.{ℤ-ring}
-use Rattle.horner.specs.definitions.Ring.{Ring, power, nat}
-use Rattle.horner.specs.definitions.Value.{tl, after, hd}
+use Rattle.horner.specs.definitions.Form.{Form, int, pop, pow, tl, after, hd}
+use Rattle.horner.specs.definitions.Rings.{ℤ-ring, Ring, power, nat}
 use Rattle.horner.specs.laws.Integers.{ℤ-step}
 use Rattle.horner.specs.laws.Ring.{nil-add, neg-add, add-mul, unit-mul, neg-unique, nil-mul, mul-neg, neg-of-add}
 use Rattle.horner.specs.laws.Value.{val}

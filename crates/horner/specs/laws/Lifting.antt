@@ -9,17 +9,16 @@ use native.Mathlib.Omega.{arith}
 use lib.Dec.{T, ltb, ltb→lt, eqb, lt→ltb, eqb·suc-zero}
 use lib.IntN.{ℤ, pos, negsuc, natAbs}
 use lib.ListN.{length}
-use Rattle.horner.specs.definitions.Form.{Form, int, pop, pow, isZero}
-use Rattle.horner.specs.definitions.Integers.{isZeroℤ, ℤ-ring}
-use Rattle.horner.specs.definitions.Measures.{AllLe, weightOf, degreesOf, weight, degrees, Bounded}
-use Rattle.horner.specs.definitions.Normal.{IsPow, Lead, Normal}
-use Rattle.horner.specs.definitions.Residues.{negᵐ, redℤ, lift, mod-ring, prime, prime-pos, P-ring}
-use Rattle.horner.specs.definitions.Term.{Term, Over, normℤ, normP}
-use Rattle.horner.specs.definitions.Value.{after}
+use Rattle.horner.specs.definitions.Form.{Form, int, pop, pow, isZero, isPow, Lead, Normal, after}
+use Rattle.horner.specs.definitions.Rings.{isZeroℤ, ℤ-ring, negᵐ, redℤ, mod-ring, prime, prime-pos, P-ring}
+use Rattle.horner.specs.laws.Degree.{Bounded}
+use Rattle.horner.specs.definitions.Measures.{AllLe, weightOf, degreesOf, weight, degrees}
+use Rattle.horner.specs.laws.Residues.{lift, nat-red}
+use Rattle.horner.specs.laws.Within.{Over}
+use Rattle.horner.specs.definitions.Term.{Term, normℤ, normP}
 use Rattle.horner.specs.laws.Hom.{Hom, fromℤ, from-hom, mapForm}
 use Rattle.horner.specs.laws.Limits.{weight-norm, length-degreesOf, bounded-norm}
 use Rattle.horner.specs.laws.Prime.{P-regular}
-use Rattle.horner.specs.laws.Residues.{nat-red}
 use Rattle.horner.specs.laws.Term.{normal-norm, transfer}
 use Rattle.horner.specs.laws.Tests.{cond-cases, is-true}
 
@@ -29,7 +28,7 @@ bounded-map f ds (pop i p) h = bounded-map f (after i ds) p h
 bounded-map f [] (pow i p q) h = absurd h
 bounded-map f (d ∷ ds) (pow i p q) h = (h .0, bounded-map f ((d - i) ∷ ds) p (h .1), bounded-map f ds q (h .2))
 
-pow-map : {A B : Type 0} (f : A → B) (x : Form A) → IsPow x → IsPow (mapForm f x)
+pow-map : {A B : Type 0} (f : A → B) (x : Form A) → T (isPow x) → T (isPow (mapForm f x))
 pow-map f (int c) h = h
 pow-map f (pop i p) h = h
 pow-map f (pow i p q) h = tt

@@ -8,13 +8,13 @@ use native.Mathlib.Omega.{arith}
 use lib.IntN.{ℤ, pos, natAbs}
 use lib.ListN.{length, length-map}
 use Rattle.horner.specs.definitions.Form.{Form, int, pow, zeroForm, sum, negate, letter}
-use Rattle.horner.specs.definitions.Integers.{ℤ-ring}
-use Rattle.horner.specs.definitions.Measures.{zeros, maxs, weightOf, degreesOf, boxOf, termsOf, weight, one-if, count, Bounded}
-use Rattle.horner.specs.definitions.Ring.{Ring}
-use Rattle.horner.specs.definitions.Term.{Term, num, var, minus, plus, diff, times, expt, Over, norm, normℤ}
+use Rattle.horner.specs.definitions.Rings.{ℤ-ring, Ring}
+use Rattle.horner.specs.laws.Degree.{Bounded, bounded-mono, length-zeros, after-zeros, length-maxs, maxs-left, maxs-right}
+use Rattle.horner.specs.definitions.Measures.{zeros, maxs, weightOf, degreesOf, boxOf, termsOf, weight, one-if, count}
+use Rattle.horner.specs.laws.Within.{Over}
+use Rattle.horner.specs.definitions.Term.{Term, num, var, minus, plus, diff, times, expt, norm, normℤ}
 use Rattle.horner.specs.laws.Bounds.{bounded-mkpop, bounded-sum, bounded-negate, length-sums, bounded-prod, bounded-raise}
 use Rattle.horner.specs.laws.Count.{box-pos, one-if-le, count-size, count-box}
-use Rattle.horner.specs.laws.Degree.{bounded-mono, length-zeros, after-zeros, length-maxs, maxs-left, maxs-right}
 use Rattle.horner.specs.laws.Measure.{meas-mkpop, meas-sum, meas-negate, meas-prod, meas-raise}
 use Rattle.horner.specs.laws.Term.{normal-norm}
 use Rattle.horner.specs.laws.Weight.{weight-size, mul-pos, pow-pos}

@@ -9,7 +9,7 @@ use native.Mathlib.Omega.{arith}
 use Rattle.horner.specs.definitions.Form.{Form, int, pop, pow, size, mkpop, lower, isZero, zeroForm, mkpow, addInt, sumF, sum}
 use Rattle.horner.specs.definitions.Form.{negate, scale, prodF, prod, raise}
 use Rattle.horner.specs.definitions.Measures.{meas}
-use Rattle.horner.specs.definitions.Ring.{Ring}
+use Rattle.horner.specs.definitions.Rings.{Ring}
 use Rattle.horner.specs.laws.Compare.{cmp-cases}
 use Rattle.horner.specs.laws.Tests.{cond-cases}
 use Rattle.horner.specs.laws.Value.{size-pos, lower-fits, lower-fits′, size-mkpop}

@@ -4,10 +4,10 @@ use mathlib.Core.Bool.{Bool, true, false, true≢false}
 use mathlib.Core.Path.{_≡_, refl, sym, _∙_, ap, subst}
 use Prim.Native.Nat.{ℕ, zero, suc, _+_, _-_, _≤_}
 use native.Mathlib.Omega.{arith}
+use lib.Dec.{T}
 use Rattle.horner.specs.definitions.Form.{Form, int, pop, pow, size, mkpop, lower, isZero, zeroForm, mkpow, addInt, sumF, sum}
-use Rattle.horner.specs.definitions.Form.{negate, scale, prodF, prod, raise}
-use Rattle.horner.specs.definitions.Normal.{IsPow, Lead, Normal}
-use Rattle.horner.specs.definitions.Ring.{Ring}
+use Rattle.horner.specs.definitions.Form.{negate, scale, prodF, prod, raise, isPow, Lead, Normal}
+use Rattle.horner.specs.definitions.Rings.{Ring}
 use Rattle.horner.specs.laws.Compare.{cmp-cases}
 use Rattle.horner.specs.laws.Ring.{neg-neg, neg-nil}
 use Rattle.horner.specs.laws.Tests.{cond-cases}
@@ -26,7 +26,7 @@ module _ {A : Type 0} (R : Ring A) where
   normal-mkpop n (suc i) (pop j q) h = (omega arith, h .1, at q (omega arith) (h .2))
   normal-mkpop n (suc i) (pow j q r) h = (omega arith, tt, h)
 
-  pub normal-lower : (n i : ℕ) (p : Form A) → IsPow p → Normal R (n - suc i) p → Normal R (n - 1) (lower i p)
+  pub normal-lower : (n i : ℕ) (p : Form A) → T (isPow p) → Normal R (n - suc i) p → Normal R (n - 1) (lower i p)
   normal-lower n zero p g h = h
   normal-lower n (suc i) p g h = (omega arith, g, at p (omega arith) h)
 
@@ -43,25 +43,25 @@ module _ {A : Type 0} (R : Ring A) where
   lead-not-zero (pop i p) h = refl
   lead-not-zero (pow i p q) h = refl
 
-  pub pow-not-zero : (x : Form A) → IsPow x → isZero R x ≡ false
+  pub pow-not-zero : (x : Form A) → T (isPow x) → isZero R x ≡ false
   pow-not-zero (int c) h = absurd h
   pow-not-zero (pop i p) h = refl
   pow-not-zero (pow i p q) h = refl
 
-  pub lower-not-zero : (i : ℕ) (p : Form A) → IsPow p → isZero R (lower i p) ≡ false
+  pub lower-not-zero : (i : ℕ) (p : Form A) → T (isPow p) → isZero R (lower i p) ≡ false
   lower-not-zero zero (int c) h = absurd h
   lower-not-zero zero (pop j p) h = absurd h
   lower-not-zero zero (pow j p q) h = refl
   lower-not-zero (suc i) p h = refl
 
   -- a POW stands below the row's length
-  pub pow-level : (n : ℕ) (p : Form A) → IsPow p → Normal R n p → 1 ≤ n
+  pub pow-level : (n : ℕ) (p : Form A) → T (isPow p) → Normal R n p → 1 ≤ n
   pow-level n (int c) w h = absurd w
   pow-level n (pop i p) w h = absurd w
   pow-level n (pow i p q) w h = h .1
 
   -- ---- the sum
-  pow-addInt : (a : A) (p : Form A) → IsPow p → IsPow (addInt R a p)
+  pow-addInt : (a : A) (p : Form A) → T (isPow p) → T (isPow (addInt R a p))
   pow-addInt a (int c) h = h
   pow-addInt a (pop i p) h = h
   pow-addInt a (pow i p q) h = tt
@@ -134,7 +134,7 @@ module _ {A : Type 0} (R : Ring A) where
   lead-negate (pop i p) h = tt
   lead-negate (pow j r s) h = isZero-negate s h
 
-  pub pow-negate : (p : Form A) → IsPow p → IsPow (negate R p)
+  pub pow-negate : (p : Form A) → T (isPow p) → T (isPow (negate R p))
   pow-negate (int c) h = h
   pow-negate (pop i p) h = h
   pow-negate (pow i p q) h = tt

@@ -9,7 +9,7 @@ use native.Mathlib.Nat as NatL
 use native.Mathlib.Omega.{arith}
 use lib.Dec.{T, eqb, eqb→eq}
 use lib.ListN.{getD}
-use Rattle.horner.specs.definitions.Residues.{mulᵐ, prime, prime-pos, P-ring}
+use Rattle.horner.specs.definitions.Rings.{mulᵐ, prime, prime-pos, P-ring}
 use Rattle.horner.specs.laws.Residues.{nat-red, unit-regular}
 use Rattle.horner.specs.laws.Roots.{Regular}
 use Rattle.horner.specs.laws.Tests.{and-both}

@@ -4,8 +4,8 @@ use mathlib.Core.Path.{_≡_, refl, _∙_, ap, ap₂, _≡⟨_⟩_, _∎}
 use Prim.Native.Nat.{ℕ, zero, suc, _+_, _≤_}
 use native.Mathlib.Omega.{arith}
 use Rattle.horner.specs.definitions.Form.{Form, int, pop, pow, size, mkpop, lower, zeroForm, mkpow, sum, scale, prodF, prod, raise}
-use Rattle.horner.specs.definitions.Ring.{Ring, power}
-use Rattle.horner.specs.definitions.Value.{tl, after, hd}
+use Rattle.horner.specs.definitions.Form.{tl, after, hd}
+use Rattle.horner.specs.definitions.Rings.{Ring, power}
 use Rattle.horner.specs.laws.Compare.{cmp-cases}
 use Rattle.horner.specs.laws.Ring.{mul-left-comm, add-mul, power-add}
 use Rattle.horner.specs.laws.Value.{no-fuel, lower-fits′, size-mkpop, val-mkpop, val-lower, val-mkpow-by, pops-same, pops-more}

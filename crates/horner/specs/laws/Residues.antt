@@ -1,15 +1,21 @@
 -- The numbers below m, with sums and products by remainder, are a ring. A number comes with a computed test that it is below m, which is
 -- `tt` at literals.
+use mathlib.Core.Bool.{cond}
 use mathlib.Core.Path.{_≡_, refl, sym, _∙_, ap, _≡⟨_⟩_, _∎}
-use Prim.Native.Nat.{ℕ, zero, suc, _+_, _<_, _*_, _%_}
+use Prim.Native.Nat.{ℕ, zero, suc, _+_, _-_, _<_, _*_, _%_}
 use native.Mathlib.Nat as NatL
 use native.Mathlib.Omega.{arith}
-use Rattle.horner.specs.definitions.Residues.{Res, red, addᵐ, mulᵐ, res-ext, below, mod-ring}
-use Rattle.horner.specs.definitions.Ring.{Ring, nat}
+use lib.Dec.{ltb}
+use lib.IntN.{ℤ, pos, negsuc}
+use Rattle.horner.specs.definitions.Rings.{Res, red, addᵐ, mulᵐ, res-ext, below, mod-ring, Ring, nat}
 use Rattle.horner.specs.laws.Modulus.{mul-mod-l, mul-mod-r}
 use Rattle.horner.specs.laws.Ring.{mul-nil}
 
 module _ (m : ℕ) (m-pos : 0 < m) where
+  -- a remainder read as an integer: itself below half of m, else what it lacks of m, negative
+  abbrev pub lift : Res m → ℤ
+  lift a = cond (ltb (a .0 * 2) m) (pos (a .0)) (negsuc (m - suc (a .0)))
+
   pub red-of : (a : Res m) → red m m-pos (a .0) ≡ a
   red-of a = res-ext m m-pos (red m m-pos (a .0)) a (NatL.mod-eq-of-lt (below m m-pos a))
 

@@ -3,7 +3,7 @@ use mathlib.Core.Path.{_≡_, sym, _∙_, ap, _≡⟨_⟩_, _∎}
 use Prim.Native.Nat as Nat
 use Prim.Native.Nat.{ℕ, zero, suc}
 use native.Mathlib.Nat as NatL
-use Rattle.horner.specs.definitions.Ring.{Ring, power, nat}
+use Rattle.horner.specs.definitions.Rings.{Ring, power, nat}
 
 -- the operations by short names, and the laws that follow
 module _ {A : Type 0} (R : Ring A) where

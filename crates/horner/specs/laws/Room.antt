@@ -8,14 +8,13 @@ use native.Mathlib.Nat as NatL
 use native.Mathlib.Omega.{arith}
 use lib.IntN.{ℤ}
 use lib.ListN.{length}
-use Rattle.horner.specs.definitions.Form.{Form, int, pop, pow, size}
-use Rattle.horner.specs.definitions.Measures.{box, AllLe, termsOf, count, Bounded, nest}
-use Rattle.horner.specs.definitions.Normal.{Lead, Normal}
-use Rattle.horner.specs.definitions.Ring.{Ring}
-use Rattle.horner.specs.definitions.Term.{Term, Over, norm}
-use Rattle.horner.specs.definitions.Value.{after}
+use Rattle.horner.specs.definitions.Form.{Form, int, pop, pow, size, Lead, Normal, after}
+use Rattle.horner.specs.laws.Degree.{Bounded, total}
+use Rattle.horner.specs.definitions.Measures.{box, AllLe, termsOf, count, nest}
+use Rattle.horner.specs.definitions.Rings.{Ring}
+use Rattle.horner.specs.laws.Within.{Over}
+use Rattle.horner.specs.definitions.Term.{Term, norm}
 use Rattle.horner.specs.laws.Count.{box-pos, box-after, count-pos}
-use Rattle.horner.specs.laws.Degree.{total}
 use Rattle.horner.specs.laws.Limits.{count-norm}
 use Rattle.horner.specs.laws.Normal.{pow-not-zero, pow-level}
 use Rattle.horner.specs.laws.Term.{normal-norm}

@@ -5,7 +5,7 @@ use mathlib.Core.Path.{_≡_, refl, sym, _∙_, ap, ap₂, subst, _≡⟨_⟩_, 
 use Prim.Native.Nat.{ℕ, zero, suc, _+_, _≤_, _<_}
 use native.Mathlib.Omega.{arith}
 use lib.ListN.{length}
-use Rattle.horner.specs.definitions.Ring.{Ring, nat}
+use Rattle.horner.specs.definitions.Rings.{Ring, nat}
 use Rattle.horner.specs.laws.Ring.{nil-add, add-left-comm, mul-left-comm, add-mul, add-cancel, mul-nil, nat-add}
 
 module _ {A : Type 0} (R : Ring A) where

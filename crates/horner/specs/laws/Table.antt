@@ -7,16 +7,16 @@ use native.Mathlib.Nat as NatL
 use native.Mathlib.Omega.{arith}
 use lib.IntN.{ℤ, natAbs}
 use lib.ListN.{length, length-map}
-use Rattle.horner.specs.definitions.Form.{Form, sum, negate, prod, raise}
-use Rattle.horner.specs.definitions.Integers.{ℤ-ring}
-use Rattle.horner.specs.definitions.Measures.{maxs, sums, multiples, box, weightOf, degreesOf, termsOf, weight, one-if, count}
-use Rattle.horner.specs.definitions.Measures.{terms, degrees, Bounded}
-use Rattle.horner.specs.definitions.Normal.{Normal}
-use Rattle.horner.specs.definitions.Term.{Term, Over, normℤ}
+use Rattle.horner.specs.definitions.Form.{Form, sum, negate, prod, raise, Normal}
+use Rattle.horner.specs.definitions.Rings.{ℤ-ring}
+use Rattle.horner.specs.definitions.Measures.{maxs, sums, multiples, box, weightOf, degreesOf, termsOf, weight, one-if, count, terms}
+use Rattle.horner.specs.definitions.Measures.{degrees}
+use Rattle.horner.specs.laws.Degree.{Bounded, Below, bounded-mono, length-maxs, maxs-left, maxs-right, length-degrees}
+use Rattle.horner.specs.laws.Degree.{bounded-degrees, degrees-least}
+use Rattle.horner.specs.laws.Within.{Over}
+use Rattle.horner.specs.definitions.Term.{Term, normℤ}
 use Rattle.horner.specs.laws.Bounds.{bounded-sum, bounded-negate, length-sums, bounded-prod, bounded-raise}
 use Rattle.horner.specs.laws.Count.{box-pos, count-size, count-box}
-use Rattle.horner.specs.laws.Degree.{Below, bounded-mono, length-maxs, maxs-left, maxs-right, length-degrees, bounded-degrees}
-use Rattle.horner.specs.laws.Degree.{degrees-least}
 use Rattle.horner.specs.laws.Limits.{weight-norm, length-degreesOf, bounded-norm, termsOf-pos, count-norm}
 use Rattle.horner.specs.laws.Measure.{meas-sum, meas-negate, meas-prod, meas-raise}
 use Rattle.horner.specs.laws.Normal.{normal-sum, normal-negate, normal-prod, normal-raise}

@@ -8,13 +8,12 @@ use Prim.Native.Nat.{ℕ, zero, suc, _≤_, _<_}
 use native.Mathlib.Omega.{arith}
 use lib.IntN.{ℤ, pos, negℤ}
 use lib.ListN.{length, length-map}
-use Rattle.horner.specs.definitions.Form.{Form, int, pow, zeroForm, sum, negate, letter}
-use Rattle.horner.specs.definitions.Integers.{ℤ-ring}
-use Rattle.horner.specs.definitions.Measures.{AllLe, Bounded}
-use Rattle.horner.specs.definitions.Normal.{Normal}
-use Rattle.horner.specs.definitions.Ring.{Ring, power, nat}
-use Rattle.horner.specs.definitions.Term.{Term, num, var, minus, plus, diff, times, expt, Over, evalp, norm, normℤ, evalℤ}
-use Rattle.horner.specs.definitions.Value.{after, evalh, hd, nats}
+use Rattle.horner.specs.definitions.Form.{Form, int, pow, zeroForm, sum, negate, letter, Normal, after, evalh, hd, nats}
+use Rattle.horner.specs.definitions.Rings.{ℤ-ring, Ring, power, nat}
+use Rattle.horner.specs.laws.Degree.{Bounded}
+use Rattle.horner.specs.definitions.Measures.{AllLe}
+use Rattle.horner.specs.laws.Within.{Over}
+use Rattle.horner.specs.definitions.Term.{Term, num, var, minus, plus, diff, times, expt, evalp, norm, normℤ, evalℤ}
 use Rattle.horner.specs.laws.Canonical.{canon-box, canon-ℤ}
 use Rattle.horner.specs.laws.Evalh.{evalh-val}
 use Rattle.horner.specs.laws.Hom.{Hom, mapForm, map-after, map-hd, map-power, val-map}

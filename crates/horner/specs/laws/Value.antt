@@ -6,9 +6,8 @@ use Prim.Native.Nat.{ℕ, zero, suc, _+_, _≤_}
 use native.Mathlib.Nat as NatL
 use native.Mathlib.Omega.{arith}
 use Rattle.horner.specs.definitions.Form.{Form, int, pop, pow, size, mkpop, lower, isZero, zeroForm, mkpow, addInt, sumF, sum}
-use Rattle.horner.specs.definitions.Form.{negate}
-use Rattle.horner.specs.definitions.Ring.{Ring, power}
-use Rattle.horner.specs.definitions.Value.{tl, after, hd}
+use Rattle.horner.specs.definitions.Form.{negate, tl, after, hd}
+use Rattle.horner.specs.definitions.Rings.{Ring, power}
 use Rattle.horner.specs.laws.Compare.{cmp-cases}
 use Rattle.horner.specs.laws.Ring.{nil-add, add-left-comm, mul-nil, mul-neg, neg-of-add, power-add}
 use Rattle.horner.specs.laws.Tests.{cond-cases}

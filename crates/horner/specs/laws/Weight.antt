@@ -6,7 +6,7 @@ use native.Mathlib.Nat as NatL
 use native.Mathlib.Omega.{arith}
 use lib.Dec.{T, ltb, ltb→lt}
 use lib.IntN.{ℤ, pos, negsuc, negℤ, _+ℤ_, _*ℤ_, subℕ, natAbs}
-use Rattle.horner.specs.definitions.Integers.{ℤ-ring}
+use Rattle.horner.specs.definitions.Rings.{ℤ-ring}
 use Rattle.horner.specs.laws.Measure.{Size}
 use Rattle.horner.specs.laws.Tests.{cond-cases}
 

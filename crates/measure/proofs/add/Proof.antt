@@ -1,34 +1,10 @@
 -- `measure::add` meets its contract, field by field.
 use borrow.Author.Needs.{needs}
-use mathlib.Core.Path.{_≡_, refl, sym, ap, _∙_}
-use Prim.Native.Nat.{ℕ, _+_, min}
+use mathlib.Core.Path.{refl}
+use Prim.Native.Nat.{_+_, min}
 use Rattle.measure.specs.Made.{made}
 use Rattle.measure.proofs.add.Statement.{statement}
 use Rattle.measure.proofs.add.Tie as tie
-
-larger-requires : tie.Need-larger-requires
-larger-requires c κs = search needs
-
-larger-requires-2 : tie.Need-larger-requires-2
-larger-requires-2 c κs = search needs
-
-larger-requires-3 : tie.Need-larger-requires-3
-larger-requires-3 c κs = search needs
-
-larger-requires-4 : tie.Need-larger-requires-4
-larger-requires-4 c κs = search needs
-
-add-t7 : tie.Need-add-t7
-add-t7 c = search needs
-
-add-lesser : tie.Need-add-lesser
-add-lesser c = search needs
-
-box-of-requires : tie.Need-box-of-requires
-box-of-requires c κs = search needs
-
-lesser-requires : tie.Need-lesser-requires
-lesser-requires c κs = search needs
 
 returns : tie.Need-returns
 returns c =
@@ -42,14 +18,5 @@ returns c =
 
 pub add-spec : {M : Type 1} → statement M
 add-spec =
-    tie.close
-    (tie.spec
-    larger-requires
-    larger-requires-2
-    larger-requires-3
-    larger-requires-4
-    add-t7
-    add-lesser
-    box-of-requires
-    lesser-requires
-    returns)
+    tie.close (tie.spec (λ c κs. search needs) (λ c κs. search needs) (λ c κs. search needs) (λ c κs. search needs) (λ c. search needs)
+    (λ c. search needs) (λ c κs. search needs) (λ c κs. search needs) returns)

@@ -1,6 +1,6 @@
 -- `measure::cut_power` meets its contract. The invariant: r is the i-th power, cut down.
-use mathlib.Core.Path.{_≡_, sym, ap, _∙_}
-use Prim.Native.Nat.{ℕ, _+_, _-_, _*_, _^_, _≤_, min}
+use mathlib.Core.Path.{_≡_, ap, _∙_}
+use Prim.Native.Nat.{_-_, _*_, _^_, _≤_, min}
 use native.Mathlib.Nat.{pow-zero, le-antisymm}
 use native.Mathlib.Omega.{arith}
 use borrow.Author.Needs.{needs}
@@ -16,9 +16,6 @@ abbrev μ-loop : tie.MeasureT-loop
 
 loop-holds : tie.Need-loop-holds Inv-loop μ-loop
 loop-holds c = (omega arith, omega (arith, pow-zero (c .args .a)))
-
-cut-product-requires : tie.Need-cut-product-requires Inv-loop μ-loop
-cut-product-requires c κs = search needs
 
 add-i : tie.Need-add-i Inv-loop μ-loop
 add-i c = omega arith
@@ -40,5 +37,4 @@ returns c =
 
 pub cut-power-spec : {M : Type 1} → statement M
 cut-power-spec =
-    tie.close
-    (tie.spec Inv-loop μ-loop loop-holds cut-product-requires add-i loop-less loop-again returns)
+    tie.close (tie.spec Inv-loop μ-loop loop-holds (λ c κs. search needs) add-i loop-less loop-again returns)

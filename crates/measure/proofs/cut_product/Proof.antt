@@ -1,6 +1,6 @@
 -- `measure::cut_product` meets its contract: the product of two 32-bit numbers fits 64 bits.
 use borrow.Author.Needs.{needs}
-use Prim.Native.Nat.{ℕ, _*_, _≤_}
+use Prim.Native.Nat.{_*_, _≤_}
 use native.Mathlib.Nat.{mul-le-mul}
 use native.Mathlib.Omega.{arith}
 use Rattle.measure.proofs.cut_product.Statement.{statement}
@@ -15,9 +15,6 @@ mul-p c =
     let e : a * b ≤ 4294967295 * 4294967295 = mul-le-mul la lb in
     omega arith
 
-cast-result : tie.Need-cast-result
-cast-result c = search needs
-
 returns : tie.Need-returns
 returns c = omega arith
 
@@ -25,4 +22,4 @@ returns-2 : tie.Need-returns-2
 returns-2 c = omega arith
 
 pub cut-product-spec : {M : Type 1} → statement M
-cut-product-spec = tie.close (tie.spec mul-p cast-result returns returns-2)
+cut-product-spec = tie.close (tie.spec mul-p (λ c. search needs) returns returns-2)

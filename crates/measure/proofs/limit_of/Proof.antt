@@ -1,6 +1,6 @@
 -- `measure::limit_of` meets its contract, limit by limit.
-use mathlib.Core.Path.{_≡_, sym, ap, _∙_}
-use borrow.Author.Tests.{eq-eqb, ne-eqb, lt-ltb, le-ltb}
+use mathlib.Core.Path.{sym, _∙_}
+use borrow.Author.Tests.{lt-ltb, le-ltb}
 use Rattle.text_laws.specs.laws.Picks.{pick-yes, pick-no}
 use Rattle.measure.proofs.limit_of.Statement.{statement}
 use Rattle.measure.proofs.limit_of.Tie as tie

@@ -1,27 +1,12 @@
 -- `measure::multiply` meets its contract, field by field.
 use borrow.Author.Needs.{needs}
-use mathlib.Core.Path.{_≡_, refl, sym, ap, _∙_}
+use mathlib.Core.Path.{refl}
 use native.Mathlib.Omega.{arith}
-use Prim.Native.Nat.{ℕ, _*_, _≤_, min}
+use Prim.Native.Nat.{_*_, _≤_, min}
 use native.Mathlib.Nat.{mul-le-mul}
 use Rattle.measure.specs.Made.{made}
 use Rattle.measure.proofs.multiply.Statement.{statement}
 use Rattle.measure.proofs.multiply.Tie as tie
-
-add-d0 : tie.Need-add-d0
-add-d0 c = search needs
-
-add-d1 : tie.Need-add-d1
-add-d1 c = search needs
-
-add-d2 : tie.Need-add-d2
-add-d2 c = search needs
-
-add-d3 : tie.Need-add-d3
-add-d3 c = search needs
-
-cut-product-requires : tie.Need-cut-product-requires
-cut-product-requires c κs = search needs
 
 -- the places that are looked at, each seen from a later one
 abbrev start : tie.After-cut-product → tie.Start
@@ -35,12 +20,6 @@ mul-lesser c =
     let e : a * d ≤ 256 * 256 = mul-le-mul (s .pre .0 .terms-small) (s .pre .1 .terms-small) in
     omega arith
 
-box-of-requires : tie.Need-box-of-requires
-box-of-requires c κs = search needs
-
-lesser-requires : tie.Need-lesser-requires
-lesser-requires c κs = search needs
-
 returns : tie.Need-returns
 returns c =
     let at-cut-product : tie.After-cut-product = c .before .before .before .before in
@@ -50,14 +29,5 @@ returns c =
 
 pub multiply-spec : {M : Type 1} → statement M
 multiply-spec =
-    tie.close
-    (tie.spec
-    add-d0
-    add-d1
-    add-d2
-    add-d3
-    cut-product-requires
-    mul-lesser
-    box-of-requires
-    lesser-requires
-    returns)
+    tie.close (tie.spec (λ c. search needs) (λ c. search needs) (λ c. search needs) (λ c. search needs) (λ c κs. search needs) mul-lesser
+    (λ c κs. search needs) (λ c κs. search needs) returns)

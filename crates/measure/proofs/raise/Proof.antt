@@ -1,8 +1,8 @@
 -- `measure::raise` meets its contract, field by field.
 use borrow.Author.Needs.{needs}
-use mathlib.Core.Path.{_≡_, refl, sym, ap, _∙_}
+use mathlib.Core.Path.{refl, ap, _∙_}
 use native.Mathlib.Omega.{arith}
-use Prim.Native.Nat.{ℕ, _*_, _^_, _≤_, min}
+use Prim.Native.Nat.{_^_, min}
 use Rattle.measure.specs.Cuts.{times-63}
 use Rattle.measure.specs.Made.{made}
 use Rattle.measure.proofs.raise.Statement.{statement}
@@ -28,12 +28,6 @@ mul-d3 c =
     let s = start c in
     omega (arith, times-63 (s .pre .1) (s .pre .0 .small-3))
 
-cut-power-requires : tie.Need-cut-power-requires
-cut-power-requires c κs = search needs
-
-cut-power-requires-2 : tie.Need-cut-power-requires-2
-cut-power-requires-2 c κs = search needs
-
 box-of-requires : tie.Need-box-of-requires
 box-of-requires c κs =
     let s = start (c .before .before) in (
@@ -43,9 +37,6 @@ box-of-requires c κs =
         (omega (arith, times-63 (s .pre .1) (s .pre .0 .small-2)), omega (arith, times-63 (s .pre .1) (s .pre .0 .small-3))),
       ),
     )
-
-lesser-requires : tie.Need-lesser-requires
-lesser-requires c κs = search needs
 
 returns : tie.Need-returns
 returns c =
@@ -57,14 +48,5 @@ returns c =
 
 pub raise-spec : {M : Type 1} → statement M
 raise-spec =
-    tie.close
-    (tie.spec
-    mul-d0
-    mul-d1
-    mul-d2
-    mul-d3
-    cut-power-requires
-    cut-power-requires-2
-    box-of-requires
-    lesser-requires
+    tie.close (tie.spec mul-d0 mul-d1 mul-d2 mul-d3 (λ c κs. search needs) (λ c κs. search needs) box-of-requires (λ c κs. search needs)
     returns)

@@ -9,77 +9,41 @@ use Rattle.panel.proofs.panel_compare.Lts as lts
 use Rattle.call_compare.proofs.compare.Reads as compare-reads
 use Rattle.panel.proofs.refused.Reads as refused-reads
 
-compare-requires : tie.Need-compare-requires
-compare-requires c κs = search needs
-
-enum-told : tie.Need-enum-told
-enum-told c = search needs
-
-enum-known-answer : tie.Need-enum-known-answer
-enum-known-answer c = search needs
-
-enum-known-answer-2 : tie.Need-enum-known-answer-2
-enum-known-answer-2 c = search needs
-
-refused-requires : tie.Need-refused-requires
-refused-requires c κs = search needs
-
-same-length : tie.Need-same-length
-same-length c = search needs
-
-same-length-2 : tie.Need-same-length-2
-same-length-2 c = search needs
-
-same-length-3 : tie.Need-same-length-3
-same-length-3 c = search needs
-
-same-length-4 : tie.Need-same-length-4
-same-length-4 c = search needs
-
-same-length-5 : tie.Need-same-length-5
-same-length-5 c = search needs
+-- the places that are looked at, each seen from a later one
+abbrev after-compare : tie.After-slice-known10 → tie.After-compare
+after-compare c = c .before .before .before .before .before .before .before .before .before .before
 
 returns : tie.Need-returns
 returns c =
-    record { answer = ap ofCompared (sym ((c .enum-told) .given .1)) ∙ compared-is ((c .before .before .before .before .before .before .before .before .before .before .before .before .compare) .ensures); point = (c .before .before .before .before .before .before .before .before .before .before .before .before .compare) .ensures .point; tables = (c .before .before .before .before .before .before .before .before .before .before .before .before .compare) .ensures .tables }
-
-same-length-6 : tie.Need-same-length-6
-same-length-6 c = search needs
-
-same-length-7 : tie.Need-same-length-7
-same-length-7 c = search needs
-
-same-length-8 : tie.Need-same-length-8
-same-length-8 c = search needs
-
-same-length-9 : tie.Need-same-length-9
-same-length-9 c = search needs
-
-same-length-10 : tie.Need-same-length-10
-same-length-10 c = search needs
+    let compare = after-compare (c .before .before) .compare in
+    record {
+      answer = ap ofCompared (sym ((c .enum-told) .given .1)) ∙ compared-is (compare .ensures);
+      point = compare .ensures .point;
+      tables = compare .ensures .tables;
+    }
 
 returns-2 : tie.Need-returns-2
 returns-2 c =
-    record { answer = ap ofCompared (sym ((c .before .answer) .given .1)) ∙ compared-is ((c .before .before .before .before .before .before .before .before .before .before .before .before .before .compare) .ensures); point = (c .before .before .before .before .before .before .before .before .before .before .before .before .before .compare) .ensures .point; tables = (c .before .before .before .before .before .before .before .before .before .before .before .before .before .compare) .ensures .tables }
-
-same-length-11 : tie.Need-same-length-11
-same-length-11 c = search needs
-
-same-length-12 : tie.Need-same-length-12
-same-length-12 c = search needs
-
-same-length-13 : tie.Need-same-length-13
-same-length-13 c = search needs
-
-same-length-14 : tie.Need-same-length-14
-same-length-14 c = search needs
-
-same-length-15 : tie.Need-same-length-15
-same-length-15 c = search needs
+    let at-compare : tie.After-compare = after-compare (c .before .before .before) in
+    record {
+      answer = ap ofCompared (sym ((c .before .answer) .given .1)) ∙ compared-is ((at-compare .compare) .ensures);
+      point = (at-compare .compare) .ensures .point;
+      tables = (at-compare .compare) .ensures .tables;
+    }
 
 returns-3 : tie.Need-returns-3
 returns-3 c =
-    record { answer = c .refused .ensures ∙ ap ofCompared (sym ((c .before .before .answer2) .given .1)) ∙ compared-is ((c .before .before .before .before .before .before .before .before .before .before .before .before .before .before .compare) .ensures); point = (c .before .before .before .before .before .before .before .before .before .before .before .before .before .before .compare) .ensures .point; tables = (c .before .before .before .before .before .before .before .before .before .before .before .before .before .before .compare) .ensures .tables }
+    let at-compare : tie.After-compare = after-compare (c .before .before .before .before) in
+    record {
+      answer = c .refused .ensures ∙ ap ofCompared (sym ((c .before .before .answer2) .given .1))
+          ∙ compared-is ((at-compare .compare) .ensures);
+      point = (at-compare .compare) .ensures .point;
+      tables = (at-compare .compare) .ensures .tables;
+    }
 
 pub panel-compare-spec : {M : Type 1} → statement M
-panel-compare-spec = tie.close (tie.spec compare-requires enum-told enum-known-answer enum-known-answer-2 refused-requires same-length same-length-2 same-length-3 same-length-4 same-length-5 returns same-length-6 same-length-7 same-length-8 same-length-9 same-length-10 returns-2 same-length-11 same-length-12 same-length-13 same-length-14 same-length-15 returns-3)
+panel-compare-spec =
+    tie.close (tie.spec (λ c κs. search needs) (λ c. search needs) (λ c. search needs) (λ c. search needs) (λ c κs. search needs)
+    (λ c. search needs) (λ c. search needs) (λ c. search needs) (λ c. search needs) (λ c. search needs) returns (λ c. search needs)
+    (λ c. search needs) (λ c. search needs) (λ c. search needs) (λ c. search needs) returns-2 (λ c. search needs) (λ c. search needs)
+    (λ c. search needs) (λ c. search needs) (λ c. search needs) returns-3)

@@ -7,11 +7,11 @@ use Rattle.panel.proofs.refused.Reads as reads
 use Rattle.panel.proofs.refused.Lts as lts
 use Rattle.panel.proofs.side_number.Reads as side-number-reads
 
-side-number-requires : tie.Need-side-number-requires
-side-number-requires c κs = search needs
-
 returns : tie.Need-returns
-returns c = ap (λ n. record { kind = 2; number = (c .before) .args .bad .number; side = n; left = 0; right = 0; place = (c .before) .args .bad .place }) (c .side-number .ensures)
+returns c =
+    ap (λ n. record
+    { kind = 2; number = (c .before) .args .bad .number; side = n; left = 0; right = 0; place = (c .before) .args .bad .place })
+    (c .side-number .ensures)
 
 pub refused-spec : {M : Type 1} → statement M
-refused-spec = tie.close (tie.spec side-number-requires returns)
+refused-spec = tie.close (tie.spec (λ c κs. search needs) returns)

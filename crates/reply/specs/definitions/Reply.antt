@@ -8,8 +8,7 @@ use lib.ListN.{length, drop, replicate}
 use Rattle.refusal.specs.Refusal.{onSide, ofNeither}
 use Rattle.refusal.specs.declared.Refusal.{Refusal}
 use Rattle.refusal.specs.declared.Side.{Side}
-use Rattle.text.specs.definitions.Answer.{Reading, read, refused}
-use Rattle.text.specs.definitions.Bytes.{isRow}
+use Rattle.text.specs.definitions.Bytes.{Reading, read, refused, isRow}
 use Rattle.reply.specs.declared.Remaindered.{Remaindered}
 use Rattle.reply.specs.declared.Remaindered.the-variants as R
 use Rattle.reply.specs.declared.Written.{Written}
@@ -85,9 +84,8 @@ abbrev pub resultAfter : Reply (List ℕ) → List ℕ → List ℕ
 resultAfter (gives w) b = over w b
 resultAfter (refuses bad) b = b
 
--- ---- contracts: "what it answers and what every lent buffer then holds". "Where an answer is an enum, a definition gives this paper's number and values for each
--- case of the enum": `told..` of the enum; b and w are the buffer and the tables when the call begins, b′ and w′ when it ends
--- how many bytes were written
+-- ---- contracts: "what it answers and what every lent buffer then holds"; b and w when the call begins, b′ and w′ when it ends
+-- "Where an answer is an enum, a definition gives this paper's number and values for each case of the enum": here, the bytes written
 abbrev pub toldWritten : Written → Reply ℕ
 toldWritten (W.Text n) = gives n
 toldWritten (W.Refused bad) = refuses bad

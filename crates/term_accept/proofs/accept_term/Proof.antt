@@ -1,6 +1,6 @@
 -- `term_accept::accept_term` meets its contract, case by case.
 use borrow.Author.Needs.{needs}
-use mathlib.Core.Path.{_≡_, refl, sym, ap, _∙_, subst}
+use mathlib.Core.Path.{sym, ap, _∙_, subst}
 use denote.Ref.{now}
 use Rattle.term_accept.specs.Found.{MeasuredAt}
 use Rattle.term_accept.specs.Accepting.{verdictOf, accept-refused, accept-term, term-refused}

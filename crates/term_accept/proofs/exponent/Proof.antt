@@ -1,6 +1,6 @@
 -- `term_accept::exponent` meets its contract, case by case.
 use borrow.Author.Needs.{needs}
-use mathlib.Core.Path.{_≡_, refl, sym, ap, _∙_, subst}
+use mathlib.Core.Path.{sym, _∙_}
 use denote.Ref.{now}
 use native.Mathlib.Omega.{arith}
 use Rattle.term_token.specs.declared.Step.the-variants.{Word}

@@ -1,7 +1,7 @@
 -- `term_accept::judge` meets its contract.
 use borrow.Author.Needs.{needs}
-use mathlib.Core.Path.{_≡_, sym, ap, _∙_}
-use borrow.Author.Tests.{eq-eqb, ne-eqb, lt-ltb, le-ltb}
+use mathlib.Core.Path.{sym, ap, _∙_}
+use borrow.Author.Tests.{eq-eqb, ne-eqb}
 use Rattle.refusal.specs.Refusal.{fault}
 use Rattle.text_laws.specs.laws.Picks.{pick-yes, pick-no}
 use lib.Dec.{eqb}

@@ -1,14 +1,13 @@
 -- `term_accept::magnitude` meets its contract: the digits behind a sign, or all bytes.
 use borrow.Author.Needs.{needs}
-use mathlib.Core.Path.{_≡_, refl, sym, ap, _∙_}
+use mathlib.Core.Path.{_≡_, ap, _∙_}
 use native.Mathlib.Omega.{arith}
 use denote.Ref.{now}
 use Prim.Native.Nat.{ℕ, _-_, min}
 use mathlib.Core.List.{List}
 use lib.ListN.{length, take, drop, length-drop}
 use lib.Seq.{take-all}
-use Rattle.text.specs.definitions.Bytes.{all, digit}
-use Rattle.text.specs.definitions.Numerals.{valueFrom}
+use Rattle.text.specs.definitions.Bytes.{all, digit, valueFrom}
 use Rattle.term_accept.specs.Integers.{integer-long, digits-below, digits-plain, magnitude-below, magnitude-plain}
 use Rattle.term_accept.proofs.magnitude.Statement.{statement}
 use Rattle.term_accept.proofs.magnitude.Tie as tie

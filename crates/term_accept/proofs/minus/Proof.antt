@@ -1,6 +1,6 @@
 -- `term_accept::minus` meets its contract.
 use borrow.Author.Tests.{eq-eqb, ne-eqb}
-use mathlib.Core.Path.{sym, _∙_}
+use mathlib.Core.Path.{sym}
 use Rattle.text_laws.specs.laws.Picks.{pick-yes, pick-no}
 use Rattle.term_accept.proofs.minus.Statement.{statement}
 use Rattle.term_accept.proofs.minus.Tie as tie

@@ -1,5 +1,5 @@
 -- `term_accept::one_if` meets its contract.
-use mathlib.Core.Path.{_≡_, refl, sym, ap, _∙_}
+use mathlib.Core.Path.{sym}
 use borrow.Author.Tests.{eq-eqb, ne-eqb}
 use Rattle.text_laws.specs.laws.Picks.{pick-yes, pick-no}
 use Rattle.term_accept.proofs.one_if.Statement.{statement}

@@ -8,8 +8,8 @@ use mathlib.Core.Logic.{inl, inr}
 use mathlib.Core.List.{List}
 use Prim.Native.Nat.{ℕ, _≤_, _<_, min}
 use borrow.Author.Tests.{not-true, not-false}
-use Rattle.text.specs.definitions.Numerals.{dec, canonical, valueFrom}
-use Rattle.text_laws.specs.laws.Numerals.{canonical-dec, value-dec}
+use Rattle.text.specs.definitions.Bytes.{decimal, canonical, valueFrom}
+use Rattle.text_laws.specs.laws.Numerals.{canonical-decimal, value-decimal}
 use Rattle.text_laws.specs.laws.Prefixes.{canonical-digits}
 use Rattle.term_accept.specs.Found.{Judges}
 use Rattle.measure.specs.Measure.{powM}
@@ -17,11 +17,11 @@ use Rattle.term_accept.proofs.powered.Statement.{statement}
 use Rattle.term_accept.proofs.powered.Tie as tie
 
 -- the exponent, from its cut value
-more : (k : ℕ) (w : List ℕ) (v : ℕ) → w ≡ dec k → v ≡ min (valueFrom 0 w) 64 → 63 < v → 63 < k
-more k w v e f h = omega (arith, f, ap (valueFrom 0) e ∙ value-dec k)
+more : (k : ℕ) (w : List ℕ) (v : ℕ) → w ≡ decimal k → v ≡ min (valueFrom 0 w) 64 → 63 < v → 63 < k
+more k w v e f h = omega (arith, f, ap (valueFrom 0) e ∙ value-decimal k)
 
-less : (k : ℕ) (w : List ℕ) (v : ℕ) → w ≡ dec k → v ≡ min (valueFrom 0 w) 64 → v ≤ 63 → v ≡ k
-less k w v e f h = omega (arith, f, ap (valueFrom 0) e ∙ value-dec k)
+less : (k : ℕ) (w : List ℕ) (v : ℕ) → w ≡ decimal k → v ≡ min (valueFrom 0 w) 64 → v ≤ 63 → v ≡ k
+less k w v e f h = omega (arith, f, ap (valueFrom 0) e ∙ value-decimal k)
 
 is-natural-requires : tie.Need-is-natural-requires
 is-natural-requires c κs = search needs
@@ -30,7 +30,7 @@ returns : tie.Need-returns
 returns c =
     record {
       safe = tt;
-      found = λ k q rest e f. absurd (true≢false (sym (ap canonical e ∙ canonical-dec k) ∙ sym (c .before .is-natural .ensures) ∙ not-true _ (c .if1 .taken)));
+      found = λ k q rest e f. absurd (true≢false (sym (ap canonical e ∙ canonical-decimal k) ∙ sym (c .before .is-natural .ensures) ∙ not-true _ (c .if1 .taken)));
     }
 
 cut-value-requires : tie.Need-cut-value-requires

@@ -1,6 +1,6 @@
 -- `term_accept::word_of` meets its contract, test by test.
 use borrow.Author.Needs.{needs}
-use mathlib.Core.Path.{_≡_, refl, sym, ap, _∙_}
+use mathlib.Core.Path.{sym, ap, _∙_}
 use borrow.Author.Tests.{eq-eqb, ne-eqb}
 use Rattle.text_laws.specs.laws.Picks.{pick-yes, pick-no}
 use Rattle.term_accept.specs.declared.Sub.the-variants.{Done}

@@ -3,8 +3,7 @@
 use mathlib.Core.Path.{ap, _∙_}
 use Prim.Native.Nat.{min}
 use native.Mathlib.Omega.{arith}
-use Rattle.text.specs.definitions.Bytes.{all, digit}
-use Rattle.text.specs.definitions.Numerals.{valueFrom}
+use Rattle.text.specs.definitions.Bytes.{all, digit, valueFrom}
 use Rattle.code.specs.laws.Codes.{tail-part}
 use Rattle.term_build.specs.laws.Leaves.{integer-some, below-digits, residue-below, natural-digits, residue-natural}
 use borrow.Author.Needs.{needs}

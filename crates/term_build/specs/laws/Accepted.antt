@@ -3,9 +3,8 @@ use mathlib.Core.List.{List, [], append-nil}
 use mathlib.Core.Path.{_≡_, sym, _∙_}
 use Prim.Native.Nat.{ℕ}
 use native.Mathlib.Omega.{arith}
-use Rattle.text.specs.definitions.Answer.{read}
+use Rattle.text.specs.definitions.Bytes.{read, tokens}
 use Rattle.text.specs.definitions.Limits.{acceptTerm}
-use Rattle.text.specs.definitions.Tokens.{tokens}
 use Rattle.text.specs.definitions.Tree.{Tree, placed}
 use Rattle.text_laws.specs.laws.Accepted.{accepts}
 use Rattle.text_laws.specs.laws.Rows.{row-length}

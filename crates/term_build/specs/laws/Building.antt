@@ -6,8 +6,9 @@ use Prim.Native.Nat.{ℕ, zero, suc, _+_, _-_, _≤_, _<_}
 use native.Mathlib.Omega.{arith}
 use lib.ListN.{length, take, drop}
 use Rattle.horner.specs.definitions.Form.{Form}
-use Rattle.horner.specs.definitions.Residues.{redℤ, prime, prime-pos}
-use Rattle.horner.specs.definitions.Term.{Over, normP}
+use Rattle.horner.specs.definitions.Rings.{redℤ, prime, prime-pos}
+use Rattle.horner.specs.laws.Within.{Over}
+use Rattle.horner.specs.definitions.Term.{normP}
 use Rattle.horner.specs.laws.Degree.{bounded-mono}
 use Rattle.horner.specs.laws.Limits.{length-degreesOf}
 use Rattle.code.specs.Coding.{Good, Made}
@@ -20,10 +21,8 @@ use Rattle.horner.specs.laws.Room.{words-3073}
 use Rattle.horner.specs.definitions.Measures.{degreesOf}
 use Rattle.code.specs.laws.Sizes.{size-enc}
 use Rattle.code_power.specs.Raise.{raiseOf}
-use Rattle.text.specs.definitions.Bytes.{isRow}
-use Rattle.text.specs.definitions.Numerals.{dec as decimal}
-use Rattle.text.specs.definitions.Parts.{itself, in-neg, in-left, in-base, Fits}
-use Rattle.text.specs.definitions.Tokens.{Token, closing, word}
+use Rattle.text.specs.definitions.Bytes.{isRow, decimal, Token, closing, word}
+use Rattle.text.specs.definitions.Meaning.{itself, in-neg, in-left, in-base, Fits}
 use Rattle.text.specs.definitions.Tree.{Sign, add, sub, mul, Tree, num, letter, neg, two, power, placed, termOf, letters}
 use Rattle.text_laws.specs.laws.Bytes.{and-l}
 use Rattle.text_laws.specs.laws.Rows.{row-length, letters-over}

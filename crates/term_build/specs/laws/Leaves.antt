@@ -8,24 +8,23 @@ use native.Mathlib.Omega.{arith}
 use lib.IntN.{ℤ, pos, negsuc, natAbs}
 use lib.ListN.{length, drop, getD}
 use Rattle.horner.specs.definitions.Form.{int}
-use Rattle.horner.specs.definitions.Residues.{red, redℤ, prime, prime-pos}
+use Rattle.horner.specs.definitions.Rings.{red, redℤ, prime, prime-pos}
 use Rattle.code.specs.Coding.{Begins, enc}
 use Rattle.code.specs.Widths.{leaf}
 use Rattle.code_walk.specs.Shapes.{letterOf}
-use Rattle.text.specs.definitions.Bytes.{digit, all, capital, inRow, indexIn}
-use Rattle.text.specs.definitions.Numerals.{dec, writeInt, readInt, valueFrom}
+use Rattle.text.specs.definitions.Bytes.{digit, all, capital, inRow, indexIn, decimal, writeInt, readInt, valueFrom}
 use Rattle.text.specs.definitions.Tree.{Tree, num, letter, neg, two, power, Sign, add, sub, mul, termOf, letters}
 use Rattle.text_laws.specs.laws.Bytes.{and-l, and-r}
-use Rattle.text_laws.specs.laws.Numerals.{value-dec, read-int}
+use Rattle.text_laws.specs.laws.Numerals.{value-decimal, read-int}
 use Rattle.text_laws.specs.laws.Rows.{index-below, row-length}
 use Rattle.text_laws.specs.laws.Words.{capital-range}
 use Rattle.term_head.specs.Standing.{kindOf, leafWord, signKind}
-use Rattle.term_head.specs.laws.Digits.{dec-digits}
+use Rattle.term_head.specs.laws.Digits.{decimal-digits}
 use Rattle.term_build.specs.Leaves.{fit, IsInteger, OneLeaf, LeafMade, orZero, integerOf}
 
 -- ---- integers
 int-some : (z : ℤ) → 0 < length (writeInt z)
-int-some (pos n) = dec-digits n .some
+int-some (pos n) = decimal-digits n .some
 int-some (negsuc n) = omega arith
 
 pub integer-some : {w : List ℕ} → IsInteger w → 0 < length w
@@ -46,16 +45,16 @@ module _ {w : List ℕ} (i : IsInteger w) where
   below-digits f = go (i .z) (i .is)
     where
       go : (z : ℤ) → w ≡ writeInt z → all digit (drop 1 w) ≡ true
-      go (pos n) e = absurd (omega (arith, f, ap (λ l. getD l 0 0) e, dec-digits n .first))
-      go (negsuc n) e = ap (λ l. all digit (drop 1 l)) e ∙ dec-digits (suc n) .digits
+      go (pos n) e = absurd (omega (arith, f, ap (λ l. getD l 0 0) e, decimal-digits n .first))
+      go (negsuc n) e = ap (λ l. all digit (drop 1 l)) e ∙ decimal-digits (suc n) .digits
 
   pub residue-below : (v : ℕ) → getD w 0 0 ≡ 45 → v ≡ min (valueFrom 0 (drop 1 w)) 1073741823 → Remainder (2147483647 - v) w
   residue-below v f q = go (i .z) (i .is) (i .small) is-int
     where
       go : (z : ℤ) → w ≡ writeInt z → natAbs z ≤ 1073741823 → integerOf w ≡ int (redℤ prime prime-pos z) → Remainder (2147483647 - v) w
-      go (pos n) e s j = absurd (omega (arith, f, ap (λ l. getD l 0 0) e, dec-digits n .first))
+      go (pos n) e s j = absurd (omega (arith, f, ap (λ l. getD l 0 0) e, decimal-digits n .first))
       go (negsuc n) e s j =
-          let k : v ≡ suc n = q ∙ ap (λ l. min (valueFrom 0 (drop 1 l)) 1073741823) e ∙ ap (λ m. min m 1073741823) (value-dec (suc n)) ∙ small-min (suc n) s in
+          let k : v ≡ suc n = q ∙ ap (λ l. min (valueFrom 0 (drop 1 l)) 1073741823) e ∙ ap (λ m. min m 1073741823) (value-decimal (suc n)) ∙ small-min (suc n) s in
           let m : v ≡ suc n % prime = k ∙ sym (NatL.mod-eq-of-lt (omega arith)) in
           (omega (arith, k), ap (λ m. int (red prime prime-pos (2147483647 - m))) m ∙ sym j)
 
@@ -64,7 +63,7 @@ module _ {w : List ℕ} (i : IsInteger w) where
   natural-digits f = go (i .z) (i .is)
     where
       go : (z : ℤ) → w ≡ writeInt z → all digit w ≡ true
-      go (pos n) e = ap (all digit) e ∙ dec-digits n .digits
+      go (pos n) e = ap (all digit) e ∙ decimal-digits n .digits
       go (negsuc n) e = absurd (f (ap (λ l. getD l 0 0) e))
 
   pub residue-natural : (v : ℕ) → (getD w 0 0 ≡ 45 → ⊥) → v ≡ min (valueFrom 0 w) 1073741823 → Remainder v w
@@ -72,7 +71,7 @@ module _ {w : List ℕ} (i : IsInteger w) where
     where
       go : (z : ℤ) → w ≡ writeInt z → natAbs z ≤ 1073741823 → integerOf w ≡ int (redℤ prime prime-pos z) → Remainder v w
       go (pos n) e s j =
-          let k : v ≡ n = q ∙ ap (λ l. min (valueFrom 0 l) 1073741823) e ∙ ap (λ m. min m 1073741823) (value-dec n) ∙ small-min n s in
+          let k : v ≡ n = q ∙ ap (λ l. min (valueFrom 0 l) 1073741823) e ∙ ap (λ m. min m 1073741823) (value-decimal n) ∙ small-min n s in
           (omega (arith, k), ap (λ m. int (red prime prime-pos m)) k ∙ sym j)
       go (negsuc n) e s j = absurd (f (ap (λ l. getD l 0 0) e))
 
@@ -83,7 +82,7 @@ no-sign sub h = absurd (omega arith)
 no-sign mul h = absurd (omega arith)
 
 int-no-capital : (z : ℤ) → capital (getD (writeInt z) 0 0) ≡ true → ⊥
-int-no-capital (pos n) e = omega (arith, capital-range (getD (dec n) 0 0) e .0, dec-digits n .last)
+int-no-capital (pos n) e = omega (arith, capital-range (getD (decimal n) 0 0) e .0, decimal-digits n .last)
 int-no-capital (negsuc n) e = omega (arith, capital-range 45 e .0)
 
 module _ {row w : List ℕ} {l : ℕ} (o : OneLeaf row w l) where

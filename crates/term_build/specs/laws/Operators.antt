@@ -6,8 +6,9 @@ use Prim.Native.Nat.{ℕ, zero, suc, _+_, _-_, _≤_, _<_, min}
 use native.Mathlib.Omega.{arith}
 use borrow.Author.Tests.{leb-true}
 use lib.ListN.{length, take}
-use Rattle.horner.specs.definitions.Residues.{redℤ, prime, prime-pos}
-use Rattle.horner.specs.definitions.Term.{Over, normP}
+use Rattle.horner.specs.definitions.Rings.{redℤ, prime, prime-pos}
+use Rattle.horner.specs.laws.Within.{Over}
+use Rattle.horner.specs.definitions.Term.{normP}
 use Rattle.code.specs.Coding.{enc, dec, Codes, Coded, Begins, Made}
 use Rattle.code.specs.Operations.{sumOf, negateOf}
 use Rattle.code.specs.laws.Codes.{dec-enc, coded}
@@ -17,9 +18,8 @@ use Rattle.code_room.specs.laws.Tables.{tables-for}
 use Rattle.code_room.specs.laws.Terms.{terms-fit}
 use Rattle.code_power.specs.Raise.{raiseOf, Raising}
 use Rattle.code_power.specs.laws.Terms.{term-raising}
-use Rattle.text.specs.definitions.Bytes.{isRow}
-use Rattle.text.specs.definitions.Parts.{itself, in-right}
-use Rattle.text.specs.definitions.Tokens.{Token, closing}
+use Rattle.text.specs.definitions.Bytes.{isRow, Token, closing}
+use Rattle.text.specs.definitions.Meaning.{itself, in-right}
 use Rattle.text.specs.definitions.Tree.{Sign, add, sub, mul, Tree, num, letter, neg, two, power, placed, termOf, letters}
 use Rattle.text_laws.specs.laws.Bytes.{and-r}
 use Rattle.text_laws.specs.laws.Rows.{row-length}

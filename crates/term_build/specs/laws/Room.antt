@@ -7,12 +7,13 @@ use native.Mathlib.Nat as NatL
 use native.Mathlib.Omega.{arith}
 use lib.ListN.{length}
 use Rattle.horner.specs.definitions.Measures.{multiples, maxs, sums, box, boxOf, degreesOf, termsOf}
-use Rattle.horner.specs.definitions.Term.{Term, expt, Over}
+use Rattle.horner.specs.laws.Within.{Over}
+use Rattle.horner.specs.definitions.Term.{Term, expt}
 use Rattle.horner.specs.laws.Degree.{maxs-left, maxs-right}
 use Rattle.horner.specs.laws.Limits.{length-degreesOf, termsOf-pos}
 use Rattle.code_room.specs.laws.Lists.{box-below, sums-left, sums-right}
 use Rattle.code_power.specs.laws.Raise.{below-multiples, power-pos}
-use Rattle.text.specs.definitions.Parts.{Part, itself, in-neg, in-left, in-right, in-base, Fits}
+use Rattle.text.specs.definitions.Meaning.{Part, itself, in-neg, in-left, in-right, in-base, Fits}
 use Rattle.text.specs.definitions.Tree.{Sign, add, sub, mul, Tree, num, letter, neg, two, power, termOf, letters, nesting}
 use Rattle.text_laws.specs.laws.Bytes.{and-l, and-r}
 use Rattle.text_laws.specs.laws.Rows.{letters-over}

@@ -7,12 +7,10 @@ use Prim.Native.Nat.{ℕ}
 use native.Mathlib.Omega.{arith}
 use lib.IntN.{ℤ}
 use lib.ListN.{length}
-use Rattle.text.specs.definitions.Bytes.{bytes, capital, inRow}
-use Rattle.text.specs.definitions.Numerals.{dec, writeInt, readInt, valueFrom}
-use Rattle.text.specs.definitions.Tokens.{Token, opening, closing, word}
+use Rattle.text.specs.definitions.Bytes.{bytes, capital, inRow, decimal, writeInt, readInt, valueFrom, Token, opening, closing, word}
 use Rattle.text.specs.definitions.Tree.{Sign, add, sub, mul, signText, Tree, num, letter, neg, two, power, placed, letters}
 use Rattle.text_laws.specs.laws.Bytes.{and-l, and-r}
-use Rattle.text_laws.specs.laws.Numerals.{no-none, read-int, value-dec}
+use Rattle.text_laws.specs.laws.Numerals.{no-none, read-int, value-decimal}
 use Rattle.text_laws.specs.laws.Words.{capital-no-int}
 use Rattle.term_build.specs.Leaves.{fit}
 
@@ -36,8 +34,8 @@ some-inj {A} {a} {b} e = let i : a ≡ b = cc in i
 int-same : (z y : ℤ) → writeInt z ≡ writeInt y → z ≡ y
 int-same z y e = some-inj (sym (read-int z) ∙ ap readInt e ∙ read-int y)
 
-dec-same : (m n : ℕ) → dec m ≡ dec n → m ≡ n
-dec-same m n e = sym (value-dec m) ∙ ap (valueFrom 0) e ∙ value-dec n
+decimal-same : (m n : ℕ) → decimal m ≡ decimal n → m ≡ n
+decimal-same m n e = sym (value-decimal m) ∙ ap (valueFrom 0) e ∙ value-decimal n
 
 int-letter : {P : Type 0} (z : ℤ) (b : ℕ) → capital b ≡ true → writeInt z ≡ b ∷ [] → P
 int-letter z b c e = no-none (sym (capital-no-int b c) ∙ ap readInt (sym e) ∙ read-int z)
@@ -145,11 +143,11 @@ module _ (row : List ℕ) where
   same-term (power p a b x v m) (two q o c g y w) r r′ i j e = sign-expt g (sym (heads e .words))
   same-term (power p a b x v m) (power q o c y w n) r r′ i j e =
       let h = heads e in
-      let k = same-term x y (word v (dec m) ∷ closing b ∷ r) (word w (dec n) ∷ closing c ∷ r′) i j
-      (sym (after-one x (word v (dec m) ∷ closing b ∷ []) r) ∙ h .behind ∙ after-one y (word w (dec n) ∷ closing c ∷ []) r′) in
+      let k = same-term x y (word v (decimal m) ∷ closing b ∷ r) (word w (decimal n) ∷ closing c ∷ r′) i j
+      (sym (after-one x (word v (decimal m) ∷ closing b ∷ []) r) ∙ h .behind ∙ after-one y (word w (decimal n) ∷ closing c ∷ []) r′) in
       let l = k .1 in
       let d : v ≡ w = cc in
-      let f : dec m ≡ dec n = cc in
+      let f : decimal m ≡ decimal n = cc in
       let t : closing b ∷ r ≡ closing c ∷ r′ = cc in
       let u = ends t in
-      (rw (h .starts, h .places, u .0, k .0, d, dec-same m n f), u .1)
+      (rw (h .starts, h .places, u .0, k .0, d, decimal-same m n f), u .1)

@@ -4,8 +4,9 @@ use native.Mathlib.Nat as NatL
 use native.Mathlib.Omega.{arith}
 use lib.ListN.{length}
 use Rattle.horner.specs.definitions.Measures.{multiples, boxOf, degreesOf, termsOf}
-use Rattle.horner.specs.definitions.Residues.{redℤ, prime, prime-pos}
-use Rattle.horner.specs.definitions.Term.{Term, num, var, minus, plus, diff, times, expt, Over, normP}
+use Rattle.horner.specs.definitions.Rings.{redℤ, prime, prime-pos}
+use Rattle.horner.specs.laws.Within.{Over}
+use Rattle.horner.specs.definitions.Term.{Term, num, var, minus, plus, diff, times, expt, normP}
 use Rattle.horner.specs.laws.Count.{box-pos}
 use Rattle.horner.specs.laws.Limits.{termsOf-pos}
 use Rattle.horner.specs.laws.Room.{words-count, words-box}

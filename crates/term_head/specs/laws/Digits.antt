@@ -6,10 +6,9 @@ use Prim.Native.Nat.{ℕ, zero, suc, _≤_, _<_}
 use native.Mathlib.Omega.{arith}
 use borrow.Author.Tests.{eqb-false}
 use lib.ListN.{length, getD}
-use Rattle.text.specs.definitions.Bytes.{digit, all}
-use Rattle.text.specs.definitions.Numerals.{dec}
+use Rattle.text.specs.definitions.Bytes.{digit, all, decimal}
 use Rattle.text_laws.specs.laws.Bytes.{and-i, digit-range}
-use Rattle.text_laws.specs.laws.Numerals.{Leading, leading-dec, dec-short}
+use Rattle.text_laws.specs.laws.Numerals.{Leading, leading-decimal, decimal-short}
 
 pub record Digits (w : List ℕ) : Type 0 where
   pub some : 0 < length w
@@ -25,13 +24,13 @@ of-leading (x ∷ w) l =
 of-zero : (w : List ℕ) → w ≡ 48 ∷ [] → Digits w
 of-zero w e = subst Digits (sym e) (record { some = omega arith; first = omega arith; last = omega arith; digits = refl })
 
-pub dec-zero : dec 0 ≡ 48 ∷ []
-dec-zero = dec-short 0 (omega arith)
+pub decimal-zero : decimal 0 ≡ 48 ∷ []
+decimal-zero = decimal-short 0 (omega arith)
 
-pub dec-digits : (n : ℕ) → Digits (dec n)
-dec-digits zero = of-zero (dec 0) dec-zero
-dec-digits (suc n) = of-leading (dec (suc n)) (leading-dec n) .0
+pub decimal-digits : (n : ℕ) → Digits (decimal n)
+decimal-digits zero = of-zero (decimal 0) decimal-zero
+decimal-digits (suc n) = of-leading (decimal (suc n)) (leading-decimal n) .0
 
 -- only 0 begins with 0
-pub dec-more : (n : ℕ) → getD (dec (suc n)) 0 0 ≡ 48 → ⊥
-dec-more n = of-leading (dec (suc n)) (leading-dec n) .1
+pub decimal-more : (n : ℕ) → getD (decimal (suc n)) 0 0 ≡ 48 → ⊥
+decimal-more n = of-leading (decimal (suc n)) (leading-decimal n) .1

@@ -6,17 +6,15 @@ use Prim.Native.Nat.{ℕ, zero, suc, _+_, _-_, _≤_, _<_, min}
 use native.Mathlib.Omega.{arith}
 use lib.ListN.{length, take, drop, getD}
 use lib.Seq.{getD-take, getD-drop}
-use Rattle.text.specs.definitions.Bytes.{digit, all}
-use Rattle.text.specs.definitions.Numerals.{dec, valueFrom}
-use Rattle.text.specs.definitions.Tokens.{Token, closing, word}
+use Rattle.text.specs.definitions.Bytes.{digit, all, decimal, valueFrom, Token, closing, word}
 use Rattle.text.specs.definitions.Tree.{Sign, add, sub, mul, Tree, num, letter, neg, two, power, placed}
-use Rattle.text_laws.specs.laws.Numerals.{value-dec}
+use Rattle.text_laws.specs.laws.Numerals.{value-decimal}
 use Rattle.term_token.specs.declared.Reader.{Reader}
 use Rattle.term_token.specs.declared.Step.the-variants.{Word}
 use Rattle.term_token.specs.Steps.{stepOf}
 use Rattle.term_token.specs.Views.{from, Worded}
 use Rattle.term_head.specs.Standing.{kindOf, signKind, inner, isZero, zeroPower, Onto, Passed, Skipped, Zeroed, Raised, ExponentRead}
-use Rattle.term_head.specs.laws.Digits.{dec-zero, dec-digits, dec-more}
+use Rattle.term_head.specs.laws.Digits.{decimal-zero, decimal-digits, decimal-more}
 use Rattle.term_head.specs.laws.Reading.{told}
 
 module _ (s : List ℕ) (at : ℕ) (l : at ≤ length s) (f : ℕ) (nx : Reader) (e : stepOf (from s at) ≡ Word f nx) where
@@ -33,12 +31,12 @@ module _ (s : List ℕ) (at : ℕ) (l : at ≤ length s) (f : ℕ) (nx : Reader)
       (j, record { tokens = m; later = omega (arith, o .past .later, o .past .more); inside = o .past .inside })
 
   pub exponent-digits : Raised s at → all digit W ≡ true
-  exponent-digits r = ap (all digit) (word-here (r .tokens) .0) ∙ dec-digits (r .n) .digits
+  exponent-digits r = ap (all digit) (word-here (r .tokens) .0) ∙ decimal-digits (r .n) .digits
 
   pub exponent-is : (v : ℕ) → v ≡ min (valueFrom 0 W) 63 → ExponentRead s at v (nx .at)
   exponent-is v q p n ks h =
       let i = word-here h in
-      (q ∙ ap (λ w. min (valueFrom 0 w) 63) (i .0) ∙ ap (λ m. min m 63) (value-dec n), i .1)
+      (q ∙ ap (λ w. min (valueFrom 0 w) 63) (i .0) ∙ ap (λ m. min m 63) (value-decimal n), i .1)
 
 -- ---- behind the operator
 no-sign : {P : Type 0} (g : Sign) → 4 ≡ signKind g → P
@@ -62,7 +60,7 @@ pub record Exponent (s : List ℕ) (at q : ℕ) (x : Tree) (rest : List Token) :
   pub place : ℕ
   pub n : ℕ
   pub c : ℕ
-  pub tokens : from s q ≡ word place (dec n) ∷ closing c ∷ rest
+  pub tokens : from s q ≡ word place (decimal n) ∷ closing c ∷ rest
   pub is : zeroPower x ≡ isZero n
 
 behind-base : (s : List ℕ) (at q : ℕ) → Skipped s at q → (x : Tree) (rest : List Token) → from s at ≡ inner x ++ rest → 4 ≡ kindOf x → Exponent s at q x rest
@@ -71,12 +69,12 @@ behind-base s at q k (letter p b) rest h e = absurd (omega arith)
 behind-base s at q k (neg p o c x) rest h e = absurd (omega arith)
 behind-base s at q k (two p o c g x y) rest h e = no-sign g e
 behind-base s at q k (power p o c x v n) rest h e =
-    record { place = v; n = n; c = c; tokens = k .2 x (word v (dec n) ∷ closing c ∷ rest) (h ∙ append-assoc (placed x) (word v (dec n) ∷ closing c ∷ []) rest); is = refl }
+    record { place = v; n = n; c = c; tokens = k .2 x (word v (decimal n) ∷ closing c ∷ rest) (h ∙ append-assoc (placed x) (word v (decimal n) ∷ closing c ∷ []) rest); is = refl }
 
 module _ (s : List ℕ) (at q : ℕ) (k : Skipped s at q) where
   -- no word there: no power by 0 (nor any term)
   pub zero-no-word : ((p : ℕ) (w : List ℕ) (ks : List Token) → from s q ≡ word p w ∷ ks → ⊥) → Zeroed s 4 at 0
-  zero-no-word n x rest h e = let b = behind-base s at q k x rest h e in absurd (n (b .place) (dec (b .n)) (closing (b .c) ∷ rest) (b .tokens))
+  zero-no-word n x rest h e = let b = behind-base s at q k x rest h e in absurd (n (b .place) (decimal (b .n)) (closing (b .c) ∷ rest) (b .tokens))
 
   module _ (f : ℕ) (nx : Reader) (e : stepOf (from s q) ≡ Word f nx) where
     -- the word's first byte
@@ -96,7 +94,7 @@ module _ (s : List ℕ) (at q : ℕ) (k : Skipped s at q) where
     pub zero-more : (getD s f 0 ≡ 48 → ⊥) → Zeroed s 4 at 0
     zero-more n x rest h d =
         let b = behind-base s at q k x rest h d in
-        record { no = λ z. b .is ∙ more (b .n) (λ i. n (first-byte (b .tokens) ∙ ap (λ m. getD (dec m) 0 0) i ∙ ap (λ v. getD v 0 0) dec-zero)); yes = λ z. absurd (z refl) }
+        record { no = λ z. b .is ∙ more (b .n) (λ i. n (first-byte (b .tokens) ∙ ap (λ m. getD (decimal m) 0 0) i ∙ ap (λ v. getD v 0 0) decimal-zero)); yes = λ z. absurd (z refl) }
       where
         more : (m : ℕ) → (m ≡ 0 → ⊥) → isZero m ≡ false
         more zero g = absurd (g refl)
@@ -109,7 +107,7 @@ module _ (s : List ℕ) (at q : ℕ) (k : Skipped s at q) where
         let o = p .yes (b .c) rest (i .1 .tokens) in
         record {
           no = λ z. absurd (omega (arith, z, o .later));
-          yes = λ z. (b .is ∙ none (b .n) (λ m g. dec-more m (ap (λ j. getD (dec j) 0 0) (sym g) ∙ sym (first-byte (b .tokens)) ∙ y)), record { tokens = o .tokens; later = omega (arith, k .0, i .1 .later, o .later); inside = o .inside });
+          yes = λ z. (b .is ∙ none (b .n) (λ m g. decimal-more m (ap (λ j. getD (decimal j) 0 0) (sym g) ∙ sym (first-byte (b .tokens)) ∙ y)), record { tokens = o .tokens; later = omega (arith, k .0, i .1 .later, o .later); inside = o .inside });
         }
       where
         none : (m : ℕ) → ((j : ℕ) → m ≡ suc j → ⊥) → isZero m ≡ true

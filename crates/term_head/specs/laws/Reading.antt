@@ -4,9 +4,7 @@ use mathlib.Core.Path.{_≡_, refl, sym, ap, _∙_, subst}
 use Prim.Native.Nat.{ℕ, zero, suc, _+_, _-_, _≤_, _<_}
 use native.Mathlib.Omega.{arith}
 use lib.ListN.{length, take, drop}
-use Rattle.text.specs.definitions.Bytes.{bytes}
-use Rattle.text.specs.definitions.Numerals.{dec}
-use Rattle.text.specs.definitions.Tokens.{Token, opening, closing, word}
+use Rattle.text.specs.definitions.Bytes.{bytes, decimal, Token, opening, closing, word}
 use Rattle.text.specs.definitions.Tree.{Sign, add, sub, mul, signText, Tree, num, letter, neg, two, power, placed}
 use Rattle.term_token.specs.declared.Reader.{Reader}
 use Rattle.term_token.specs.declared.Step.{Step}
@@ -129,7 +127,7 @@ module _ (s : List ℕ) (at : ℕ) (l : at ≤ length s) where
           let i = r a (signText g) ((placed x ++ (placed y ++ (closing c ∷ []))) ++ rest) (behind h) in
           record { is-kind = i .0 ∙ sign-kind g; onto = further (i .1); word-is = λ z. no-sign g z }
       at-tree (power p a c x v w) rest h =
-          let i = r a (bytes "EXPT") ((placed x ++ (word v (dec w) ∷ closing c ∷ [])) ++ rest) (behind h) in
+          let i = r a (bytes "EXPT") ((placed x ++ (word v (decimal w) ∷ closing c ∷ [])) ++ rest) (behind h) in
           record { is-kind = i .0; onto = further (i .1); word-is = λ z. absurd (omega arith) }
 
   -- ---- a closing parenthesis
@@ -219,7 +217,7 @@ skips-term (two p o c g x y) rest d =
     ∙ skips-term x (placed y ++ (closing c ∷ rest)) (suc d)
     ∙ skips-term y (closing c ∷ rest) (suc d)
 skips-term (power p o c x q n) rest d =
-    ap (λ ks. skips ks (suc (suc d))) (append-assoc (placed x) (word q (dec n) ∷ closing c ∷ []) rest) ∙ skips-term x (word q (dec n) ∷ closing c ∷ rest) (suc d)
+    ap (λ ks. skips ks (suc (suc d))) (append-assoc (placed x) (word q (decimal n) ∷ closing c ∷ []) rest) ∙ skips-term x (word q (decimal n) ∷ closing c ∷ rest) (suc d)
 
 pub skip-term : (x : Tree) (rest : List Token) → skipOne (placed x ++ rest) 0 ≡ rest
 skip-term (num p z) rest = skips-none rest
@@ -231,4 +229,4 @@ skip-term (two p o c g x y) rest =
     ∙ skips-term y (closing c ∷ rest) 0
     ∙ skips-none rest
 skip-term (power p o c x q n) rest =
-    ap (λ ks. skips ks 1) (append-assoc (placed x) (word q (dec n) ∷ closing c ∷ []) rest) ∙ skips-term x (word q (dec n) ∷ closing c ∷ rest) 0 ∙ skips-none rest
+    ap (λ ks. skips ks 1) (append-assoc (placed x) (word q (decimal n) ∷ closing c ∷ []) rest) ∙ skips-term x (word q (decimal n) ∷ closing c ∷ rest) 0 ∙ skips-none rest

@@ -6,8 +6,7 @@ use Prim.Native.Nat.{ℕ}
 use native.Mathlib.Omega.{arith}
 use lib.Seq.{take-append-le}
 use Rattle.refusal.specs.declared.Fault.{Fault}
-use Rattle.text.specs.definitions.Answer.{Reading, read, refused}
-use Rattle.text.specs.definitions.Bytes.{isRow}
+use Rattle.text.specs.definitions.Bytes.{Reading, read, refused, isRow}
 use Rattle.text.specs.definitions.Limits.{acceptTerm}
 use Rattle.text.specs.definitions.Tree.{Tree, termOf}
 use Rattle.horner.specs.definitions.Term.{normP}
@@ -42,7 +41,15 @@ pub long-lent : {a b c d : ℕ} → a ≡ 16384 → b ≡ 16384 → c ≡ 16384 
 long-lent h i j k =
     record {
       stack = omega arith;
-      tables = record { first = omega arith; second = omega arith; third = omega arith; first-small = omega arith; second-small = omega arith; third-small = omega arith };
+      tables =
+          record {
+            first = omega arith;
+            second = omega arith;
+            third = omega arith;
+            first-small = omega arith;
+            second-small = omega arith;
+            third-small = omega arith;
+          };
     }
 
 -- ---- what was read, by the enum
@@ -53,7 +60,8 @@ pub read-form : {row s : List ℕ} {l : List ℕ} {n : ℕ} {r : TermReading} �
 read-form h (refusal bad a i) = no-form (sym h ∙ i)
 read-form {n = n} h (form m t i) = let e : m ≡ n = cc in rw e at t
 
-pub read-refusal : {row s : List ℕ} {l : List ℕ} {bad : Fault} {r : TermReading} → r ≡ Refused bad → TermRead row s r l → acceptTerm row s ≡ refused bad
+pub read-refusal :
+    {row s : List ℕ} {l : List ℕ} {bad : Fault} {r : TermReading} → r ≡ Refused bad → TermRead row s r l → acceptTerm row s ≡ refused bad
 read-refusal h (form n t i) = no-form (sym i ∙ h)
 read-refusal {bad = bad} h (refusal worse a i) = let j : worse ≡ bad = cc in a ∙ ap refused j
 

@@ -1,6 +1,6 @@
 -- `term_syntax::close` meets its contract, test by test.
 use borrow.Author.Needs.{needs}
-use borrow.Author.Tests.{eq-eqb, ne-eqb, lt-ltb, le-ltb}
+use borrow.Author.Tests.{eq-eqb, ne-eqb}
 use Rattle.text_laws.specs.laws.Picks.{pick-yes, pick-no}
 use mathlib.Core.Path.{sym, _∙_}
 use native.Mathlib.Omega.{arith}

@@ -1,6 +1,6 @@
 -- `term_syntax::ending` meets its contract, case by case.
 use borrow.Author.Needs.{needs}
-use mathlib.Core.Path.{_≡_, sym, ap, _∙_}
+use mathlib.Core.Path.{sym, _∙_}
 use denote.Ref.{now}
 use Rattle.term_syntax.specs.Turns.{end-end, end-open, end-close, end-word}
 use Rattle.term_syntax.proofs.ending.Statement.{statement}

@@ -1,6 +1,6 @@
 -- `term_syntax::judge_term` meets its contract. The invariant: the machine follows the reading, and what is left to read gives the whole answer.
-use mathlib.Core.Path.{_≡_, sym, ap, _∙_}
-use Prim.Native.Nat.{ℕ, _-_}
+use mathlib.Core.Path.{sym, ap, _∙_}
+use Prim.Native.Nat.{_-_}
 use native.Mathlib.Omega.{arith}
 use lib.ListN.{length}
 use denote.Ref.{now}

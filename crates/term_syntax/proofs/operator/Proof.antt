@@ -1,6 +1,6 @@
 -- `term_syntax::operator` meets its contract, test by test.
 use borrow.Author.Needs.{needs}
-use borrow.Author.Tests.{eq-eqb, ne-eqb, lt-ltb, le-ltb}
+use borrow.Author.Tests.{eq-eqb, ne-eqb}
 use Rattle.text_laws.specs.laws.Picks.{pick-yes, pick-no}
 use Rattle.term_syntax.specs.Machine.{pushC}
 use mathlib.Core.Path.{sym, ap, _∙_}

@@ -1,6 +1,6 @@
 -- `term_syntax::turn_of` meets its contract, case by case.
 use borrow.Author.Needs.{needs}
-use mathlib.Core.Path.{_≡_, sym, ap, _∙_}
+use mathlib.Core.Path.{sym, ap}
 use Rattle.term_syntax.specs.Machine.{turnOf}
 use Rattle.term_syntax.proofs.turn_of.Statement.{statement}
 use Rattle.term_syntax.proofs.turn_of.Tie as tie

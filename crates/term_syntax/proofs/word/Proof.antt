@@ -1,8 +1,8 @@
 -- `term_syntax::word` meets its contract, test by test.
 use borrow.Author.Needs.{needs}
-use borrow.Author.Tests.{eq-eqb, ne-eqb, lt-ltb, le-ltb, not-true, not-false}
+use borrow.Author.Tests.{eq-eqb, ne-eqb, not-true, not-false}
 use Rattle.text_laws.specs.laws.Picks.{pick-yes, pick-no}
-use mathlib.Core.Path.{_≡_, sym, ap, _∙_}
+use mathlib.Core.Path.{sym, _∙_}
 use Rattle.term_syntax.proofs.word.Statement.{statement}
 use Rattle.term_syntax.proofs.word.Tie as tie
 

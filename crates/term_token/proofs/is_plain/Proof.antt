@@ -1,5 +1,5 @@
 -- `term_token::is_plain` meets its contract, test by test.
-use mathlib.Core.Path.{_≡_, sym, ap, _∙_}
+use mathlib.Core.Path.{_≡_, sym, _∙_}
 use mathlib.Core.Bool.{Bool, true, false, not, _&&_}
 use lib.Dec.{eqb}
 use borrow.Author.Needs.{needs}
@@ -21,9 +21,6 @@ second a b c p q = simp (p, q)
 last : (a b c : Bool) → a ≡ false → b ≡ false → not c ≡ with a b c
 last a b c p q = simp (p, q)
 
-is-blank-requires : tie.Need-is-blank-requires
-is-blank-requires c κs = search needs
-
 returns : tie.Need-returns
 returns c =
     let b = c .before .before .args .b in
@@ -40,4 +37,4 @@ returns-3 c =
     last (blank b) (eqb b 40) (eqb b 41) (sym (c .before .before .is-blank .ensures) ∙ c .before .if1 .left) (ne-eqb _ _ (c .if2 .left))
 
 pub is-plain-spec : {M : Type 1} → statement M
-is-plain-spec = tie.close (tie.spec is-blank-requires returns returns-2 returns-3)
+is-plain-spec = tie.close (tie.spec (λ c κs. search needs) returns returns-2 returns-3)

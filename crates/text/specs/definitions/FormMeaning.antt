@@ -6,12 +6,10 @@ use Prim.Native.Nat.{ℕ, suc, pred, _+_, _≤_, _<_}
 use lib.Dec.{eqb}
 use lib.IntN.{ℤ}
 use lib.ListN.{length}
-use Rattle.horner.specs.definitions.Form.{Form}
-use Rattle.horner.specs.definitions.Integers.{ℤ-ring}
+use Rattle.horner.specs.definitions.Form.{Form, Normal}
+use Rattle.horner.specs.definitions.Rings.{ℤ-ring}
 use Rattle.horner.specs.definitions.Measures.{AllLe, degrees, weight, terms, nest}
-use Rattle.horner.specs.definitions.Normal.{Normal}
-use Rattle.text.specs.definitions.FormJudging.{Node, nodes, stands}
-use Rattle.text.specs.definitions.FormText.{text}
+use Rattle.text.specs.definitions.FormReading.{Node, nodes, stands, text}
 
 -- s is the text of the form f (text_laws/FormReading, reads: exactly then it is read as f)
 pub record IsFormText (s : List ℕ) (f : Form ℤ) : Type 0 where
@@ -36,9 +34,10 @@ pub record Begun (bs : List ℕ) : Type 0 where
 -- how many parentheses are open behind the bytes, d being open before them
 abbrev pub openAfter : ℕ → List ℕ → ℕ
 openAfter d [] = d
-openAfter d (b ∷ bs) = elim (eqb b 40) [ true ↦ openAfter (suc d) bs | false ↦ elim (eqb b 41) [ true ↦ openAfter (pred d) bs | false ↦ openAfter d bs ] ]
+openAfter d (b ∷ bs) =
+    elim (eqb b 40) [ true ↦ openAfter (suc d) bs | false ↦ elim (eqb b 41) [ true ↦ openAfter (pred d) bs | false ↦ openAfter d bs ] ]
 
--- no parenthesis among them is opened beyond the limit, d being open before: where a refusal stands behind them, it is "at the earliest place"
+-- no parenthesis among them is opened beyond the limit, d being open before: a refusal behind them is "at the earliest place"
 abbrev pub Clean : ℕ → ℕ → List ℕ → Type 0
 Clean limit d [] = Unit {0}
 Clean limit d (b ∷ bs) = (b ≡ 40 → d < limit) × Clean limit (openAfter d (b ∷ [])) bs
@@ -70,7 +69,7 @@ pub record TooDeep (limit : ℕ) (s : List ℕ) (p : ℕ) : Type 0 where
   pub open-before : limit ≤ openAfter 0 before
   pub begun : Begun (before ++ (40 ∷ []))
 
--- The refusals of a form's text before it is judged: "3; then 4, .. 6 at the earliest place" (text_laws/FormExactly, refused-exactly: exactly then it is refused so)
+-- The refusals of a form's text before it is judged, "3; then 4, .. 6 at the earliest place": exactly these (text_laws/FormExactly)
 pub data RefusedAs (s : List ℕ) (e p : ℕ) : Type 0 where
   too-long : e ≡ 3 → p ≡ 0 → 65535 < length s → RefusedAs s e p
   no-form-so : e ≡ 4 → length s ≤ 65535 → FirstBad 256 s p → RefusedAs s e p
@@ -91,10 +90,3 @@ pub record WrongNode (m : ℕ) (f : Form ℤ) (p : ℕ) : Type 0 where
   pub place : p ≡ node .place
   pub stand : AllStand m before
   pub falls : stands m (node .level) (node .form) ≡ false
-
--- the node's text stands at its place in the text of f, which itself stands from p on
-pub record StandsAt (f : Form ℤ) (p : ℕ) (k : Node) : Type 0 where
-  pub before : List ℕ
-  pub behind : List ℕ
-  pub parts : text f ≡ before ++ (text (k .form) ++ behind)
-  pub place : k .place ≡ p + length before

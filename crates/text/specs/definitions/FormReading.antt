@@ -1,16 +1,32 @@
--- Reading the text of a form, byte by byte, with the open parentheses on a stack: as in Reading, a state knows what was read so far and nothing of what comes.
-use mathlib.Core.Bool.{Bool, true, false, _||_, cond}
+-- The text of a form, by writing it; reading it; and which of the forms that were read stand.
+use mathlib.Core.Bool.{Bool, true, false, _||_, cond, _&&_}
 use mathlib.Core.List.{List, [], _∷_, _++_}
 use mathlib.Core.Option.{Option, none, some}
-use Prim.Native.Nat.{ℕ, suc}
+use Prim.Native.Nat.{ℕ, suc, _+_}
 use lib.Dec.{eqb, leb, ltb}
 use lib.IntN.{ℤ}
 use lib.ListN.{length}
-use Rattle.horner.specs.definitions.Form.{Form, int, pop, pow}
-use Rattle.text.specs.definitions.Answer.{Reading, read, refusedAt, fine}
-use Rattle.text.specs.definitions.Bytes.{bytes, same}
-use Rattle.text.specs.definitions.Numerals.{canonical, readNat, readInt, isSome}
+use Rattle.horner.specs.definitions.Form.{Form, int, pop, pow, isPow, leads}
+use Rattle.horner.specs.definitions.Rings.{ℤ-ring}
+use Rattle.horner.specs.definitions.Measures.{weight, degrees, terms}
+use Rattle.text.specs.definitions.Bytes.{Reading, read, refusedAt, onward, fine, bytes, same, all, decimal, writeInt, canonical}
+use Rattle.text.specs.definitions.Bytes.{readNat, readInt, isSome}
 
+-- the bytes of (POP i p) and (POW i p q) before those of p: the name, i, and one space behind each
+abbrev pub popHead : ℕ → List ℕ
+popHead i = bytes "(POP " ++ (decimal i ++ (32 ∷ []))
+
+abbrev pub powHead : ℕ → List ℕ
+powHead i = bytes "(POW " ++ (decimal i ++ (32 ∷ []))
+
+-- "A form is an integer, `(POP i p)` or `(POW i p q)`, i an integer not below zero, one space between members, no other blanks, integers
+-- as above." "In a written POW the text of q is written right after the text of p and one space."
+abbrev pub text : Form ℤ → List ℕ
+text (int z) = writeInt z
+text (pop i p) = popHead i ++ (text p ++ (41 ∷ []))
+text (pow i p q) = powHead i ++ (text p ++ (32 ∷ text q ++ (41 ∷ [])))
+
+-- ---- reading, byte by byte, with the open parentheses on a stack: a state knows what was read so far and nothing of what comes
 -- an open parenthesis that waits for a form: `(POP i `, `(POW i `, `(POW i p `
 pub data Frame : Type 0 where
   inPop : ℕ → Frame
@@ -21,8 +37,8 @@ pub data Kind : Type 0 where
   popKind : Kind
   powKind : Kind
 
--- where the reading stands: before a form; within an integer or right behind it, w its bytes; behind `(` and the bytes w of `POP ` or `POW `; behind `(POP ` or
--- `(POW ` and the bytes w of i; right behind the `)` of a form
+-- where the reading stands: before a form; within an integer or right behind it, w its bytes; behind `(` and the bytes w of `POP ` or
+-- `POW `; behind `(POP ` or `(POW ` and the bytes w of i; right behind the `)` of a form
 pub data Spot : Type 0 where
   before : Spot
   number : (w : List ℕ) → Spot
@@ -67,7 +83,8 @@ abbrev pub step : Spot → List Frame → ℕ → Next
 step before fs b = elim (eqb b 40) [ true ↦ on (head []) fs | false ↦ cond (intBegun (b ∷ [])) (on (number (b ∷ [])) fs) off ]
 step (number w) fs b = cond (intBegun (w ++ (b ∷ []))) (on (number (w ++ (b ∷ []))) fs) (followInt (readInt w) fs b)
 step (head w) fs b = headWord (w ++ (b ∷ [])) fs
-step (index k w) fs b = elim (eqb b 32) [ true ↦ indexed k (readNat w) fs | false ↦ cond (canonical (w ++ (b ∷ []))) (on (index k (w ++ (b ∷ []))) fs) off ]
+step (index k w) fs b =
+    elim (eqb b 32) [ true ↦ indexed k (readNat w) fs | false ↦ cond (canonical (w ++ (b ∷ []))) (on (index k (w ++ (b ∷ []))) fs) off ]
 step (behind f) fs b = follow f fs b
 
 abbrev pub caseNext : {B : Type 0} → Next → B → (Spot → List Frame → B) → B
@@ -111,3 +128,50 @@ module _ (room : ℕ → Bool) where
 unfoldable pub readForm : List ℕ → Reading (Form ℤ)
 unfolding readNat readInt
 readForm s = elim (leb (length s) 65535) [ true ↦ run (λ d. ltb d 256) 0 before [] s | false ↦ refusedAt 3 0 ]
+
+-- ---- the normal ones within the limits
+-- a node: the form that begins at the place, standing at the level
+pub record Node : Type 0 where
+  pub level : ℕ
+  pub place : ℕ
+  pub form : Form ℤ
+
+-- The nodes of a form that stands at level l and place p, in order of finishing. "A form stands at a level, 0 at the outside. POP i puts p
+-- at the level plus i; POW leaves p at its level and puts q one higher." A place is the length of what is written before.
+abbrev pub nodes : ℕ → ℕ → Form ℤ → List Node
+nodes l p (int z) = record { level = l; place = p; form = int z } ∷ []
+nodes l p (pop i x) = nodes (l + i) (p + length (popHead i)) x ++ (record { level = l; place = p; form = pop i x } ∷ [])
+nodes l p (pow i x y) =
+    nodes l (p + length (powHead i)) x
+    ++ (nodes (suc l) (p + length (powHead i) + length (text x) + 1) y ++ (record { level = l; place = p; form = pow i x y } ∷ []))
+
+-- "It is normal when each POP has i of at least 1 and a POW inside; each POW stands at a level below the row's length, has i of at least
+-- 1, and its p is neither 0 nor `(POW j r 0)`." Over a row of m
+abbrev pub stands : ℕ → ℕ → Form ℤ → Bool
+stands m l (int z) = true
+stands m l (pop i x) = leb 1 i && isPow x
+stands m l (pow i x y) = ltb l m && leb 1 i && leads ℤ-ring x
+
+-- "For 7 .. the first offending node in order of finishing decides"
+abbrev pub firstWrong : ℕ → Reading (Form ℤ) → List Node → Reading (Form ℤ)
+firstWrong m r [] = r
+firstWrong m r (k ∷ ks) = elim (stands m (k .level) (k .form)) [ true ↦ firstWrong m r ks | false ↦ refusedAt 7 (k .place) ]
+
+-- "A form's measures are those of the polynomial itself"; the same limits, place "0 for forms"
+abbrev pub overLimit : ℕ → Form ℤ → ℕ
+overLimit m f =
+    elim (all (λ d. leb d 63) (degrees m f)) [
+      | true ↦ elim (leb (weight f) 1073741823) [ true ↦ elim (leb (terms ℤ-ring f) 256) [ true ↦ 0 | false ↦ 10 ] | false ↦ 9 ]
+      | false ↦ 8
+    ]
+
+abbrev pub formMeasured : ℕ → Form ℤ → Reading (Form ℤ)
+formMeasured m f = fine (overLimit m f) 0 (λ u. read f)
+
+abbrev pub formJudged : ℕ → Form ℤ → Reading (Form ℤ)
+formJudged m f = onward (firstWrong m (read f) (nodes 0 0 f)) (formMeasured m)
+
+-- a form's text, with all its refusals, over a row of m: "then 3; then 4, 5, 6 at the earliest place; then 7; then 8, 9, 10"
+unfoldable pub acceptForm : ℕ → List ℕ → Reading (Form ℤ)
+unfolding readForm
+acceptForm m s = onward (readForm s) (formJudged m)

@@ -1,12 +1,11 @@
--- The measures of every subterm, and the first that passes a limit.
+-- The measures of every subterm, and the first that is over a limit.
 use mathlib.Core.Bool.{Bool, true, false, _&&_}
 use mathlib.Core.List.{List, [], _∷_, _++_}
 use Prim.Native.Nat.{ℕ}
 use lib.Dec.{leb}
 use lib.ListN.{length}
 use Rattle.horner.specs.definitions.Measures.{weightOf, degreesOf, termsOf}
-use Rattle.text.specs.definitions.Answer.{Reading, read, refused, fine}
-use Rattle.text.specs.definitions.Bytes.{all}
+use Rattle.text.specs.definitions.Bytes.{Reading, read, onward, fine, all}
 use Rattle.text.specs.definitions.Reading.{readTerm}
 use Rattle.text.specs.definitions.Tree.{Tree, num, letter, neg, two, power, startOf, termOf}
 
@@ -37,10 +36,10 @@ weightFits row t = leb (weightOf (termOf row t)) 1073741823
 abbrev pub termsFit : List ℕ → Tree → Bool
 termsFit row t = leb (termsOf (length row) (termOf row t)) 256
 
--- 0, or the number of the refusal: "at one node .. the lower number wins". Where a limit is passed the later measures are not worked out: a power is taken only
--- with an exponent of at most 63 and, in order of finishing, of parts that are within the limits
-abbrev pub passes : List ℕ → Tree → ℕ
-passes row t =
+-- 0, or the number of the refusal: "at one node .. the lower number wins". Where a limit is passed the later measures are not worked out:
+-- a power is taken only with an exponent of at most 63 and, in order of finishing, of parts that are within the limits
+abbrev pub overLimit : List ℕ → Tree → ℕ
+overLimit row t =
     elim (powersFit row t) [
       | true ↦ elim (weightFits row t) [ true ↦ elim (termsFit row t) [ true ↦ 0 | false ↦ 10 ] | false ↦ 9 ]
       | false ↦ 8
@@ -49,16 +48,12 @@ passes row t =
 -- "for 8 to 10 together in terms, the first offending node in order of finishing decides"; its place is where the subterm begins
 abbrev pub firstPast : List ℕ → Reading Tree → List Tree → Reading Tree
 firstPast row r [] = r
-firstPast row r (t ∷ ts) = fine (passes row t) (startOf t) (λ u. firstPast row r ts)
+firstPast row r (t ∷ ts) = fine (overLimit row t) (startOf t) (λ u. firstPast row r ts)
 
 unfoldable pub measured : List ℕ → Tree → Reading Tree
 measured row t = firstPast row (read t) (finishing t)
 
-abbrev pub thenMeasured : List ℕ → Reading Tree → Reading Tree
-thenMeasured row (refused bad) = refused bad
-thenMeasured row (read t) = measured row t
-
 -- a term's text, with all its refusals: "then 3; then 4, 5, 6 at the earliest place; .. then 8, 9, 10"
 unfoldable pub acceptTerm : List ℕ → List ℕ → Reading Tree
 unfolding readTerm measured
-acceptTerm row s = thenMeasured row (readTerm row s)
+acceptTerm row s = onward (readTerm row s) (measured row)

@@ -1,6 +1,6 @@
--- Reading the text of a term, token by token, with the open parentheses on a stack: each token either leads to the next state or is refused where it stands.
--- A state knows all that was read so far and nothing of what comes, so "the first token such that no term begins with the tokens so far" can be proved of it
--- (text_laws/Refused), and a program follows it with a small number for the state and one for each open parenthesis, at most 16.
+-- Reading the text of a term, token by token, with the open parentheses on a stack. A state knows all that was read so far and nothing
+-- of what comes, so "the first token such that no term begins with the tokens so far" can be proved of it (text_laws/Refused), and a
+-- program follows it with a small number for the state and one for each open parenthesis, at most 16.
 use mathlib.Core.Bool.{Bool, true, false, _&&_, cond, not}
 use mathlib.Core.List.{List, [], _∷_}
 use mathlib.Core.Option.{Option, none, some}
@@ -8,10 +8,8 @@ use Prim.Native.Nat.{ℕ}
 use lib.Dec.{leb, ltb}
 use lib.IntN.{ℤ}
 use lib.ListN.{length}
-use Rattle.text.specs.definitions.Answer.{Reading, read, refusedAt, fine}
-use Rattle.text.specs.definitions.Bytes.{bytes, same, capital, inRow}
-use Rattle.text.specs.definitions.Numerals.{readNat, readInt}
-use Rattle.text.specs.definitions.Tokens.{Token, opening, closing, word, placeOf, tokens}
+use Rattle.text.specs.definitions.Bytes.{Reading, read, refusedAt, fine, bytes, same, capital, inRow, readNat, readInt, Token}
+use Rattle.text.specs.definitions.Bytes.{opening, closing, word, placeOf, tokens}
 use Rattle.text.specs.definitions.Tree.{Sign, add, sub, mul, Tree, num, letter, neg, two, power}
 
 -- an open parenthesis at p with the operator at o, which waits for an operand: `(g`, `(g x`, `(EXPT`
@@ -134,4 +132,5 @@ module _ (known room : ℕ → Bool) where
 -- "Limits: 4,096 bytes; 16 parentheses open at once." "then 3; then 4, 5, 6 at the earliest place"; at one token 4 comes first
 unfoldable pub readTerm : List ℕ → List ℕ → Reading Tree
 unfolding readNat readInt tokens
-readTerm row s = elim (leb (length s) 4096) [ true ↦ run (inRow row) (λ d. ltb d 16) (length s) operand [] (tokens 0 s) | false ↦ refusedAt 3 0 ]
+readTerm row s =
+    elim (leb (length s) 4096) [ true ↦ run (inRow row) (λ d. ltb d 16) (length s) operand [] (tokens 0 s) | false ↦ refusedAt 3 0 ]

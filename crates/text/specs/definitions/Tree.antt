@@ -4,9 +4,7 @@ use mathlib.Core.List.{List, [], _∷_, _++_}
 use Prim.Native.Nat.{ℕ, suc, max}
 use lib.IntN.{ℤ}
 use Rattle.horner.specs.definitions.Term.{Term, num as number, var, minus, plus, diff, times, expt}
-use Rattle.text.specs.definitions.Bytes.{bytes, indexIn}
-use Rattle.text.specs.definitions.Numerals.{dec, writeInt}
-use Rattle.text.specs.definitions.Tokens.{Token, opening, closing, word}
+use Rattle.text.specs.definitions.Bytes.{bytes, indexIn, decimal, writeInt, Token, opening, closing, word}
 
 pub data Sign : Type 0 where
   add : Sign
@@ -18,9 +16,9 @@ signText add = bytes "+"
 signText sub = bytes "-"
 signText mul = bytes "*"
 
--- "A term is an integer, a row letter, `(- x)`, `(+ x y)`, `(- x y)`, `(* x y)` or `(EXPT x n)`, n an integer token not below zero." A letter is its own byte, so
--- that it is known whether or not it is in the row. The numbers are places: p of an integer, a letter or a `(`, then o of the operator and c of the `)`; in `power`
--- the exponent n stands at q, which comes before it.
+-- "A term is an integer, a row letter, `(- x)`, `(+ x y)`, `(- x y)`, `(* x y)` or `(EXPT x n)`, n an integer token not below zero." A
+-- letter is its own byte, so that it is known whether or not it is in the row. The numbers are places: p of an integer, a letter or a `(`,
+-- then o of the operator and c of the `)`; in `power` the exponent n stands at q, which comes before it.
 pub data Tree : Type 0 where
   num : (p : ℕ) → ℤ → Tree
   letter : (p : ℕ) → ℕ → Tree
@@ -42,7 +40,7 @@ placed (num p z) = word p (writeInt z) ∷ []
 placed (letter p b) = word p (b ∷ []) ∷ []
 placed (neg p o c x) = opening p ∷ word o (signText sub) ∷ placed x ++ (closing c ∷ [])
 placed (two p o c g x y) = opening p ∷ word o (signText g) ∷ placed x ++ (placed y ++ (closing c ∷ []))
-placed (power p o c x q n) = opening p ∷ word o (bytes "EXPT") ∷ placed x ++ (word q (dec n) ∷ closing c ∷ [])
+placed (power p o c x q n) = opening p ∷ word o (bytes "EXPT") ∷ placed x ++ (word q (decimal n) ∷ closing c ∷ [])
 
 -- ---- the term itself, over a row
 abbrev pub signed : Sign → Term → Term → Term

@@ -1,15 +1,16 @@
--- What a program keeps of a state while it reads a form: where it stands, and what each open parenthesis waits for. text_laws/FormKinds: the refusals are the same.
+-- What a program keeps of a state while it reads a form: where it stands, and what each open parenthesis waits for. text_laws/FormKinds:
+-- the refusals are the same.
 use mathlib.Core.Bool.{Bool, true, false, _&&_, cond, not}
 use mathlib.Core.List.{List, [], _∷_}
 use Prim.Native.Nat.{ℕ, suc}
 use lib.Dec.{eqb, leb, ltb}
 use lib.ListN.{length}
-use Rattle.text.specs.definitions.Answer.{Reading, read, refused, refusedAt, fine}
-use Rattle.text.specs.definitions.Bytes.{bytes, same, digit}
-use Rattle.text.specs.definitions.FormReading.{Frame, inPop, inPow, inRest, Kind, popKind, powKind, Spot, before, number, head, index, behind}
+use Rattle.text.specs.definitions.Bytes.{Reading, read, refused, refusedAt, fine, bytes, same, digit}
+use Rattle.text.specs.definitions.FormReading.{Frame, inPop, inPow, inRest, Kind, popKind, powKind, Spot, before, number, head}
+use Rattle.text.specs.definitions.FormReading.{index, behind}
 
--- before a form; behind `-`; behind the integer `0`; behind other digits; behind `(`, `(P`, `(PO`, `(POP`, `(POW`; before i, behind an i that is `0`, behind other digits of
--- i; behind a `)`
+-- before a form; behind `-`; behind the integer `0`; behind other digits; behind `(`, `(P`, `(PO`, `(POP`, `(POW`; before i, behind an i
+-- that is `0`, behind other digits of i; behind a `)`
 pub data Stand : Type 0 where
   start : Stand
   sign : Stand
@@ -36,7 +37,9 @@ numberStand (x ∷ []) = cond (eqb x 45) sign (cond (eqb x 48) zeroInt digits)
 numberStand (x ∷ y ∷ w) = digits
 
 abbrev pub headStand : List ℕ → Stand
-headStand w = cond (same w (bytes "P")) openP (cond (same w (bytes "PO")) openPO (cond (same w (bytes "POP")) openPOP (cond (same w (bytes "POW")) openPOW open0)))
+headStand w =
+    cond (same w (bytes "P")) openP
+    (cond (same w (bytes "PO")) openPO (cond (same w (bytes "POP")) openPOP (cond (same w (bytes "POW")) openPOW open0)))
 
 abbrev pub indexStand : Kind → List ℕ → Stand
 indexStand k [] = before-i k

@@ -1,16 +1,16 @@
--- A term's text is accepted exactly when it is the text of a term and every subterm is within the limits; else the refusal is as document 01 orders them.
+-- A term's text is accepted exactly when it is the text of a term and every subterm is within the limits; else the refusal is as document
+-- 01 orders them.
 use mathlib.Core.List.{List}
 use mathlib.Core.Logic.{_↔_}
 use mathlib.Core.Path.{_≡_, refl, sym, ap, _∙_}
 use Prim.Native.Nat.{ℕ, suc}
 use native.Mathlib.Omega.{arith}
-use Rattle.text.specs.definitions.Answer.{Reading, read, refused, refusedAt}
-use Rattle.text.specs.definitions.Limits.{finishing, firstPast, measured, thenMeasured, acceptTerm}
-use Rattle.text.specs.definitions.Meaning.{IsTerm}
-use Rattle.text.specs.definitions.Parts.{Part, Fits, FirstOver}
+use Rattle.text.specs.definitions.Bytes.{onward, Reading, read, refused, refusedAt}
+use Rattle.text.specs.definitions.Limits.{finishing, firstPast, measured, acceptTerm}
+use Rattle.text.specs.definitions.Meaning.{IsTerm, Part, Fits, FirstOver}
 use Rattle.text.specs.definitions.Reading.{readTerm}
 use Rattle.text.specs.definitions.Tree.{Tree}
-use Rattle.text_laws.specs.laws.Measured.{parts-fit, fit-parts, all-pass, Past, none-over, one-over, past}
+use Rattle.text_laws.specs.laws.Measured.{parts-fit, fit-parts, all-within, Past, none-over, one-over, past}
 use Rattle.text_laws.specs.laws.Places.{refusal-parts}
 use Rattle.text_laws.specs.laws.Reading.{reads}
 use Rattle.text_laws.specs.laws.Sofar.{no-refusal}
@@ -23,13 +23,18 @@ module _ (row : List ℕ) (t : Tree) where
   -- the measuring lets a term through exactly when every subterm is within the limits
   pub measured-fits : (measured row t ≡ read t) ↔ ((y : Tree) → Part y t → Fits row y)
   unfolding measured
-  measured-fits = (fits-of (firstPast row (read t) (finishing t)) (past row t (finishing t)), λ h. all-pass row (read t) (finishing t) (fit-parts row t h))
+  measured-fits = (
+    fits-of (firstPast row (read t) (finishing t)) (past row t (finishing t)),
+    λ h. all-within row (read t) (finishing t)
+        (fit-parts row t h),
+  )
 
   over-of : (e p : ℕ) (x : Reading Tree) → Past row t (finishing t) x → x ≡ refusedAt e p → FirstOver row t e p
   over-of e p x (none-over a i) h = no-refusal (sym h ∙ i)
   over-of e p x (one-over us u vs k f a w i) h =
       let q = refusal-parts (suc k) _ e p (sym i ∙ h) in
-      record { before = us; node = u; behind = vs; parts = f; pass = a; number = w ∙ sym (q .0); over = omega (arith, q .0); place = q .1 }
+      record
+      { before = us; node = u; behind = vs; parts = f; within = a; number = w ∙ sym (q .0); over = omega (arith, q .0); place = q .1 }
 
   -- and refuses at the first one that is not, in order of finishing
   pub measured-over : (e p : ℕ) → measured row t ≡ refusedAt e p → FirstOver row t e p
@@ -57,7 +62,7 @@ module _ (row s : List ℕ) where
       stands-as t h (measured-fits row t .0 (e ∙ ap read (sym i))) (ap read (sym i))
   measured-outcome t (refused bad) h i = too-big t (bad .number) (bad .place) h (measured-over row t (bad .number) (bad .place) i) refl
 
-  read-outcome : (x : Reading Tree) → readTerm row s ≡ x → Outcome (thenMeasured row x)
+  read-outcome : (x : Reading Tree) → readTerm row s ≡ x → Outcome (onward x (measured row))
   read-outcome (refused bad) i = not-term (bad .number) (bad .place) i refl
   read-outcome (read t) i = measured-outcome t (measured row t) (reads row s t .0 i) refl
 
@@ -72,7 +77,7 @@ module _ (row s : List ℕ) where
 
   of-is : (t : Tree) → IsTerm row s t × ((y : Tree) → Part y t → Fits row y) → acceptTerm row s ≡ read t
   unfolding acceptTerm
-  of-is t h = ap (thenMeasured row) (reads row s t .1 (h .0)) ∙ measured-fits row t .1 (h .1)
+  of-is t h = ap (λ (r : Reading Tree). onward r (measured row)) (reads row s t .1 (h .0)) ∙ measured-fits row t .1 (h .1)
 
   -- "a term inside the limits is accepted", and nothing else
   pub accepts : (t : Tree) → (acceptTerm row s ≡ read t) ↔ (IsTerm row s t × ((y : Tree) → Part y t → Fits row y))

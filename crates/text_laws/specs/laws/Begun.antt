@@ -5,11 +5,10 @@ use mathlib.Core.Path.{_≡_, refl, sym, ap, _∙_}
 use Prim.Native.Nat.{ℕ, suc}
 use lib.IntN.{pos}
 use lib.ListN.{length}
-use Rattle.text.specs.definitions.Bytes.{bytes, capital}
+use Rattle.text.specs.definitions.Bytes.{bytes, capital, decimal, Token, opening, closing, word}
 use Rattle.text.specs.definitions.Meaning.{Begun}
-use Rattle.text.specs.definitions.Numerals.{dec}
-use Rattle.text.specs.definitions.Reading.{Frame, first, second, base, Spot, operand, operator, exponent, ending, raised, Next, on, whole, off, check}
-use Rattle.text.specs.definitions.Tokens.{Token, opening, closing, word}
+use Rattle.text.specs.definitions.Reading.{Frame, first, second, base, Spot, operand, operator, exponent, ending, raised, Next, on, whole}
+use Rattle.text.specs.definitions.Reading.{off, check}
 use Rattle.text.specs.definitions.Tree.{Tree, num, letter, neg, two, power, placed, letters}
 use Rattle.text_laws.specs.laws.Bytes.{and-l, and-r, and-i}
 use Rattle.text_laws.specs.laws.Sofar.{stackTokens, spotTokens, soFar, admits, StackOk, SpotOk, Held}
@@ -40,7 +39,8 @@ capitals-admits (num p z) d a = refl
 capitals-admits (letter p b) d a = and-i a refl
 capitals-admits (neg p o c x) d a = capitals-admits x (suc d) a
 capitals-admits (two p o c g x y) d a =
-    and-i (capitals-admits x (suc d) (and-l (letters capital x) (letters capital y) a)) (capitals-admits y (suc d) (and-r (letters capital x) (letters capital y) a))
+    and-i (capitals-admits x (suc d) (and-l (letters capital x) (letters capital y) a))
+    (capitals-admits y (suc d) (and-r (letters capital x) (letters capital y) a))
 capitals-admits (power p o c x q n) d a = capitals-admits x (suc d) a
 
 -- ---- a term that goes on from a state: what is missing is filled with 0
@@ -55,9 +55,9 @@ fill (base p o ∷ fs) t = fill fs (power p o 0 t 0 0)
 
 abbrev more : List Frame → List Token
 more [] = []
-more (first p o g ∷ fs) = word 0 (dec 0) ∷ closing 0 ∷ more fs
+more (first p o g ∷ fs) = word 0 (decimal 0) ∷ closing 0 ∷ more fs
 more (second p o g x ∷ fs) = closing 0 ∷ more fs
-more (base p o ∷ fs) = word 0 (dec 0) ∷ closing 0 ∷ more fs
+more (base p o ∷ fs) = word 0 (decimal 0) ∷ closing 0 ∷ more fs
 
 fill-tokens : (fs : List Frame) (t : Tree) → placed (fill fs t) ≡ stackTokens fs ++ (placed t ++ more fs)
 fill-tokens [] t = sym (append-nil (placed t))
@@ -65,7 +65,8 @@ fill-tokens (first p o g ∷ fs) t = fill-tokens fs (two p o 0 g t nought) ∙ s
 fill-tokens (second p o g x ∷ fs) t = fill-tokens fs (two p o 0 g x t) ∙ simp append-assoc
 fill-tokens (base p o ∷ fs) t = fill-tokens fs (power p o 0 t 0 0) ∙ simp append-assoc
 
-fill-ok : (fs : List Frame) (t : Tree) → StackOk yes′ yes′ fs → admits yes′ yes′ (length fs) t ≡ true → admits yes′ yes′ 0 (fill fs t) ≡ true
+fill-ok :
+    (fs : List Frame) (t : Tree) → StackOk yes′ yes′ fs → admits yes′ yes′ (length fs) t ≡ true → admits yes′ yes′ 0 (fill fs t) ≡ true
 fill-ok [] t h a = a
 fill-ok (first p o g ∷ fs) t h a = fill-ok fs (two p o 0 g t nought) (h .1) (and-i a refl)
 fill-ok (second p o g x ∷ fs) t h a = fill-ok fs (two p o 0 g x t) (h .1) (and-i (h .0 .1) a)
@@ -79,9 +80,9 @@ fillSpot (ending p o g x y) = two p o 0 g x y
 fillSpot (raised p o x q n) = power p o 0 x q n
 
 abbrev spotMore : Spot → List Token
-spotMore operand = word 0 (dec 0) ∷ []
-spotMore (operator p) = word 0 (bytes "-") ∷ word 0 (dec 0) ∷ closing 0 ∷ []
-spotMore (exponent p o x) = word 0 (dec 0) ∷ closing 0 ∷ []
+spotMore operand = word 0 (decimal 0) ∷ []
+spotMore (operator p) = word 0 (bytes "-") ∷ word 0 (decimal 0) ∷ closing 0 ∷ []
+spotMore (exponent p o x) = word 0 (decimal 0) ∷ closing 0 ∷ []
 spotMore (ending p o g x y) = closing 0 ∷ []
 spotMore (raised p o x q n) = closing 0 ∷ []
 

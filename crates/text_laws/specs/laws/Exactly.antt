@@ -8,12 +8,11 @@ use Prim.Native.Nat.{ℕ, suc, pred, _+_, _≤_, _<_}
 use native.Mathlib.Omega.{arith}
 use lib.IntN.{ℤ, pos}
 use lib.ListN.{length}
-use Rattle.text.specs.definitions.Answer.{Reading, read, refused, refusedAt}
-use Rattle.text.specs.definitions.Bytes.{capital, inRow}
-use Rattle.text.specs.definitions.Meaning.{IsTerm, Begun, openAfter, Passes, Clean, EndsEarly, RefusedAs, too-long, no-term-so, ended, unknown-letter, too-deep}
-use Rattle.text.specs.definitions.Numerals.{dec, writeInt, readInt}
+use Rattle.text.specs.definitions.Bytes.{Reading, read, refused, refusedAt, capital, inRow, decimal, writeInt, readInt, Token, opening}
+use Rattle.text.specs.definitions.Bytes.{closing, word, placeOf, tokens}
+use Rattle.text.specs.definitions.Meaning.{IsTerm, Begun, openAfter, Allowed, Clean, EndsEarly, RefusedAs, too-long, no-term-so, ended}
+use Rattle.text.specs.definitions.Meaning.{unknown-letter, too-deep}
 use Rattle.text.specs.definitions.Reading.{readTerm}
-use Rattle.text.specs.definitions.Tokens.{Token, opening, closing, word, placeOf, tokens}
 use Rattle.text.specs.definitions.Tree.{Sign, add, sub, mul, signText, Tree, num, letter, neg, two, power, placed, letters, nesting}
 use Rattle.text_laws.specs.laws.Bytes.{and-l, and-r, and-i}
 use Rattle.text_laws.specs.laws.Lists.{Places, same-place, earlier, later, places}
@@ -29,22 +28,22 @@ begun-with : (ks : List Token) (k : Token) (us : List Token) → Begun (ks ++ (k
 begun-with ks k us b = begun-front (ks ++ (k ∷ [])) us (rw (append-assoc ks (k ∷ []) us) b)
 
 module _ (row : List ℕ) where
-  clean-at : (d : ℕ) (ks : List Token) (k : Token) (us : List Token) → Clean row 16 d (ks ++ (k ∷ us)) → Passes row 16 (openAfter d ks) k
+  clean-at : (d : ℕ) (ks : List Token) (k : Token) (us : List Token) → Clean row 16 d (ks ++ (k ∷ us)) → Allowed row 16 (openAfter d ks) k
   clean-at d [] k us c = c .0
   clean-at d (opening p ∷ ks) k us c = clean-at (suc d) ks k us (c .1)
   clean-at d (closing p ∷ ks) k us c = clean-at (pred d) ks k us (c .1)
   clean-at d (word p w ∷ ks) k us c = clean-at d ks k us (c .1)
 
   -- ---- the tokens of a term within the limits pass
-  passes-int : (p d : ℕ) (w : List ℕ) (z : ℤ) → readInt w ≡ some z → Passes row 16 d (word p w)
-  passes-int p d [] z e = tt
-  passes-int p d (b ∷ []) z e = λ c. no-none (sym (capital-no-int b c) ∙ e)
-  passes-int p d (b ∷ c ∷ w) z e = tt
+  allowed-int : (p d : ℕ) (w : List ℕ) (z : ℤ) → readInt w ≡ some z → Allowed row 16 d (word p w)
+  allowed-int p d [] z e = tt
+  allowed-int p d (b ∷ []) z e = λ c. no-none (sym (capital-no-int b c) ∙ e)
+  allowed-int p d (b ∷ c ∷ w) z e = tt
 
-  passes-sign : (o d : ℕ) (g : Sign) → Passes row 16 d (word o (signText g))
-  passes-sign o d add = λ c. absurd (true≢false (sym c))
-  passes-sign o d sub = λ c. absurd (true≢false (sym c))
-  passes-sign o d mul = λ c. absurd (true≢false (sym c))
+  allowed-sign : (o d : ℕ) (g : Sign) → Allowed row 16 d (word o (signText g))
+  allowed-sign o d add = λ c. absurd (true≢false (sym c))
+  allowed-sign o d sub = λ c. absurd (true≢false (sym c))
+  allowed-sign o d mul = λ c. absurd (true≢false (sym c))
 
   abbrev fit : ℕ → Bool
   fit b = capital b && inRow row b
@@ -52,17 +51,26 @@ module _ (row : List ℕ) where
   clean-by : (d : ℕ) (ks js : List Token) → ks ≡ js → Clean row 16 d js → Clean row 16 d ks
   clean-by d ks js e c = rw e c
 
-  clean-placed : (t : Tree) (d : ℕ) (ts : List Token) → letters fit t ≡ true → d + nesting t ≤ 16 → Clean row 16 d ts → Clean row 16 d (placed t ++ ts)
-  clean-placed (num p z) d ts l h c = (passes-int p d (writeInt z) z (read-int z), c)
+  clean-placed :
+      (t : Tree) (d : ℕ) (ts : List Token) → letters fit t ≡ true → d + nesting t ≤ 16 → Clean row 16 d ts →
+      Clean row 16 d (placed t ++ ts)
+  clean-placed (num p z) d ts l h c = (allowed-int p d (writeInt z) z (read-int z), c)
   clean-placed (letter p b) d ts l h c = (λ k. and-r (capital b) (inRow row b) l, c)
-  clean-placed (neg p o e x) d ts l h c =
-      (omega arith, (passes-sign o (suc d) sub, clean-by (suc d) ((placed x ++ (closing e ∷ [])) ++ ts) (placed x ++ (closing e ∷ ts)) (append-assoc (placed x) (closing e ∷ []) ts) (clean-placed x (suc d) (closing e ∷ ts) l (omega arith) (tt, c))))
+  clean-placed (neg p o e x) d ts l h c = (
+    omega arith,
+    (
+      allowed-sign o (suc d) sub,
+      clean-by (suc d) ((placed x ++ (closing e ∷ [])) ++ ts) (placed x ++ (closing e ∷ ts))
+          (append-assoc (placed x) (closing e ∷ []) ts) (clean-placed x (suc d) (closing e ∷ ts) l (omega arith) (tt, c)),
+    ),
+  )
   clean-placed (two p o e g x y) d ts l h c = (
     omega arith,
     (
-      passes-sign o (suc d) g,
+      allowed-sign o (suc d) g,
       clean-by (suc d) ((placed x ++ (placed y ++ (closing e ∷ []))) ++ ts) (placed x ++ (placed y ++ (closing e ∷ ts)))
-          (append-assoc (placed x) (placed y ++ (closing e ∷ [])) ts ∙ ap (λ (z : List Token). placed x ++ z) (append-assoc (placed y) (closing e ∷ []) ts))
+          (append-assoc (placed x) (placed y ++ (closing e ∷ [])) ts
+          ∙ ap (λ (z : List Token). placed x ++ z) (append-assoc (placed y) (closing e ∷ []) ts))
           (clean-placed x (suc d) (placed y ++ (closing e ∷ ts)) (and-l (letters fit x) (letters fit y) l) (omega arith)
           (clean-placed y (suc d) (closing e ∷ ts) (and-r (letters fit x) (letters fit y) l) (omega arith) (tt, c))),
     ),
@@ -71,8 +79,10 @@ module _ (row : List ℕ) where
     omega arith,
     (
       tt,
-      clean-by (suc d) ((placed x ++ (word q (dec n) ∷ closing e ∷ [])) ++ ts) (placed x ++ (word q (dec n) ∷ closing e ∷ ts)) (append-assoc (placed x) (word q (dec n) ∷ closing e ∷ []) ts)
-          (clean-placed x (suc d) (word q (dec n) ∷ closing e ∷ ts) l (omega arith) (passes-int q (suc d) (dec n) (pos n) (read-int (pos n)), (tt, c))),
+      clean-by (suc d) ((placed x ++ (word q (decimal n) ∷ closing e ∷ [])) ++ ts) (placed x ++ (word q (decimal n) ∷ closing e ∷ ts))
+          (append-assoc (placed x) (word q (decimal n) ∷ closing e ∷ []) ts)
+          (clean-placed x (suc d) (word q (decimal n) ∷ closing e ∷ ts) l (omega arith)
+          (allowed-int q (suc d) (decimal n) (pos n) (read-int (pos n)), (tt, c))),
     ),
   )
 
@@ -80,7 +90,8 @@ module _ (row : List ℕ) where
   capitals-of (num p z) l = refl
   capitals-of (letter p b) l = and-l (capital b) (inRow row b) l
   capitals-of (neg p o c x) l = capitals-of x l
-  capitals-of (two p o c g x y) l = and-i (capitals-of x (and-l (letters fit x) (letters fit y) l)) (capitals-of y (and-r (letters fit x) (letters fit y) l))
+  capitals-of (two p o c g x y) l =
+      and-i (capitals-of x (and-l (letters fit x) (letters fit y) l)) (capitals-of y (and-r (letters fit x) (letters fit y) l))
   capitals-of (power p o c x q n) l = capitals-of x l
 
   -- ---- what is wrong with the token k behind the tokens ks
@@ -89,14 +100,18 @@ module _ (row : List ℕ) where
     five : (p b : ℕ) → e ≡ 5 → k ≡ word p (b ∷ []) → capital b ≡ true → inRow row b ≡ false → Begun (ks ++ (k ∷ [])) → Fault e ks k
     six : (p : ℕ) → e ≡ 6 → k ≡ opening p → 16 ≤ openAfter 0 ks → Begun (ks ++ (k ∷ [])) → Fault e ks k
 
-  passes-by : (d : ℕ) (k j : Token) → k ≡ j → Passes row 16 d k → Passes row 16 d j
-  passes-by d k j e h = rw e at h
+  allowed-by : (d : ℕ) (k j : Token) → k ≡ j → Allowed row 16 d k → Allowed row 16 d j
+  allowed-by d k j e h = rw e at h
 
   -- it would not be there in tokens that pass and begin a term
-  no-fault : (e : ℕ) (ks : List Token) (k : Token) (us : List Token) → Fault e ks k → Begun (ks ++ (k ∷ us)) → Clean row 16 0 (ks ++ (k ∷ us)) → ⊥
+  no-fault :
+      (e : ℕ) (ks : List Token) (k : Token) (us : List Token) → Fault e ks k → Begun (ks ++ (k ∷ us)) → Clean row 16 0 (ks ++ (k ∷ us)) →
+      ⊥
   no-fault e ks k us (four i n) b c = n (begun-with ks k us b)
-  no-fault e ks k us (five p x i j h o n) b c = true≢false (sym (passes-by (openAfter 0 ks) k (word p (x ∷ [])) j (clean-at 0 ks k us c) h) ∙ o)
-  no-fault e ks k us (six p i j h n) b c = let l : openAfter 0 ks < 16 = passes-by (openAfter 0 ks) k (opening p) j (clean-at 0 ks k us c) in omega arith
+  no-fault e ks k us (five p x i j h o n) b c =
+      true≢false (sym (allowed-by (openAfter 0 ks) k (word p (x ∷ [])) j (clean-at 0 ks k us c) h) ∙ o)
+  no-fault e ks k us (six p i j h n) b c =
+      let l : openAfter 0 ks < 16 = allowed-by (openAfter 0 ks) k (opening p) j (clean-at 0 ks k us c) in omega arith
 
   one-fault : (e e′ : ℕ) (ks : List Token) (k : Token) → Fault e ks k → Fault e′ ks k → e ≡ e′
   one-fault e e′ ks k (four i n) (four i′ n′) = i ∙ sym i′
@@ -129,11 +144,16 @@ module _ (row : List ℕ) where
       begun-by ks js x f = rw x at f
 
       go : Places (a .before) (a .token) (b .before) (b .token) → (e ≡ e′) × (p ≡ p′)
-      go (same-place x y) = (one-fault e e′ (b .before) (b .token) (fault-by (a .before) (b .before) (a .token) (b .token) x y (a .fault)) (b .fault), a .place ∙ ap placeOf y ∙ sym (b .place))
+      go (same-place x y) = (
+        one-fault e e′ (b .before) (b .token) (fault-by (a .before) (b .before) (a .token) (b .token) x y (a .fault)) (b .fault),
+        a .place ∙ ap placeOf y ∙ sym (b .place),
+      )
       go (earlier us x) =
-          absurd (no-fault e (a .before) (a .token) us (a .fault) (begun-by (b .before) (a .before ++ (a .token ∷ us)) x (b .begun)) (clean-by 0 (a .before ++ (a .token ∷ us)) (b .before) (sym x) (b .clean)))
+          absurd (no-fault e (a .before) (a .token) us (a .fault) (begun-by (b .before) (a .before ++ (a .token ∷ us)) x (b .begun))
+          (clean-by 0 (a .before ++ (a .token ∷ us)) (b .before) (sym x) (b .clean)))
       go (later us x) =
-          absurd (no-fault e′ (b .before) (b .token) us (b .fault) (begun-by (a .before) (b .before ++ (b .token ∷ us)) x (a .begun)) (clean-by 0 (b .before ++ (b .token ∷ us)) (a .before) (sym x) (a .clean)))
+          absurd (no-fault e′ (b .before) (b .token) us (b .fault) (begun-by (a .before) (b .before ++ (b .token ∷ us)) x (a .begun))
+          (clean-by 0 (b .before ++ (b .token ∷ us)) (a .before) (sym x) (a .clean)))
 
 -- ---- the whole text
 module _ (row s : List ℕ) where
@@ -147,7 +167,16 @@ module _ (row s : List ℕ) where
   reason e p (too-long i j h) = by-length i j h
   reason e p (ended i h x j) = by-end i h x j
   reason e p (no-term-so i h x) =
-      by-token h (record { before = x .before; token = x .token; behind = x .behind; parts = x .parts; place = x .place; clean = x .clean; begun = x .begun; fault = four i (x .ends) })
+      by-token h (record {
+        before = x .before;
+        token = x .token;
+        behind = x .behind;
+        parts = x .parts;
+        place = x .place;
+        clean = x .clean;
+        begun = x .begun;
+        fault = four i (x .ends);
+      })
   reason e p (unknown-letter i h x) =
       by-token h (record {
         before = x .before;
@@ -191,10 +220,13 @@ module _ (row s : List ℕ) where
   one-refusal e p e′ p′ a b = one-reason e p e′ p′ (reason e p a) (reason e′ p′ b)
 
   term-begun : (t : Tree) → IsTerm row s t → Begun (tokens 0 s)
-  term-begun t m = record { term = t; rest = []; capitals = capitals-of row t (m .in-row); is = sym (append-nil (tokens 0 s) ∙ m .tokens-are) }
+  term-begun t m =
+      record { term = t; rest = []; capitals = capitals-of row t (m .in-row); is = sym (append-nil (tokens 0 s) ∙ m .tokens-are) }
 
   term-clean : (t : Tree) → IsTerm row s t → Clean row 16 0 (tokens 0 s)
-  term-clean t m = clean-by row 0 (tokens 0 s) (placed t ++ []) (m .tokens-are ∙ sym (append-nil (placed t))) (clean-placed row t 0 [] (m .in-row) (omega (arith, m .shallow)) tt)
+  term-clean t m =
+      clean-by row 0 (tokens 0 s) (placed t ++ []) (m .tokens-are ∙ sym (append-nil (placed t)))
+      (clean-placed row t 0 [] (m .in-row) (omega (arith, m .shallow)) tt)
 
   not-refused : (t : Tree) (e p : ℕ) → IsTerm row s t → Reason e p → ⊥
   not-refused t e p m (by-length i j h) = omega (arith, m .short)
@@ -203,7 +235,8 @@ module _ (row s : List ℕ) where
 
   answer : (e p : ℕ) → RefusedAs row s e p → (x : Reading Tree) → readTerm row s ≡ x → readTerm row s ≡ refusedAt e p
   answer e p a (read t) h = absurd (not-refused t e p (reads row s t .0 h) (reason e p a))
-  answer e p a (refused bad) h = let q = one-refusal (bad .number) (bad .place) e p (why row s (bad .number) (bad .place) h) a in h ∙ ap₂ refusedAt (q .0) (q .1)
+  answer e p a (refused bad) h =
+      let q = one-refusal (bad .number) (bad .place) e p (why row s (bad .number) (bad .place) h) a in h ∙ ap₂ refusedAt (q .0) (q .1)
 
   pub refused-exactly : (e p : ℕ) → (readTerm row s ≡ refusedAt e p) ↔ RefusedAs row s e p
   refused-exactly e p = (why row s e p, λ a. answer e p a (readTerm row s) refl)

@@ -10,18 +10,16 @@ use lib.IntN.{ℤ, pos, negsuc}
 use lib.ListN.{length}
 use Rattle.horner.specs.definitions.Form.{Form, int, pop, pow}
 use Rattle.horner.specs.definitions.Measures.{nest}
-use Rattle.text.specs.definitions.Answer.{Reading, read, refused, refusedAt}
-use Rattle.text.specs.definitions.Bytes.{digit, all}
-use Rattle.text.specs.definitions.FormMeaning.{IsFormText, Begun, openAfter, Clean, EndsEarly, RefusedAs, too-long, no-form-so, ended, too-deep}
-use Rattle.text.specs.definitions.FormReading.{readForm}
-use Rattle.text.specs.definitions.FormText.{text, popHead, powHead}
-use Rattle.text.specs.definitions.Numerals.{dec, writeInt}
+use Rattle.text.specs.definitions.Bytes.{Reading, read, refused, refusedAt, digit, all, decimal, writeInt}
+use Rattle.text.specs.definitions.FormMeaning.{IsFormText, Begun, openAfter, Clean, EndsEarly, RefusedAs, too-long, no-form-so, ended}
+use Rattle.text.specs.definitions.FormMeaning.{too-deep}
+use Rattle.text.specs.definitions.FormReading.{readForm, text, popHead, powHead}
 use Rattle.text_laws.specs.laws.Bytes.{and-l, and-r, digit-range}
 use Rattle.text_laws.specs.laws.FormOpen.{open-append}
 use Rattle.text_laws.specs.laws.FormReading.{reads}
 use Rattle.text_laws.specs.laws.FormRefused.{why}
 use Rattle.text_laws.specs.laws.Lists.{Places, same-place, earlier, later, places}
-use Rattle.text_laws.specs.laws.Numerals.{canonical-dec}
+use Rattle.text_laws.specs.laws.Numerals.{canonical-decimal}
 use Rattle.text_laws.specs.laws.Prefixes.{canonical-digits}
 
 begun-front : (ks us : List ℕ) → Begun (ks ++ us) → Begun ks
@@ -50,34 +48,52 @@ clean-digits (x ∷ w) d bs a c =
     let r = digit-range x (and-l (digit x) (all digit w) a) in
     clean-other d x (w ++ bs) (omega arith) (omega arith) (clean-digits w d bs (and-r (digit x) (all digit w) a) c)
 
-clean-dec : (n d : ℕ) (bs : List ℕ) → Clean 256 d bs → Clean 256 d (dec n ++ bs)
-clean-dec n d bs c = clean-digits (dec n) d bs (canonical-digits (dec n) (canonical-dec n)) c
+clean-decimal : (n d : ℕ) (bs : List ℕ) → Clean 256 d bs → Clean 256 d (decimal n ++ bs)
+clean-decimal n d bs c = clean-digits (decimal n) d bs (canonical-digits (decimal n) (canonical-decimal n)) c
 
 clean-int : (z : ℤ) (d : ℕ) (bs : List ℕ) → Clean 256 d bs → Clean 256 d (writeInt z ++ bs)
-clean-int (pos n) d bs c = clean-dec n d bs c
-clean-int (negsuc n) d bs c = clean-other d 45 (dec (suc n) ++ bs) (omega arith) (omega arith) (clean-dec (suc n) d bs c)
+clean-int (pos n) d bs c = clean-decimal n d bs c
+clean-int (negsuc n) d bs c = clean-other d 45 (decimal (suc n) ++ bs) (omega arith) (omega arith) (clean-decimal (suc n) d bs c)
 
-clean-index : (i d : ℕ) (bs : List ℕ) → Clean 256 d bs → Clean 256 d ((dec i ++ (32 ∷ [])) ++ bs)
+clean-index : (i d : ℕ) (bs : List ℕ) → Clean 256 d bs → Clean 256 d ((decimal i ++ (32 ∷ [])) ++ bs)
 clean-index i d bs c =
-    clean-by d ((dec i ++ (32 ∷ [])) ++ bs) (dec i ++ (32 ∷ bs)) (append-assoc (dec i) (32 ∷ []) bs) (clean-dec i d (32 ∷ bs) (clean-other d 32 bs (omega arith) (omega arith) c))
+    clean-by d ((decimal i ++ (32 ∷ [])) ++ bs) (decimal i ++ (32 ∷ bs)) (append-assoc (decimal i) (32 ∷ []) bs)
+    (clean-decimal i d (32 ∷ bs) (clean-other d 32 bs (omega arith) (omega arith) c))
 
 clean-pop : (i d : ℕ) (bs : List ℕ) → d < 256 → Clean 256 (suc d) bs → Clean 256 d (popHead i ++ bs)
-clean-pop i d bs h c = (λ e. h, (λ e. absurd (omega arith), (λ e. absurd (omega arith), (λ e. absurd (omega arith), (λ e. absurd (omega arith), clean-index i (suc d) bs c)))))
+clean-pop i d bs h c = (
+  λ e. h,
+  (
+    λ e. absurd (omega arith),
+    (λ e. absurd (omega arith), (λ e. absurd (omega arith), (λ e. absurd (omega arith), clean-index i (suc d) bs c))),
+  ),
+)
 
 clean-pow : (i d : ℕ) (bs : List ℕ) → d < 256 → Clean 256 (suc d) bs → Clean 256 d (powHead i ++ bs)
-clean-pow i d bs h c = (λ e. h, (λ e. absurd (omega arith), (λ e. absurd (omega arith), (λ e. absurd (omega arith), (λ e. absurd (omega arith), clean-index i (suc d) bs c)))))
+clean-pow i d bs h c = (
+  λ e. h,
+  (
+    λ e. absurd (omega arith),
+    (λ e. absurd (omega arith), (λ e. absurd (omega arith), (λ e. absurd (omega arith), clean-index i (suc d) bs c))),
+  ),
+)
 
 clean-text : (f : Form ℤ) (d : ℕ) (bs : List ℕ) → d + nest f ≤ 256 → Clean 256 d bs → Clean 256 d (text f ++ bs)
 clean-text (int z) d bs h c = clean-int z d bs c
 clean-text (pop i x) d bs h c =
-    clean-by d (text (pop i x) ++ bs) (popHead i ++ (text x ++ (41 ∷ bs))) (append-assoc (popHead i) (text x ++ (41 ∷ [])) bs ∙ ap (λ (z : List ℕ). popHead i ++ z) (append-assoc (text x) (41 ∷ []) bs))
+    clean-by d (text (pop i x) ++ bs) (popHead i ++ (text x ++ (41 ∷ bs)))
+    (append-assoc (popHead i) (text x ++ (41 ∷ [])) bs ∙ ap (λ (z : List ℕ). popHead i ++ z) (append-assoc (text x) (41 ∷ []) bs))
     (clean-pop i d (text x ++ (41 ∷ bs)) (omega arith) (clean-text x (suc d) (41 ∷ bs) (omega arith) (omega arith, c)))
 clean-text (pow i x y) d bs h c =
     clean-by d (text (pow i x y) ++ bs) (powHead i ++ (text x ++ (32 ∷ text y ++ (41 ∷ bs))))
-    (append-assoc (powHead i) (text x ++ (32 ∷ text y ++ (41 ∷ []))) bs ∙ ap (λ (z : List ℕ). powHead i ++ z) (append-assoc (text x) (32 ∷ text y ++ (41 ∷ [])) bs ∙ ap (λ (z : List ℕ). text x ++ (32 ∷ z)) (append-assoc (text y) (41 ∷ []) bs)))
+    (append-assoc (powHead i) (text x ++ (32 ∷ text y ++ (41 ∷ []))) bs
+    ∙ ap (λ (z : List ℕ). powHead i ++ z)
+    (append-assoc (text x) (32 ∷ text y ++ (41 ∷ [])) bs
+    ∙ ap (λ (z : List ℕ). text x ++ (32 ∷ z)) (append-assoc (text y) (41 ∷ []) bs)))
     (clean-pow i d (text x ++ (32 ∷ text y ++ (41 ∷ bs))) (omega arith)
     (clean-text x (suc d) (32 ∷ text y ++ (41 ∷ bs)) (omega arith)
-    (clean-other (suc d) 32 (text y ++ (41 ∷ bs)) (omega arith) (omega arith) (clean-text y (suc d) (41 ∷ bs) (omega arith) (omega arith, c)))))
+    (clean-other (suc d) 32 (text y ++ (41 ∷ bs)) (omega arith) (omega arith)
+    (clean-text y (suc d) (41 ∷ bs) (omega arith) (omega arith, c)))))
 
 -- ---- what is wrong with the byte k behind the bytes ks
 data Fault (e : ℕ) (ks : List ℕ) (k : ℕ) : Type 0 where
@@ -114,11 +130,16 @@ one-stop s e p e′ p′ a b = go (places (a .before) (a .byte) (a .behind) (b .
     begun-by ks js x f = rw x at f
 
     go : Places (a .before) (a .byte) (b .before) (b .byte) → (e ≡ e′) × (p ≡ p′)
-    go (same-place x y) = (one-fault e e′ (b .before) (b .byte) (fault-by (a .before) (b .before) (a .byte) (b .byte) x y (a .fault)) (b .fault), a .place ∙ ap length x ∙ sym (b .place))
+    go (same-place x y) = (
+      one-fault e e′ (b .before) (b .byte) (fault-by (a .before) (b .before) (a .byte) (b .byte) x y (a .fault)) (b .fault),
+      a .place ∙ ap length x ∙ sym (b .place),
+    )
     go (earlier us x) =
-        absurd (no-fault e (a .before) (a .byte) us (a .fault) (begun-by (b .before) (a .before ++ (a .byte ∷ us)) x (b .begun)) (clean-by 0 (a .before ++ (a .byte ∷ us)) (b .before) (sym x) (b .clean)))
+        absurd (no-fault e (a .before) (a .byte) us (a .fault) (begun-by (b .before) (a .before ++ (a .byte ∷ us)) x (b .begun))
+        (clean-by 0 (a .before ++ (a .byte ∷ us)) (b .before) (sym x) (b .clean)))
     go (later us x) =
-        absurd (no-fault e′ (b .before) (b .byte) us (b .fault) (begun-by (a .before) (b .before ++ (b .byte ∷ us)) x (a .begun)) (clean-by 0 (b .before ++ (b .byte ∷ us)) (a .before) (sym x) (a .clean)))
+        absurd (no-fault e′ (b .before) (b .byte) us (b .fault) (begun-by (a .before) (b .before ++ (b .byte ∷ us)) x (a .begun))
+        (clean-by 0 (b .before ++ (b .byte ∷ us)) (a .before) (sym x) (a .clean)))
 
 -- ---- the whole text
 module _ (s : List ℕ) where
@@ -131,7 +152,16 @@ module _ (s : List ℕ) where
   reason e p (too-long i j h) = by-length i j h
   reason e p (ended i h x j) = by-end i h x j
   reason e p (no-form-so i h x) =
-      by-byte h (record { before = x .before; byte = x .byte; behind = x .behind; parts = x .parts; place = x .place; clean = x .clean; begun = x .begun; fault = four i (x .ends) })
+      by-byte h (record {
+        before = x .before;
+        byte = x .byte;
+        behind = x .behind;
+        parts = x .parts;
+        place = x .place;
+        clean = x .clean;
+        begun = x .begun;
+        fault = four i (x .ends);
+      })
   reason e p (too-deep i h x) =
       by-byte h (record {
         before = x .before;
@@ -171,7 +201,8 @@ module _ (s : List ℕ) where
 
   answer : (e p : ℕ) → RefusedAs s e p → (x : Reading (Form ℤ)) → readForm s ≡ x → readForm s ≡ refusedAt e p
   answer e p a (read f) h = absurd (not-refused f e p (reads s f .0 h) (reason e p a))
-  answer e p a (refused bad) h = let q = one-refusal (bad .number) (bad .place) e p (why s (bad .number) (bad .place) h) a in h ∙ ap₂ refusedAt (q .0) (q .1)
+  answer e p a (refused bad) h =
+      let q = one-refusal (bad .number) (bad .place) e p (why s (bad .number) (bad .place) h) a in h ∙ ap₂ refusedAt (q .0) (q .1)
 
   pub refused-exactly : (e p : ℕ) → (readForm s ≡ refusedAt e p) ↔ RefusedAs s e p
   refused-exactly e p = (why s e p, λ a. answer e p a (readForm s) refl)

@@ -9,10 +9,11 @@ use borrow.Author.Tests.{eqb-true, eqb-false, ne-eqb}
 use lib.Dec.{eqb}
 use lib.IntN.{ℤ}
 use Rattle.horner.specs.definitions.Form.{Form, int}
-use Rattle.text.specs.definitions.Bytes.{bytes, same, digit, all}
-use Rattle.text.specs.program.FormKinds.{Stand, start, sign, zeroInt, digits, Wait, numberStand, standOf, waitOf, Move, moved, stuck, leave, first, move}
-use Rattle.text.specs.definitions.FormReading.{Frame, inPop, inPow, inRest, before, number, Next, on, off, intBegun, follow, followInt, step}
-use Rattle.text.specs.definitions.Numerals.{canonical, readNat, readInt, isSome, below0, from0}
+use Rattle.text.specs.definitions.Bytes.{bytes, same, digit, all, canonical, readNat, readInt, isSome, below0, from0}
+use Rattle.text.specs.program.FormKinds.{Stand, start, sign, zeroInt, digits, Wait, numberStand, standOf, waitOf, Move, moved, stuck}
+use Rattle.text.specs.program.FormKinds.{leave, first, move}
+use Rattle.text.specs.definitions.FormReading.{Frame, inPop, inPow, inRest, before, number, Next, on, off, intBegun, follow, followInt}
+use Rattle.text.specs.definitions.FormReading.{step}
 use Rattle.text_laws.specs.laws.Bytes.{and-l, and-r, and-i, either, same-eq, digit-range}
 use Rattle.text_laws.specs.laws.Numerals.{Leading, leading-more, leading-canonical, read-unsigned}
 use Rattle.text_laws.specs.laws.Prefixes.{begun-stop, begun-canonical, begun-leading}
@@ -46,7 +47,9 @@ natural (x ∷ w) c = go (eqb x 48) refl w c
     go : (b : Bool) → eqb x 48 ≡ b → (w : List ℕ) → canonical (x ∷ w) ≡ true → Natural (x ∷ w)
     go true k [] c = is-zero (ap (λ (z : ℕ). z ∷ []) (eqb-true x 48 k))
     go true k (y ∷ w) c = absurd (true≢false (sym (rw (k, canonical) at c)))
-    go false k w c = let d : (digit x && all digit w) ≡ true = rw (k, canonical) at c in is-leading (k, and-l (digit x) (all digit w) d, and-r (digit x) (all digit w) d)
+    go false k w c =
+        let d : (digit x && all digit w) ≡ true = rw (k, canonical) at c in
+        is-leading (k, and-l (digit x) (all digit w) d, and-r (digit x) (all digit w) d)
 
 pub data Begun (w : List ℕ) : Type 0 where
   is-sign : w ≡ 45 ∷ [] → Begun w
@@ -77,7 +80,8 @@ pub begun : (w : List ℕ) → intBegun w ≡ true → Begun w
 unfolding readInt
 begun [] h = absurd (true≢false (sym h))
 begun (x ∷ v) h =
-    either (same (x ∷ v) (bytes "-")) (isSome (readInt (x ∷ v))) (Begun (x ∷ v)) h (λ e. is-sign (same-eq (x ∷ v) (bytes "-") e)) (λ e. go (eqb x 45) refl e)
+    either (same (x ∷ v) (bytes "-")) (isSome (readInt (x ∷ v))) (Begun (x ∷ v)) h (λ e. is-sign (same-eq (x ∷ v) (bytes "-") e))
+    (λ e. go (eqb x 45) refl e)
   where
     go : (b : Bool) → eqb x 45 ≡ b → isSome (readInt (x ∷ v)) ≡ true → Begun (x ∷ v)
     go true k e = negative x v (eqb-true x 45 k) (rw (k, readInt) at e)
@@ -98,7 +102,9 @@ some-follow none fs b h = absurd (true≢false (sym h))
 some-follow (some z) fs b h = follow-move (int z) fs b
 
 -- the number goes on with a digit, and else ends
-number-goes : (x : ℕ) (v : List ℕ) (fs : List Frame) (b : ℕ) → (digit b ≡ true → intBegun (x ∷ v ++ (b ∷ [])) ≡ true) → isSome (readInt (x ∷ v)) ≡ true
+number-goes :
+    (x : ℕ) (v : List ℕ) (fs : List Frame) (b : ℕ) → (digit b ≡ true → intBegun (x ∷ v ++ (b ∷ [])) ≡ true) →
+    isSome (readInt (x ∷ v)) ≡ true
     → moveOf (step (number (x ∷ v)) fs b) ≡ cond (digit b) (moved digits (waits fs)) (leave (waits fs) b)
 number-goes x v fs b grows h = go (digit b) refl
   where
@@ -130,13 +136,16 @@ zero-step fs b = follow-move _ fs b
 leading-step : (w : List ℕ) (fs : List Frame) (b : ℕ) → Leading w → moveOf (step (number w) fs b) ≡ move (numberStand w) (waits fs) b
 leading-step [] fs b l = absurd l
 leading-step (x ∷ v) fs b l =
-    number-goes x v fs b (λ d. begun-canonical (x ∷ v ++ (b ∷ [])) (leading-canonical (x ∷ v ++ (b ∷ [])) (leading-more (x ∷ v) b l d))) (leading-some (x ∷ v) l)
+    number-goes x v fs b (λ d. begun-canonical (x ∷ v ++ (b ∷ [])) (leading-canonical (x ∷ v ++ (b ∷ [])) (leading-more (x ∷ v) b l d)))
+    (leading-some (x ∷ v) l)
     ∙ ap (λ (z : Stand). move z (waits fs) b) (sym (leading-stand (x ∷ v) l))
 
-negative-step : (v : List ℕ) (fs : List Frame) (b : ℕ) → Leading v → moveOf (step (number (45 ∷ v)) fs b) ≡ move (numberStand (45 ∷ v)) (waits fs) b
+negative-step :
+    (v : List ℕ) (fs : List Frame) (b : ℕ) → Leading v → moveOf (step (number (45 ∷ v)) fs b) ≡ move (numberStand (45 ∷ v)) (waits fs) b
 unfolding readInt
 negative-step [] fs b l = absurd l
-negative-step (y ∷ v) fs b l = number-goes 45 (y ∷ v) fs b (λ d. begun-leading (y ∷ v ++ (b ∷ [])) (leading-more (y ∷ v) b l d)) (begun-leading (y ∷ v) l)
+negative-step (y ∷ v) fs b l =
+    number-goes 45 (y ∷ v) fs b (λ d. begun-leading (y ∷ v ++ (b ∷ [])) (leading-more (y ∷ v) b l d)) (begun-leading (y ∷ v) l)
 
 pub number-step : (w : List ℕ) (fs : List Frame) (b : ℕ) → Begun w → moveOf (step (number w) fs b) ≡ move (numberStand w) (waits fs) b
 number-step w fs b (is-sign e) = rw e (sign-step fs b)
@@ -162,13 +171,17 @@ first-move : (fs : List Frame) (b : ℕ) → moveOf (cond (intBegun (b ∷ [])) 
 unfolding readInt readNat
 first-move fs b = go₁ (eqb b 45) refl
   where
-    go₃ : (d : Bool) → digit b ≡ d → eqb b 45 ≡ false → eqb b 48 ≡ false → moveOf (cond (intBegun (b ∷ [])) (on (number (b ∷ [])) fs) off) ≡ first (waits fs) b
+    go₃ :
+        (d : Bool) → digit b ≡ d → eqb b 45 ≡ false → eqb b 48 ≡ false →
+        moveOf (cond (intBegun (b ∷ [])) (on (number (b ∷ [])) fs) off) ≡ first (waits fs) b
     go₃ true d m z =
         let c : canonical (b ∷ []) ≡ true = rw (z, canonical) (and-i d refl) in
         rw (begun-canonical (b ∷ []) c) (rw (m, z, d) refl)
     go₃ false d m z = rw (none-begun b m z d) (rw (m, z, d) refl)
 
-    go₂ : (z : Bool) → eqb b 48 ≡ z → eqb b 45 ≡ false → moveOf (cond (intBegun (b ∷ [])) (on (number (b ∷ [])) fs) off) ≡ first (waits fs) b
+    go₂ :
+        (z : Bool) → eqb b 48 ≡ z → eqb b 45 ≡ false →
+        moveOf (cond (intBegun (b ∷ [])) (on (number (b ∷ [])) fs) off) ≡ first (waits fs) b
     go₂ true z m = rw (eqb-true b 48 z) refl
     go₂ false z m = go₃ (digit b) refl m z
 

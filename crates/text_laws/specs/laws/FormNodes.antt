@@ -6,9 +6,15 @@ use native.Mathlib.Omega.{arith}
 use lib.IntN.{ℤ}
 use lib.ListN.{length, length-append}
 use Rattle.horner.specs.definitions.Form.{Form, int, pop, pow}
-use Rattle.text.specs.definitions.FormJudging.{Node, nodes}
-use Rattle.text.specs.definitions.FormMeaning.{StandsAt, WrongNode}
-use Rattle.text.specs.definitions.FormText.{text, popHead, powHead}
+use Rattle.text.specs.definitions.FormReading.{Node, nodes, text, popHead, powHead}
+use Rattle.text.specs.definitions.FormMeaning.{WrongNode}
+
+-- the node's text stands at its place in the text of f, which itself stands from p on
+pub record StandsAt (f : Form ℤ) (p : ℕ) (k : Node) : Type 0 where
+  pub before : List ℕ
+  pub behind : List ℕ
+  pub parts : text f ≡ before ++ (text (k .form) ++ behind)
+  pub place : k .place ≡ p + length before
 
 -- every node of a list
 abbrev All : (Node → Type 0) → List Node → Type 0
@@ -31,7 +37,9 @@ all-at P ks ls js k e h = go ls (rw e at h)
     go (l ∷ ls) h = go ls (h .1)
 
 -- a form within another: us before it and vs behind
-inner : (x f : Form ℤ) (us vs : List ℕ) (p q : ℕ) → text f ≡ us ++ (text x ++ vs) → q ≡ p + length us → (k : Node) → StandsAt x q k → StandsAt f p k
+inner :
+    (x f : Form ℤ) (us vs : List ℕ) (p q : ℕ) → text f ≡ us ++ (text x ++ vs) → q ≡ p + length us → (k : Node) → StandsAt x q k →
+    StandsAt f p k
 inner x f us vs p q e i k h =
     record {
       before = us ++ h .before;
@@ -47,22 +55,27 @@ itself : (f : Form ℤ) (l p : ℕ) → StandsAt f p (record { level = l; place 
 itself f l p = record { before = []; behind = []; parts = sym (append-nil (text f)); place = omega arith }
 
 right-part : (i : ℕ) (x y : Form ℤ) → text (pow i x y) ≡ (powHead i ++ (text x ++ (32 ∷ []))) ++ (text y ++ (41 ∷ []))
-right-part i x y = sym (append-assoc (powHead i) (text x ++ (32 ∷ [])) (text y ++ (41 ∷ [])) ∙ ap (λ (z : List ℕ). powHead i ++ z) (append-assoc (text x) (32 ∷ []) (text y ++ (41 ∷ []))))
+right-part i x y =
+    sym (append-assoc (powHead i) (text x ++ (32 ∷ [])) (text y ++ (41 ∷ []))
+    ∙ ap (λ (z : List ℕ). powHead i ++ z) (append-assoc (text x) (32 ∷ []) (text y ++ (41 ∷ []))))
 
 pub nodes-stand : (f : Form ℤ) (l p : ℕ) → All (StandsAt f p) (nodes l p f)
 nodes-stand (int z) l p = (itself (int z) l p, tt)
 nodes-stand (pop i x) l p =
     all-append (StandsAt (pop i x) p) (nodes (l + i) (p + length (popHead i)) x) _
-    (all-map (StandsAt x (p + length (popHead i))) (StandsAt (pop i x) p) (nodes (l + i) (p + length (popHead i)) x) (inner x (pop i x) (popHead i) (41 ∷ []) p (p + length (popHead i)) refl refl) (nodes-stand x (l + i) (p + length (popHead i))))
+    (all-map (StandsAt x (p + length (popHead i))) (StandsAt (pop i x) p) (nodes (l + i) (p + length (popHead i)) x)
+    (inner x (pop i x) (popHead i) (41 ∷ []) p (p + length (popHead i)) refl refl) (nodes-stand x (l + i) (p + length (popHead i))))
     (itself (pop i x) l p, tt)
 nodes-stand (pow i x y) l p =
     let a = p + length (powHead i) in
     let b = p + length (powHead i) + length (text x) + 1 in
     all-append (StandsAt (pow i x y) p) (nodes l a x) _
-    (all-map (StandsAt x a) (StandsAt (pow i x y) p) (nodes l a x) (inner x (pow i x y) (powHead i) (32 ∷ text y ++ (41 ∷ [])) p a refl refl) (nodes-stand x l a))
+    (all-map (StandsAt x a) (StandsAt (pow i x y) p) (nodes l a x)
+    (inner x (pow i x y) (powHead i) (32 ∷ text y ++ (41 ∷ [])) p a refl refl) (nodes-stand x l a))
     (all-append (StandsAt (pow i x y) p) (nodes (suc l) b y) _
     (all-map (StandsAt y b) (StandsAt (pow i x y) p) (nodes (suc l) b y)
-    (inner y (pow i x y) (powHead i ++ (text x ++ (32 ∷ []))) (41 ∷ []) p b (right-part i x y) (omega (arith, length-append (powHead i) (text x ++ (32 ∷ [])), length-append (text x) (32 ∷ []))))
+    (inner y (pow i x y) (powHead i ++ (text x ++ (32 ∷ []))) (41 ∷ []) p b (right-part i x y)
+    (omega (arith, length-append (powHead i) (text x ++ (32 ∷ [])), length-append (text x) (32 ∷ []))))
     (nodes-stand y (suc l) b))
     (itself (pow i x y) l p, tt))
 

@@ -5,23 +5,21 @@ use mathlib.Core.Path.{_≡_, refl, sym, ap}
 use Prim.Native.Nat.{ℕ, suc, _+_, _-_, _<_}
 use native.Mathlib.Omega.{arith}
 use borrow.Author.Tests.{ltb-true, lt-ltb, leb-true, le-leb, not-true}
-use lib.Dec.{leb, ltb}
+use lib.Dec.{T, leb, ltb}
 use lib.IntN.{ℤ}
 use lib.ListN.{length}
-use Rattle.horner.specs.definitions.Form.{Form, int, pop, pow, isZero}
-use Rattle.horner.specs.definitions.Integers.{ℤ-ring, isZeroℤ}
-use Rattle.horner.specs.definitions.Normal.{Normal, IsPow, Lead, isPow, leads}
-use Rattle.text.specs.definitions.FormJudging.{Node, nodes}
+use Rattle.horner.specs.definitions.Form.{Form, int, pop, pow, isZero, Normal, Lead, isPow, leads}
+use Rattle.horner.specs.definitions.Rings.{ℤ-ring, isZeroℤ}
+use Rattle.text.specs.definitions.FormReading.{Node, nodes, text, popHead, powHead}
 use Rattle.text.specs.definitions.FormMeaning.{AllStand}
-use Rattle.text.specs.definitions.FormText.{text, popHead, powHead}
 use Rattle.text_laws.specs.laws.Bytes.{and-l, and-r, and-i}
 
-pow-is : (x : Form ℤ) → isPow x ≡ true → IsPow x
+pow-is : (x : Form ℤ) → isPow x ≡ true → T (isPow x)
 pow-is (int z) e = absurd (true≢false (sym e))
 pow-is (pop i x) e = absurd (true≢false (sym e))
 pow-is (pow i x y) e = tt
 
-is-pow : (x : Form ℤ) → IsPow x → isPow x ≡ true
+is-pow : (x : Form ℤ) → T (isPow x) → isPow x ≡ true
 is-pow (int z) h = absurd h
 is-pow (pop i x) h = absurd h
 is-pow (pow i x y) h = refl
@@ -56,8 +54,12 @@ module _ (m : ℕ) where
   stand-normal (int z) l p h = tt
   stand-normal (pop i x) l p h =
       let ks = nodes (l + i) (p + length (popHead i)) x in
-      let o = all-right ks _ h .0 in
-      (leb-true 1 i (and-l (leb 1 i) (isPow x) o), pow-is x (and-r (leb 1 i) (isPow x) o), level (m - (l + i)) (m - l - i) x (omega arith) (stand-normal x (l + i) (p + length (popHead i)) (all-left ks _ h)))
+      let o = all-right ks _ h .0 in (
+        leb-true 1 i (and-l (leb 1 i) (isPow x) o),
+        pow-is x (and-r (leb 1 i) (isPow x) o),
+        level (m - (l + i)) (m - l - i) x
+            (omega arith) (stand-normal x (l + i) (p + length (popHead i)) (all-left ks _ h)),
+      )
   stand-normal (pow i x y) l p h =
       let ks = nodes l (p + length (powHead i)) x in
       let g = all-right ks _ h in
@@ -69,7 +71,8 @@ module _ (m : ℕ) where
         omega arith,
         stand-normal x l (p + length (powHead i)) (all-left ks _ h),
         lead-is x (and-r (ltb l m && leb 1 i) (leads ℤ-ring x) o),
-        level (m - suc l) (m - l - 1) y (omega arith) (stand-normal y (suc l) (p + length (powHead i) + length (text x) + 1) (all-left js _ g)),
+        level (m - suc l) (m - l - 1) y (omega arith)
+            (stand-normal y (suc l) (p + length (powHead i) + length (text x) + 1) (all-left js _ g)),
       )
 
   pub normal-stand : (f : Form ℤ) (l p : ℕ) → Normal ℤ-ring (m - l) f → AllStand m (nodes l p f)

@@ -11,14 +11,13 @@ use lib.Dec.{eqb}
 use lib.IntN.{ℤ, pos, negsuc}
 use lib.ListN.{length}
 use Rattle.horner.specs.definitions.Form.{Form, int, pop, pow}
-use Rattle.text.specs.definitions.Bytes.{bytes, same, digit, all}
+use Rattle.text.specs.definitions.Bytes.{bytes, same, digit, all, canonical, readInt, decimal, writeInt}
 use Rattle.text.specs.definitions.FormMeaning.{openAfter}
-use Rattle.text.specs.definitions.FormReading.{Frame, inPop, inPow, inRest, Kind, Spot, before, number, head, index, behind, on, off, intBegun, headBegun, follow, followInt, step, check}
-use Rattle.text.specs.definitions.FormText.{text, popHead, powHead}
-use Rattle.text.specs.definitions.Numerals.{canonical, readInt, dec, writeInt}
+use Rattle.text.specs.definitions.FormReading.{Frame, inPop, inPow, inRest, Kind, Spot, before, number, head, index, behind, on, off}
+use Rattle.text.specs.definitions.FormReading.{intBegun, headBegun, follow, followInt, step, check, text, popHead, powHead}
 use Rattle.text_laws.specs.laws.Bytes.{and-l, and-r, either, same-eq, digit-range}
 use Rattle.text_laws.specs.laws.FormSofar.{frameBytes, stackBytes, soFar, SpotOk, room-check}
-use Rattle.text_laws.specs.laws.Numerals.{canonical-dec}
+use Rattle.text_laws.specs.laws.Numerals.{canonical-decimal}
 use Rattle.text_laws.specs.laws.Prefixes.{canonical-digits, begun-stop, all-back}
 
 no-on : {s : Spot} {fs : List Frame} {P : Type 0} → off ≡ on s fs → P
@@ -28,30 +27,35 @@ open-digits : (w : List ℕ) (d : ℕ) (bs : List ℕ) → all digit w ≡ true 
 open-digits [] d bs a = refl
 open-digits (x ∷ w) d bs a =
     let r = digit-range x (and-l (digit x) (all digit w) a) in
-    rw (ne-eqb x 40 (omega arith), openAfter) (rw (ne-eqb x 41 (omega arith), openAfter) (open-digits w d bs (and-r (digit x) (all digit w) a)))
+    rw (ne-eqb x 40 (omega arith), openAfter)
+    (rw (ne-eqb x 41 (omega arith), openAfter) (open-digits w d bs (and-r (digit x) (all digit w) a)))
 
-open-dec : (n d : ℕ) (bs : List ℕ) → openAfter d (dec n ++ bs) ≡ openAfter d bs
-open-dec n d bs = open-digits (dec n) d bs (canonical-digits (dec n) (canonical-dec n))
+open-decimal : (n d : ℕ) (bs : List ℕ) → openAfter d (decimal n ++ bs) ≡ openAfter d bs
+open-decimal n d bs = open-digits (decimal n) d bs (canonical-digits (decimal n) (canonical-decimal n))
 
 open-int : (z : ℤ) (d : ℕ) (bs : List ℕ) → openAfter d (writeInt z ++ bs) ≡ openAfter d bs
-open-int (pos n) d bs = open-dec n d bs
-open-int (negsuc n) d bs = open-dec (suc n) d bs
+open-int (pos n) d bs = open-decimal n d bs
+open-int (negsuc n) d bs = open-decimal (suc n) d bs
 
 open-pop : (i d : ℕ) (bs : List ℕ) → openAfter d (popHead i ++ bs) ≡ openAfter (suc d) bs
-open-pop i d bs = ap (openAfter (suc d)) (append-assoc (dec i) (32 ∷ []) bs) ∙ open-dec i (suc d) (32 ∷ bs)
+open-pop i d bs = ap (openAfter (suc d)) (append-assoc (decimal i) (32 ∷ []) bs) ∙ open-decimal i (suc d) (32 ∷ bs)
 
 open-pow : (i d : ℕ) (bs : List ℕ) → openAfter d (powHead i ++ bs) ≡ openAfter (suc d) bs
-open-pow i d bs = ap (openAfter (suc d)) (append-assoc (dec i) (32 ∷ []) bs) ∙ open-dec i (suc d) (32 ∷ bs)
+open-pow i d bs = ap (openAfter (suc d)) (append-assoc (decimal i) (32 ∷ []) bs) ∙ open-decimal i (suc d) (32 ∷ bs)
 
 -- a form leaves none
 open-text : (f : Form ℤ) (d : ℕ) (bs : List ℕ) → openAfter d (text f ++ bs) ≡ openAfter d bs
 open-text (int z) d bs = open-int z d bs
 open-text (pop i x) d bs =
-    ap (openAfter d) (append-assoc (popHead i) (text x ++ (41 ∷ [])) bs ∙ ap (λ (z : List ℕ). popHead i ++ z) (append-assoc (text x) (41 ∷ []) bs))
+    ap (openAfter d)
+    (append-assoc (popHead i) (text x ++ (41 ∷ [])) bs ∙ ap (λ (z : List ℕ). popHead i ++ z) (append-assoc (text x) (41 ∷ []) bs))
     ∙ open-pop i d (text x ++ (41 ∷ bs))
     ∙ open-text x (suc d) (41 ∷ bs)
 open-text (pow i x y) d bs =
-    ap (openAfter d) (append-assoc (powHead i) (text x ++ (32 ∷ text y ++ (41 ∷ []))) bs ∙ ap (λ (z : List ℕ). powHead i ++ z) (append-assoc (text x) (32 ∷ text y ++ (41 ∷ [])) bs ∙ ap (λ (z : List ℕ). text x ++ (32 ∷ z)) (append-assoc (text y) (41 ∷ []) bs)))
+    ap (openAfter d) (append-assoc (powHead i) (text x ++ (32 ∷ text y ++ (41 ∷ []))) bs
+    ∙ ap (λ (z : List ℕ). powHead i ++ z)
+    (append-assoc (text x) (32 ∷ text y ++ (41 ∷ [])) bs
+    ∙ ap (λ (z : List ℕ). text x ++ (32 ∷ z)) (append-assoc (text y) (41 ∷ []) bs)))
     ∙ open-pow i d (text x ++ (32 ∷ text y ++ (41 ∷ bs)))
     ∙ open-text x (suc d) (32 ∷ text y ++ (41 ∷ bs))
     ∙ open-text y (suc d) (41 ∷ bs)
@@ -60,7 +64,8 @@ open-frame : (f : Frame) (d : ℕ) (bs : List ℕ) → openAfter d (frameBytes f
 open-frame (inPop i) d bs = open-pop i d bs
 open-frame (inPow i) d bs = open-pow i d bs
 open-frame (inRest i p) d bs =
-    ap (openAfter d) (append-assoc (powHead i) (text p ++ (32 ∷ [])) bs ∙ ap (λ (z : List ℕ). powHead i ++ z) (append-assoc (text p) (32 ∷ []) bs))
+    ap (openAfter d)
+    (append-assoc (powHead i) (text p ++ (32 ∷ [])) bs ∙ ap (λ (z : List ℕ). powHead i ++ z) (append-assoc (text p) (32 ∷ []) bs))
     ∙ open-pow i d (text p ++ (32 ∷ bs))
     ∙ open-text p (suc d) (32 ∷ bs)
 
@@ -77,7 +82,9 @@ pub open-append : (ks ls : List ℕ) (d : ℕ) → openAfter d (ks ++ ls) ≡ op
 open-append [] ls d = refl
 open-append (b ∷ ks) ls d = go (eqb b 40) (eqb b 41) refl refl (open-append ks ls)
   where
-    go : (x y : Bool) → eqb b 40 ≡ x → eqb b 41 ≡ y → ((c : ℕ) → openAfter c (ks ++ ls) ≡ openAfter (openAfter c ks) ls) → openAfter d (b ∷ ks ++ ls) ≡ openAfter (openAfter d (b ∷ ks)) ls
+    go :
+        (x y : Bool) → eqb b 40 ≡ x → eqb b 41 ≡ y → ((c : ℕ) → openAfter c (ks ++ ls) ≡ openAfter (openAfter c ks) ls) →
+        openAfter d (b ∷ ks ++ ls) ≡ openAfter (openAfter d (b ∷ ks)) ls
     go true y e f ih = rw (e, openAfter) (ih (suc d))
     go false true e f ih = rw (e, openAfter) (rw (f, openAfter) (ih (pred d)))
     go false false e f ih = rw (e, openAfter) (rw (f, openAfter) (ih d))
@@ -116,7 +123,9 @@ index-open k w fs = go (canonical (w ++ (40 ∷ []))) refl
     go false e = rw e
 
 module _ (room : ℕ → Bool) where
-  pub open-depth : (s : Spot) (fs : List Frame) (s′ : Spot) (fs′ : List Frame) → SpotOk room (length fs) s → step s fs 40 ≡ on s′ fs′ → (s ≡ before) × (openAfter 0 (soFar s fs) ≡ length fs)
+  pub open-depth :
+      (s : Spot) (fs : List Frame) (s′ : Spot) (fs′ : List Frame) → SpotOk room (length fs) s → step s fs 40 ≡ on s′ fs′ →
+      (s ≡ before) × (openAfter 0 (soFar s fs) ≡ length fs)
   open-depth before fs s′ fs′ a g = (refl, open-stack fs 0 [] ∙ zero-add (length fs))
   open-depth (number w) fs s′ fs′ a g = no-on (sym (number-open w fs a) ∙ g)
   open-depth (head []) fs s′ fs′ a g = no-on g
@@ -130,7 +139,9 @@ module _ (room : ℕ → Bool) where
   Checks d [] = Unit {0}
   Checks d (b ∷ bs) = (b ≡ 40 → room d ≡ true) × Checks (openAfter d (b ∷ [])) bs
 
-  pub checks-before : (s : Spot) (fs : List Frame) (b : ℕ) (s′ : Spot) (fs′ : List Frame) (bs : List ℕ) → SpotOk (λ d. true) (length fs) s → step s fs b ≡ on s′ fs′ → check room s (length fs) b ≡ 0
+  pub checks-before :
+      (s : Spot) (fs : List Frame) (b : ℕ) (s′ : Spot) (fs′ : List Frame) (bs : List ℕ) → SpotOk (λ d. true) (length fs) s →
+      step s fs b ≡ on s′ fs′ → check room s (length fs) b ≡ 0
       → soFar s′ fs′ ≡ soFar s fs ++ (b ∷ []) → Checks (openAfter 0 (soFar s′ fs′)) bs → Checks (openAfter 0 (soFar s fs)) (b ∷ bs)
   checks-before s fs b s′ fs′ bs a g c w h = (λ e. roomed e, rw (ap (openAfter 0) w ∙ open-append (soFar s fs) (b ∷ []) 0) at h)
     where

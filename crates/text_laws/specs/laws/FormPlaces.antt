@@ -1,4 +1,5 @@
--- Where a form's text is refused: the first byte such that no form text begins with the bytes so far, or the text's length if it ends early.
+-- Where a form's text is refused: the first byte such that no form text begins with the bytes so far, or the text's length if it ends
+-- early.
 use mathlib.Core.Bool.{Bool, true, false}
 use mathlib.Core.List.{List, [], _∷_, _++_, append-assoc, append-nil}
 use mathlib.Core.Option.{Option, none, some}
@@ -9,9 +10,10 @@ use lib.Dec.{eqb}
 use lib.IntN.{ℤ}
 use lib.ListN.{length}
 use Rattle.horner.specs.definitions.Form.{Form}
-use Rattle.text.specs.definitions.Answer.{refusedAt, fine}
+use Rattle.text.specs.definitions.Bytes.{refusedAt, fine}
 use Rattle.text.specs.definitions.FormMeaning.{openAfter}
-use Rattle.text.specs.definitions.FormReading.{Frame, Spot, before, number, head, index, behind, Next, on, off, step, caseNext, wholeForm, wholeOr, check, run}
+use Rattle.text.specs.definitions.FormReading.{Frame, Spot, before, number, head, index, behind, Next, on, off, step, caseNext, wholeForm}
+use Rattle.text.specs.definitions.FormReading.{wholeOr, check, run}
 use Rattle.text_laws.specs.laws.FormOpen.{Checks, checks-before}
 use Rattle.text_laws.specs.laws.FormSofar.{soFar, SpotOk, StackOk, Held, held-step}
 use Rattle.text_laws.specs.laws.Places.{refusal-parts}
@@ -40,7 +42,13 @@ pub record Reached (s : Spot) (fs : List Frame) (ks : List ℕ) (s′ : Spot) (f
 
 none-yet : (s : Spot) (fs : List Frame) → SpotOk yes′ (length fs) s → StackOk yes′ fs → Reached s fs [] s fs
 none-yet s fs a h =
-    record { spot-ok = a; stack-ok = h; written = sym (append-nil (soFar s fs)); goes = λ p zs. ap (λ (q : ℕ). run yes′ q s fs zs) (let e : p ≡ p + 0 = omega arith in e) }
+    record {
+      spot-ok = a;
+      stack-ok = h;
+      written = sym (append-nil (soFar s fs));
+      goes = λ p zs. ap (λ (q : ℕ). run yes′ q s fs zs)
+          (let e : p ≡ p + 0 = omega arith in e);
+    }
 
 before-them : (s : Spot) (fs : List Frame) (b : ℕ) (s′ : Spot) (fs′ : List Frame) (ks : List ℕ) (s″ : Spot) (fs″ : List Frame)
     → step s fs b ≡ on s′ fs′ → soFar s′ fs′ ≡ soFar s fs ++ (b ∷ []) → Reached s′ fs′ ks s″ fs″ → Reached s fs (b ∷ ks) s″ fs″
@@ -57,23 +65,34 @@ before-them s fs b s′ fs′ ks s″ fs″ g w q =
 -- how a reading that stands at the place p is refused with the number e at the place q
 module _ (room : ℕ → Bool) where
   pub data Refusal (p : ℕ) (s : Spot) (fs : List Frame) (ts : List ℕ) (e q : ℕ) : Type 0 where
-    early : (s′ : Spot) (fs′ : List Frame) → Reached s fs ts s′ fs′ → Checks room (openAfter 0 (soFar s fs)) ts → wholeForm s′ fs′ ≡ none → e ≡ 4 → q ≡ p + length ts → Refusal p s fs ts e q
-    bad : (ks : List ℕ) (b : ℕ) (zs : List ℕ) (s′ : Spot) (fs′ : List Frame) → ts ≡ ks ++ (b ∷ zs) → Reached s fs ks s′ fs′ → Checks room (openAfter 0 (soFar s fs)) ks → step s′ fs′ b ≡ off → e ≡ 4 → q ≡ p + length ks
+    early :
+        (s′ : Spot) (fs′ : List Frame) → Reached s fs ts s′ fs′ → Checks room (openAfter 0 (soFar s fs)) ts → wholeForm s′ fs′ ≡ none →
+        e ≡ 4 → q ≡ p + length ts → Refusal p s fs ts e q
+    bad :
+        (ks : List ℕ) (b : ℕ) (zs : List ℕ) (s′ : Spot) (fs′ : List Frame) → ts ≡ ks ++ (b ∷ zs) → Reached s fs ks s′ fs′ →
+        Checks room (openAfter 0 (soFar s fs)) ks → step s′ fs′ b ≡ off → e ≡ 4 → q ≡ p + length ks
         → Refusal p s fs ts e q
-    past : (ks : List ℕ) (b : ℕ) (zs : List ℕ) (s′ : Spot) (fs′ : List Frame) (s″ : Spot) (fs″ : List Frame) → ts ≡ ks ++ (b ∷ zs) → Reached s fs ks s′ fs′ → Checks room (openAfter 0 (soFar s fs)) ks → step s′ fs′ b ≡ on s″ fs″
+    past :
+        (ks : List ℕ) (b : ℕ) (zs : List ℕ) (s′ : Spot) (fs′ : List Frame) (s″ : Spot) (fs″ : List Frame) → ts ≡ ks ++ (b ∷ zs) →
+        Reached s fs ks s′ fs′ → Checks room (openAfter 0 (soFar s fs)) ks → step s′ fs′ b ≡ on s″ fs″
         → e ≡ check room s′ (length fs′) b → (e ≡ 0 → ⊥) → q ≡ p + length ks → Refusal p s fs ts e q
 
-  later : (p : ℕ) (s : Spot) (fs : List Frame) (b : ℕ) (s′ : Spot) (fs′ : List Frame) (ts : List ℕ) (e q : ℕ) → SpotOk yes′ (length fs) s → step s fs b ≡ on s′ fs′ → check room s (length fs) b ≡ 0
+  later :
+      (p : ℕ) (s : Spot) (fs : List Frame) (b : ℕ) (s′ : Spot) (fs′ : List Frame) (ts : List ℕ) (e q : ℕ) → SpotOk yes′ (length fs) s →
+      step s fs b ≡ on s′ fs′ → check room s (length fs) b ≡ 0
       → soFar s′ fs′ ≡ soFar s fs ++ (b ∷ []) → Refusal (suc p) s′ fs′ ts e q → Refusal p s fs (b ∷ ts) e q
   later p s fs b s′ fs′ ts e q a g c w (early s″ fs″ r h o i j) =
       early s″ fs″ (before-them s fs b s′ fs′ ts s″ fs″ g w r) (checks-before room s fs b s′ fs′ ts a g c w h) o i (omega arith)
   later p s fs b s′ fs′ ts e q a g c w (bad ks x zs s″ fs″ f r h o i j) =
-      bad (b ∷ ks) x zs s″ fs″ (ap (λ (z : List ℕ). b ∷ z) f) (before-them s fs b s′ fs′ ks s″ fs″ g w r) (checks-before room s fs b s′ fs′ ks a g c w h) o i (omega arith)
+      bad (b ∷ ks) x zs s″ fs″ (ap (λ (z : List ℕ). b ∷ z) f) (before-them s fs b s′ fs′ ks s″ fs″ g w r)
+      (checks-before room s fs b s′ fs′ ks a g c w h) o i (omega arith)
   later p s fs b s′ fs′ ts e q a g c w (past ks x zs s″ fs″ s‴ fs‴ f r h o i m j) =
-      past (b ∷ ks) x zs s″ fs″ s‴ fs‴ (ap (λ (z : List ℕ). b ∷ z) f) (before-them s fs b s′ fs′ ks s″ fs″ g w r) (checks-before room s fs b s′ fs′ ks a g c w h) o i m (omega arith)
+      past (b ∷ ks) x zs s″ fs″ s‴ fs‴ (ap (λ (z : List ℕ). b ∷ z) f) (before-them s fs b s′ fs′ ks s″ fs″ g w r)
+      (checks-before room s fs b s′ fs′ ks a g c w h) o i m (omega arith)
 
   trace-on : (c p : ℕ) (s : Spot) (fs : List Frame) (b : ℕ) (ts : List ℕ) (e q : ℕ) → SpotOk yes′ (length fs) s → StackOk yes′ fs
-      → (s′ : Spot) (fs′ : List Frame) → step s fs b ≡ on s′ fs′ → Held yes′ (on s′ fs′) (soFar s fs ++ (b ∷ [])) → check room s (length fs) b ≡ c
+      → (s′ : Spot) (fs′ : List Frame) → step s fs b ≡ on s′ fs′ → Held yes′ (on s′ fs′) (soFar s fs ++ (b ∷ [])) → check room s
+      (length fs) b ≡ c
       → (SpotOk yes′ (length fs′) s′ → StackOk yes′ fs′ → run room (suc p) s′ fs′ ts ≡ refusedAt e q → Refusal (suc p) s′ fs′ ts e q)
       → fine c p (λ u. run room (suc p) s′ fs′ ts) ≡ refusedAt e q → Refusal p s fs (b ∷ ts) e q
   trace-on zero p s fs b ts e q a h s′ fs′ g w i ih r = later p s fs b s′ fs′ ts e q a g i (w .0) (ih (w .1 .0) (w .1 .1) r)
@@ -81,23 +100,33 @@ module _ (room : ℕ → Bool) where
       let k = refusal-parts (suc c) p e q r in
       past [] b ts s fs s′ fs′ refl (none-yet s fs a h) tt g (k .0 ∙ sym i) (omega arith) (omega (arith, k .1))
 
-  trace-next : (x : Next) (p : ℕ) (s : Spot) (fs : List Frame) (b : ℕ) (ts : List ℕ) (e q : ℕ) → SpotOk yes′ (length fs) s → StackOk yes′ fs → step s fs b ≡ x
+  trace-next :
+      (x : Next) (p : ℕ) (s : Spot) (fs : List Frame) (b : ℕ) (ts : List ℕ) (e q : ℕ) → SpotOk yes′ (length fs) s → StackOk yes′ fs →
+      step s fs b ≡ x
       → Held yes′ x (soFar s fs ++ (b ∷ []))
-      → ((s′ : Spot) (fs′ : List Frame) → SpotOk yes′ (length fs′) s′ → StackOk yes′ fs′ → run room (suc p) s′ fs′ ts ≡ refusedAt e q → Refusal (suc p) s′ fs′ ts e q)
-      → caseNext x (refusedAt 4 p) (λ s′ fs′. fine (check room s (length fs) b) p (λ u. run room (suc p) s′ fs′ ts)) ≡ refusedAt e q → Refusal p s fs (b ∷ ts) e q
+      → ((s′ : Spot) (fs′ : List Frame) → SpotOk yes′ (length fs′) s′ → StackOk yes′ fs′ → run room (suc p) s′ fs′ ts ≡ refusedAt e q →
+      Refusal (suc p) s′ fs′ ts e q)
+      → caseNext x (refusedAt 4 p) (λ s′ fs′. fine (check room s (length fs) b) p (λ u. run room (suc p) s′ fs′ ts)) ≡ refusedAt e q →
+      Refusal p s fs (b ∷ ts) e q
   trace-next off p s fs b ts e q a h g w ih r =
       let k = refusal-parts 4 p e q r in
       bad [] b ts s fs refl (none-yet s fs a h) tt g (k .0) (omega (arith, k .1))
-  trace-next (on s′ fs′) p s fs b ts e q a h g w ih r = trace-on (check room s (length fs) b) p s fs b ts e q a h s′ fs′ g w refl (ih s′ fs′) r
+  trace-next (on s′ fs′) p s fs b ts e q a h g w ih r =
+      trace-on (check room s (length fs) b) p s fs b ts e q a h s′ fs′ g w refl (ih s′ fs′) r
 
-  trace-end : (x : Option (Form ℤ)) (p : ℕ) (s : Spot) (fs : List Frame) (e q : ℕ) → SpotOk yes′ (length fs) s → StackOk yes′ fs → wholeForm s fs ≡ x
+  trace-end :
+      (x : Option (Form ℤ)) (p : ℕ) (s : Spot) (fs : List Frame) (e q : ℕ) → SpotOk yes′ (length fs) s → StackOk yes′ fs →
+      wholeForm s fs ≡ x
       → wholeOr p x ≡ refusedAt e q → Refusal p s fs [] e q
   trace-end none p s fs e q a h g r =
       let k = refusal-parts 4 p e q r in
       early s fs (none-yet s fs a h) tt g (k .0) (omega (arith, k .1))
   trace-end (some f) p s fs e q a h g r = no-refusal (sym r)
 
-  pub trace : (ts : List ℕ) (p : ℕ) (s : Spot) (fs : List Frame) (e q : ℕ) → SpotOk yes′ (length fs) s → StackOk yes′ fs → run room p s fs ts ≡ refusedAt e q → Refusal p s fs ts e q
+  pub trace :
+      (ts : List ℕ) (p : ℕ) (s : Spot) (fs : List Frame) (e q : ℕ) → SpotOk yes′ (length fs) s → StackOk yes′ fs →
+      run room p s fs ts ≡ refusedAt e q → Refusal p s fs ts e q
   trace [] p s fs e q a h r = trace-end (wholeForm s fs) p s fs e q a h refl r
   trace (b ∷ ts) p s fs e q a h r =
-      trace-next (step s fs b) p s fs b ts e q a h refl (held-step yes′ s fs b a h (check-yes s (length fs) b)) (λ s′ fs′ a′ h′. trace ts (suc p) s′ fs′ e q a′ h′) r
+      trace-next (step s fs b) p s fs b ts e q a h refl (held-step yes′ s fs b a h (check-yes s (length fs) b))
+      (λ s′ fs′ a′ h′. trace ts (suc p) s′ fs′ e q a′ h′) r

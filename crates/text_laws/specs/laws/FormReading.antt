@@ -1,4 +1,5 @@
--- A text reads as a form exactly when it is the form's text, and the limits of length and nesting hold; two forms with one text are one form.
+-- A text reads as a form exactly when it is the form's text, and the limits of length and nesting hold; two forms with one text are one
+-- form.
 use mathlib.Core.Bool.{Bool, true, false, _&&_}
 use mathlib.Core.List.{List, []}
 use mathlib.Core.Logic.{_↔_}
@@ -11,10 +12,9 @@ use lib.IntN.{ℤ}
 use lib.ListN.{length}
 use Rattle.horner.specs.definitions.Form.{Form, int, pop, pow}
 use Rattle.horner.specs.definitions.Measures.{nest}
-use Rattle.text.specs.definitions.Answer.{read}
+use Rattle.text.specs.definitions.Bytes.{read}
 use Rattle.text.specs.definitions.FormMeaning.{IsFormText}
-use Rattle.text.specs.definitions.FormReading.{before, run, readForm}
-use Rattle.text.specs.definitions.FormText.{text}
+use Rattle.text.specs.definitions.FormReading.{before, run, readForm, text}
 use Rattle.text_laws.specs.laws.Bytes.{and-l, and-r, and-i}
 use Rattle.text_laws.specs.laws.FormSofar.{roomy, run-sound}
 use Rattle.text_laws.specs.laws.FormThrough.{through-all}
@@ -32,12 +32,18 @@ module _ (L : ℕ) where
   roomy-nest (pow i x y) d h a =
       let r = ltb-true d L (and-l (ltb d L) (roomy room (suc d) x && roomy room (suc d) y) a) in
       let b = and-r (ltb d L) (roomy room (suc d) x && roomy room (suc d) y) a in
-      omega (arith, roomy-nest x (suc d) r (and-l (roomy room (suc d) x) (roomy room (suc d) y) b), roomy-nest y (suc d) r (and-r (roomy room (suc d) x) (roomy room (suc d) y) b))
+      omega (
+        arith,
+        roomy-nest x (suc d) r (and-l (roomy room (suc d) x) (roomy room (suc d) y) b),
+        roomy-nest y (suc d) r
+            (and-r (roomy room (suc d) x) (roomy room (suc d) y) b),
+      )
 
   pub nest-roomy : (f : Form ℤ) (d : ℕ) → d + nest f ≤ L → roomy room d f ≡ true
   nest-roomy (int z) d h = refl
   nest-roomy (pop i x) d h = and-i (lt-ltb d L (omega arith)) (nest-roomy x (suc d) (omega arith))
-  nest-roomy (pow i x y) d h = and-i (lt-ltb d L (omega arith)) (and-i (nest-roomy x (suc d) (omega arith)) (nest-roomy y (suc d) (omega arith)))
+  nest-roomy (pow i x y) d h =
+      and-i (lt-ltb d L (omega arith)) (and-i (nest-roomy x (suc d) (omega arith)) (nest-roomy y (suc d) (omega arith)))
 
 pub roomy-yes : (f : Form ℤ) (d : ℕ) → roomy (λ d. true) d f ≡ true
 roomy-yes (int z) d = refl
@@ -47,7 +53,8 @@ roomy-yes (pow i x y) d = and-i (roomy-yes x (suc d)) (roomy-yes y (suc d))
 -- two forms with one text are one form
 pub text-injective : (f g : Form ℤ) → text f ≡ text g → f ≡ g
 text-injective f g e =
-    let i : read f ≡ read g = sym (through-all (λ d. true) f (roomy-yes f 0)) ∙ ap (run (λ d. true) 0 before []) e ∙ through-all (λ d. true) g (roomy-yes g 0) in
+    let i : read f ≡ read g = sym (through-all (λ d. true) f (roomy-yes f 0)) ∙ ap (run (λ d. true) 0 before []) e
+    ∙ through-all (λ d. true) g (roomy-yes g 0) in
     let j : f ≡ g = cc in
     j
 

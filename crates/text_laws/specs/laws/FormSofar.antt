@@ -10,13 +10,12 @@ use lib.Dec.{eqb}
 use lib.IntN.{ℤ}
 use lib.ListN.{length}
 use Rattle.horner.specs.definitions.Form.{Form, int, pop, pow}
-use Rattle.text.specs.definitions.Answer.{Reading, read, refusedAt, fine}
-use Rattle.text.specs.definitions.Bytes.{bytes, same}
-use Rattle.text.specs.definitions.FormReading.{Frame, inPop, inPow, inRest, Kind, popKind, powKind, Spot, before, number, head, index, behind, Next, on, off, intBegun, headBegun, headWord, follow, followInt, indexed, step, caseNext, intForm, wholeForm, wholeOr, check, run}
-use Rattle.text.specs.definitions.FormText.{text, popHead, powHead}
-use Rattle.text.specs.definitions.Numerals.{canonical, readNat, readInt}
+use Rattle.text.specs.definitions.Bytes.{Reading, read, refusedAt, fine, bytes, same, canonical, readNat, readInt}
+use Rattle.text.specs.definitions.FormReading.{Frame, inPop, inPow, inRest, Kind, popKind, powKind, Spot, before, number, head, index}
+use Rattle.text.specs.definitions.FormReading.{behind, Next, on, off, intBegun, headBegun, headWord, follow, followInt, indexed, step}
+use Rattle.text.specs.definitions.FormReading.{caseNext, intForm, wholeForm, wholeOr, check, run, text, popHead, powHead}
 use Rattle.text_laws.specs.laws.Bytes.{and-i, same-eq}
-use Rattle.text_laws.specs.laws.Numerals.{no-none, int-read, dec-read}
+use Rattle.text_laws.specs.laws.Numerals.{no-none, int-read, decimal-read}
 use Rattle.text_laws.specs.laws.Sofar.{no-refusal}
 
 -- ---- the bytes that a state stands for
@@ -85,7 +84,9 @@ module _ (room : ℕ → Bool) where
   front-full t (x ∷ w) e = e
 
   -- a byte behind a whole form
-  held-follow : (f : Form ℤ) (fs : List Frame) (b : ℕ) → roomy (length fs) f ≡ true → StackOk fs → Held (follow f fs b) ((stackBytes fs ++ text f) ++ (b ∷ []))
+  held-follow :
+      (f : Form ℤ) (fs : List Frame) (b : ℕ) → roomy (length fs) f ≡ true → StackOk fs →
+      Held (follow f fs b) ((stackBytes fs ++ text f) ++ (b ∷ []))
   held-follow f [] b a h = tt
   held-follow f (inPop i ∷ fs) b a h =
       held-cond (eqb b 41) _ _ _
@@ -100,11 +101,15 @@ module _ (room : ℕ → Bool) where
       (λ e. (rw (eqb-true b 41 e) (simp append-assoc), (and-i (h .0 .0) (and-i (h .0 .1) a), h .1)))
       λ e. tt
 
-  held-int : (w : List ℕ) (fs : List Frame) (b : ℕ) (r : Option ℤ) → readInt w ≡ r → StackOk fs → Held (followInt r fs b) ((stackBytes fs ++ w) ++ (b ∷ []))
+  held-int :
+      (w : List ℕ) (fs : List Frame) (b : ℕ) (r : Option ℤ) → readInt w ≡ r → StackOk fs →
+      Held (followInt r fs b) ((stackBytes fs ++ w) ++ (b ∷ []))
   held-int w fs b none e h = tt
   held-int w fs b (some z) e h = rw (int-read w z e) at (held-follow (int z) fs b refl h)
 
-  held-head : (w : List ℕ) (fs : List Frame) (bs : List ℕ) → room (length fs) ≡ true → StackOk fs → stackBytes fs ++ (40 ∷ w) ≡ bs → Held (headWord w fs) bs
+  held-head :
+      (w : List ℕ) (fs : List Frame) (bs : List ℕ) → room (length fs) ≡ true → StackOk fs → stackBytes fs ++ (40 ∷ w) ≡ bs →
+      Held (headWord w fs) bs
   held-head w fs bs r h e =
       held-cond (same w (bytes "POP ")) _ _ bs (λ i. (rw (same-eq w (bytes "POP ") i) at e, ((r, tt), h))) λ n₁.
       held-cond (same w (bytes "POW ")) _ _ bs (λ i. (rw (same-eq w (bytes "POW ") i) at e, ((r, tt), h))) λ n₂.
@@ -113,8 +118,8 @@ module _ (room : ℕ → Bool) where
   held-indexed : (k : Kind) (w : List ℕ) (fs : List Frame) (m : Option ℕ) → readNat w ≡ m → room (length fs) ≡ true → StackOk fs
       → Held (indexed k m fs) ((stackBytes fs ++ (kindBytes k ++ w)) ++ (32 ∷ []))
   held-indexed k w fs none e r h = tt
-  held-indexed popKind w fs (some i) e r h = (rw (← dec-read w i e) (simp (append-assoc, append-nil)), (tt, (r, h)))
-  held-indexed powKind w fs (some i) e r h = (rw (← dec-read w i e) (simp (append-assoc, append-nil)), (tt, (r, h)))
+  held-indexed popKind w fs (some i) e r h = (rw (← decimal-read w i e) (simp (append-assoc, append-nil)), (tt, (r, h)))
+  held-indexed powKind w fs (some i) e r h = (rw (← decimal-read w i e) (simp (append-assoc, append-nil)), (tt, (r, h)))
 
   pub room-check : (d : ℕ) → _≡_ {A = ℕ} (cond (room d) 0 6) 0 → room d ≡ true
   room-check d e = go (room d) refl
@@ -123,7 +128,9 @@ module _ (room : ℕ → Bool) where
       go true k = k
       go false k = let h : _≡_ {A = ℕ} 6 0 = rw k at e in absurd (omega arith)
 
-  held-before : (fs : List Frame) (b : ℕ) → StackOk fs → check room before (length fs) b ≡ 0 → Held (step before fs b) ((stackBytes fs ++ []) ++ (b ∷ []))
+  held-before :
+      (fs : List Frame) (b : ℕ) → StackOk fs → check room before (length fs) b ≡ 0 →
+      Held (step before fs b) ((stackBytes fs ++ []) ++ (b ∷ []))
   held-before fs b h c = go (eqb b 40) refl
     where
       go : (e : Bool) → eqb b 40 ≡ e → Held (step before fs b) ((stackBytes fs ++ []) ++ (b ∷ []))
@@ -132,19 +139,25 @@ module _ (room : ℕ → Bool) where
       go false k =
           rw (k, step) (held-cond (intBegun (b ∷ [])) _ _ _ (λ i. (simp append-nil, (i, h))) λ i. tt)
 
-  held-index : (k : Kind) (w : List ℕ) (fs : List Frame) (b : ℕ) → room (length fs) ≡ true → StackOk fs → Held (step (index k w) fs b) ((stackBytes fs ++ (kindBytes k ++ w)) ++ (b ∷ []))
+  held-index :
+      (k : Kind) (w : List ℕ) (fs : List Frame) (b : ℕ) → room (length fs) ≡ true → StackOk fs →
+      Held (step (index k w) fs b) ((stackBytes fs ++ (kindBytes k ++ w)) ++ (b ∷ []))
   held-index k w fs b r h = go (eqb b 32) refl
     where
       go : (e : Bool) → eqb b 32 ≡ e → Held (step (index k w) fs b) ((stackBytes fs ++ (kindBytes k ++ w)) ++ (b ∷ []))
       go true e = rw (e, step) (rw (eqb-true b 32 e) (held-indexed k w fs (readNat w) refl r h))
       go false e =
           rw (e, step)
-          (held-cond (canonical (w ++ (b ∷ []))) _ _ _ (λ i. (simp append-assoc, ((r, front-full canonical (w ++ (b ∷ [])) i), h))) λ i. tt)
+          (held-cond (canonical (w ++ (b ∷ []))) _ _ _ (λ i. (simp append-assoc, ((r, front-full canonical (w ++ (b ∷ [])) i), h))) λ i.
+          tt)
 
-  pub held-step : (s : Spot) (fs : List Frame) (b : ℕ) → SpotOk (length fs) s → StackOk fs → check room s (length fs) b ≡ 0 → Held (step s fs b) (soFar s fs ++ (b ∷ []))
+  pub held-step :
+      (s : Spot) (fs : List Frame) (b : ℕ) → SpotOk (length fs) s → StackOk fs → check room s (length fs) b ≡ 0 →
+      Held (step s fs b) (soFar s fs ++ (b ∷ []))
   held-step before fs b a h c = held-before fs b h c
   held-step (number w) fs b a h c =
-      held-cond (intBegun (w ++ (b ∷ []))) _ _ _ (λ i. (sym (append-assoc (stackBytes fs) w (b ∷ [])), (i, h))) λ i. held-int w fs b (readInt w) refl h
+      held-cond (intBegun (w ++ (b ∷ []))) _ _ _ (λ i. (sym (append-assoc (stackBytes fs) w (b ∷ [])), (i, h))) λ i. held-int w fs b
+      (readInt w) refl h
   held-step (head w) fs b a h c = held-head (w ++ (b ∷ [])) fs _ (a .0) h (sym (append-assoc (stackBytes fs) (40 ∷ w) (b ∷ [])))
   held-step (index k w) fs b a h c = held-index k w fs b (a .0) h
   held-step (behind f) fs b a h c = held-follow f fs b a h
@@ -154,7 +167,9 @@ module _ (room : ℕ → Bool) where
   int-whole w none f e h = no-none h
   int-whole w (some z) f e h = let i : int z ≡ f = cc in (ap text (sym i) ∙ int-read w z e, ap (roomy 0) (sym i))
 
-  whole-sound : (s : Spot) (fs : List Frame) (f : Form ℤ) → SpotOk (length fs) s → wholeForm s fs ≡ some f → (text f ≡ soFar s fs) × (roomy 0 f ≡ true)
+  whole-sound :
+      (s : Spot) (fs : List Frame) (f : Form ℤ) → SpotOk (length fs) s → wholeForm s fs ≡ some f →
+      (text f ≡ soFar s fs) × (roomy 0 f ≡ true)
   whole-sound before fs f a e = no-none e
   whole-sound (number w) [] f a e = int-whole w (readInt w) f refl e
   whole-sound (number w) (g ∷ fs) f a e = no-none e
@@ -172,8 +187,10 @@ module _ (room : ℕ → Bool) where
   fine-zero (suc c) p r f e = no-refusal e
 
   sound-next : (p b : ℕ) (bs cs : List ℕ) (f : Form ℤ) (c : ℕ) (x : Next) → (c ≡ 0 → Held x (cs ++ (b ∷ [])))
-      → ((s : Spot) (fs : List Frame) → SpotOk (length fs) s → StackOk fs → run room (suc p) s fs bs ≡ read f → (text f ≡ soFar s fs ++ bs) × (roomy 0 f ≡ true))
-      → caseNext x (refusedAt 4 p) (λ s′ fs′. fine c p (λ u. run room (suc p) s′ fs′ bs)) ≡ read f → (text f ≡ cs ++ (b ∷ bs)) × (roomy 0 f ≡ true)
+      → ((s : Spot) (fs : List Frame) → SpotOk (length fs) s → StackOk fs → run room (suc p) s fs bs ≡ read f →
+      (text f ≡ soFar s fs ++ bs) × (roomy 0 f ≡ true))
+      → caseNext x (refusedAt 4 p) (λ s′ fs′. fine c p (λ u. run room (suc p) s′ fs′ bs)) ≡ read f → (text f ≡ cs ++ (b ∷ bs))
+      × (roomy 0 f ≡ true)
   sound-next p b bs cs f c off h ih e = no-refusal e
   sound-next p b bs cs f c (on s fs) h ih e =
       let k = fine-zero c p (λ u. run room (suc p) s fs bs) f e in
@@ -182,10 +199,12 @@ module _ (room : ℕ → Bool) where
       (r .0 ∙ ap (λ (z : List ℕ). z ++ bs) (g .0) ∙ append-assoc cs (b ∷ []) bs, r .1)
 
   -- what is read as a form is the form's text, and within the test
-  pub run-sound : (bs : List ℕ) (f : Form ℤ) (p : ℕ) (s : Spot) (fs : List Frame) → SpotOk (length fs) s → StackOk fs → run room p s fs bs ≡ read f
+  pub run-sound :
+      (bs : List ℕ) (f : Form ℤ) (p : ℕ) (s : Spot) (fs : List Frame) → SpotOk (length fs) s → StackOk fs → run room p s fs bs ≡ read f
       → (text f ≡ soFar s fs ++ bs) × (roomy 0 f ≡ true)
   run-sound [] f p s fs a h e =
       let w = whole-sound s fs f a (whole-or p (wholeForm s fs) f e) in
       (w .0 ∙ sym (append-nil (soFar s fs)), w .1)
   run-sound (b ∷ bs) f p s fs a h e =
-      sound-next p b bs (soFar s fs) f (check room s (length fs) b) (step s fs b) (held-step s fs b a h) (λ s′ fs′. run-sound bs f (suc p) s′ fs′) e
+      sound-next p b bs (soFar s fs) f (check room s (length fs) b) (step s fs b) (held-step s fs b a h)
+      (λ s′ fs′. run-sound bs f (suc p) s′ fs′) e

@@ -9,13 +9,15 @@ use lib.Dec.{eqb, leb, ltb}
 use lib.IntN.{ℤ}
 use lib.ListN.{length, length-map}
 use Rattle.horner.specs.definitions.Form.{Form}
-use Rattle.text.specs.definitions.Answer.{Reading, refusedAt, fine}
-use Rattle.text.specs.definitions.Bytes.{bytes, same, digit}
-use Rattle.text.specs.program.FormKinds.{Stand, start, sign, zeroInt, digits, open0, openP, openPO, openPOP, openPOW, zero-i, digits-i, Wait, numberStand, headStand, indexStand, standOf, waitOf, Move, moved, pushed, move, isWhole, caseMove, check as checkStand, ended, walk, verdict, syntax}
-use Rattle.text.specs.definitions.FormReading.{Frame, Kind, popKind, powKind, Spot, before, number, head, index, behind, Next, on, off, headBegun, indexed, step, caseNext, intForm, wholeForm, wholeOr, check, run, readForm}
-use Rattle.text.specs.definitions.Numerals.{canonical, readNat, readInt, isSome, valueFrom}
+use Rattle.text.specs.definitions.Bytes.{Reading, refusedAt, fine, bytes, same, digit, canonical, readNat, readInt, isSome, valueFrom}
+use Rattle.text.specs.program.FormKinds.{Stand, start, sign, zeroInt, digits, open0, openP, openPO, openPOP, openPOW, zero-i, digits-i}
+use Rattle.text.specs.program.FormKinds.{Wait, numberStand, headStand, indexStand, standOf, waitOf, Move, moved, pushed, move, isWhole}
+use Rattle.text.specs.program.FormKinds.{caseMove, check as checkStand, ended, walk, verdict, syntax}
+use Rattle.text.specs.definitions.FormReading.{Frame, Kind, popKind, powKind, Spot, before, number, head, index, behind, Next, on, off}
+use Rattle.text.specs.definitions.FormReading.{headBegun, indexed, step, caseNext, intForm, wholeForm, wholeOr, check, run, readForm}
 use Rattle.text_laws.specs.laws.Bytes.{and-l, either, same-eq}
-use Rattle.text_laws.specs.laws.FormKinds.{waits, moveOf, follow-move, Natural, is-zero, is-leading, natural, Begun, is-sign, is-natural, is-negative, begun, number-step, before-step, leading-some, leading-stand}
+use Rattle.text_laws.specs.laws.FormKinds.{waits, moveOf, follow-move, Natural, is-zero, is-leading, natural, Begun, is-sign}
+use Rattle.text_laws.specs.laws.FormKinds.{is-natural, is-negative, begun, number-step, before-step, leading-some, leading-stand}
 use Rattle.text_laws.specs.laws.FormSofar.{SpotOk, StackOk, Held, held-step}
 use Rattle.text_laws.specs.laws.Numerals.{Leading, leading-more, leading-canonical}
 use Rattle.text_laws.specs.laws.Prefixes.{canonical-digits, all-back, begun-leading}
@@ -25,7 +27,9 @@ abbrev Moves : Spot → List Frame → ℕ → Type 0
 Moves s fs b = moveOf (step s fs b) ≡ move (standOf s) (waits fs) b
 
 -- one byte is asked for
-one-byte : (w : List ℕ) (x : ℕ) (fs : List Frame) (b : ℕ) → (x ≡ b → Moves (head w) fs b) → (eqb b x ≡ false → Moves (head w) fs b) → Moves (head w) fs b
+one-byte :
+    (w : List ℕ) (x : ℕ) (fs : List Frame) (b : ℕ) → (x ≡ b → Moves (head w) fs b) → (eqb b x ≡ false → Moves (head w) fs b) →
+    Moves (head w) fs b
 one-byte w x fs b f g = go (eqb b x) refl
   where
     go : (c : Bool) → eqb b x ≡ c → Moves (head w) fs b
@@ -39,7 +43,8 @@ head-P : (fs : List Frame) (b : ℕ) → Moves (head (bytes "P")) fs b
 head-P fs b = one-byte (bytes "P") 79 fs b (λ e. rw (sym e) refl) (λ k. rw k refl)
 
 head-PO : (fs : List Frame) (b : ℕ) → Moves (head (bytes "PO")) fs b
-head-PO fs b = one-byte (bytes "PO") 80 fs b (λ e. rw (sym e) refl) (λ k. one-byte (bytes "PO") 87 fs b (λ e. rw (sym e) refl) (λ j. rw (k, j) refl))
+head-PO fs b =
+    one-byte (bytes "PO") 80 fs b (λ e. rw (sym e) refl) (λ k. one-byte (bytes "PO") 87 fs b (λ e. rw (sym e) refl) (λ j. rw (k, j) refl))
 
 head-POP : (fs : List Frame) (b : ℕ) → Moves (head (bytes "POP")) fs b
 head-POP fs b = one-byte (bytes "POP") 32 fs b (λ e. rw (sym e) refl) (λ k. rw k refl)
@@ -112,7 +117,9 @@ index-leading k w fs b l = go (eqb b 32) refl (digit b) refl ∙ ap (λ (z : Sta
   where
     go : (s : Bool) → eqb b 32 ≡ s → (d : Bool) → digit b ≡ d → moveOf (step (index k w) fs b) ≡ move (digits-i k) (waits fs) b
     go true s d e = rw (s, step) (rw (leading-canonical w l) (indexed-move k (valueFrom 0 w) fs))
-    go false s true e = rw (s, step) (rw (e, leading-canonical (w ++ (b ∷ [])) (leading-more w b l e)) (ap (λ (z : Stand). moved z (waits fs)) (longer-index k w b l)))
+    go false s true e =
+        rw (s, step) (rw (e, leading-canonical (w ++ (b ∷ [])) (leading-more w b l e))
+        (ap (λ (z : Stand). moved z (waits fs)) (longer-index k w b l)))
     go false s false e = rw (s, step) (rw (e, not-canonical w b e) refl)
 
 index-step : (k : Kind) (w : List ℕ) (fs : List Frame) (b : ℕ) → Natural w → Moves (index k w) fs b
@@ -186,7 +193,8 @@ not-whole (x ∷ []) f ws = go (eqb x 45) (eqb x 48)
     go false false = refl
 not-whole (x ∷ y ∷ w) f ws = refl
 
-whole-stand : (room : ℕ → Bool) (s : Spot) (d : ℕ) (fs : List Frame) → SpotOk room d s → isSome (wholeForm s fs) ≡ isWhole (standOf s) (waits fs)
+whole-stand :
+    (room : ℕ → Bool) (s : Spot) (d : ℕ) (fs : List Frame) → SpotOk room d s → isSome (wholeForm s fs) ≡ isWhole (standOf s) (waits fs)
 whole-stand room before d fs a = refl
 whole-stand room (number w) d [] a = some-form (readInt w) ∙ number-whole w (begun w a)
 whole-stand room (number w) d (f ∷ fs) a = sym (not-whole w (waitOf f) (waits fs))
@@ -213,21 +221,30 @@ module _ (room : ℕ → Bool) where
   whole-verdict none p = refl
   whole-verdict (some f) p = refl
 
-  fine-verdict : (c p : ℕ) (r : Unit {0} → Reading (Form ℤ)) (r′ : Unit {0} → Reading (Unit {0})) → (c ≡ 0 → verdict (r tt) ≡ r′ tt) → verdict (fine c p r) ≡ fine c p r′
+  fine-verdict :
+      (c p : ℕ) (r : Unit {0} → Reading (Form ℤ)) (r′ : Unit {0} → Reading (Unit {0})) → (c ≡ 0 → verdict (r tt) ≡ r′ tt) →
+      verdict (fine c p r) ≡ fine c p r′
   fine-verdict zero p r r′ e = e refl
   fine-verdict (suc c) p r r′ e = refl
 
   next-verdict : (x : Next) (c p b : ℕ) (bs cs : List ℕ) → (c ≡ 0 → Held room x cs)
-      → ((s : Spot) (fs : List Frame) → SpotOk room (length fs) s → StackOk room fs → verdict (run room (suc p) s fs bs) ≡ walk room (suc p) (standOf s) (waits fs) bs)
-      → verdict (caseNext x (refusedAt 4 p) (λ s′ fs′. fine c p (λ u. run room (suc p) s′ fs′ bs))) ≡ caseMove (moveOf x) (refusedAt 4 p) (λ s′ ws′. fine c p (λ u. walk room (suc p) s′ ws′ bs))
+      → ((s : Spot) (fs : List Frame) → SpotOk room (length fs) s → StackOk room fs → verdict (run room (suc p) s fs bs) ≡ walk room
+      (suc p) (standOf s) (waits fs) bs)
+      → verdict (caseNext x (refusedAt 4 p) (λ s′ fs′. fine c p (λ u. run room (suc p) s′ fs′ bs))) ≡ caseMove (moveOf x)
+      (refusedAt 4 p) (λ s′ ws′. fine c p (λ u. walk room (suc p) s′ ws′ bs))
   next-verdict off c p b bs cs h ih = refl
-  next-verdict (on s fs) c p b bs cs h ih = fine-verdict c p (λ u. run room (suc p) s fs bs) (λ u. walk room (suc p) (standOf s) (waits fs) bs) (λ e. let g = h e in ih s fs (g .1 .0) (g .1 .1))
+  next-verdict (on s fs) c p b bs cs h ih =
+      fine-verdict c p (λ u. run room (suc p) s fs bs) (λ u. walk room (suc p) (standOf s) (waits fs) bs)
+      (λ e. let g = h e in ih s fs (g .1 .0) (g .1 .1))
 
-  pub walk-verdict : (bs : List ℕ) (p : ℕ) (s : Spot) (fs : List Frame) → SpotOk room (length fs) s → StackOk room fs → verdict (run room p s fs bs) ≡ walk room p (standOf s) (waits fs) bs
+  pub walk-verdict :
+      (bs : List ℕ) (p : ℕ) (s : Spot) (fs : List Frame) → SpotOk room (length fs) s → StackOk room fs →
+      verdict (run room p s fs bs) ≡ walk room p (standOf s) (waits fs) bs
   walk-verdict [] p s fs a h = whole-verdict (wholeForm s fs) p ∙ ap (λ (b : Bool). ended room b p) (whole-stand room s (length fs) fs a)
   walk-verdict (b ∷ bs) p s fs a h =
       next-verdict (step s fs b) (check room s (length fs) b) p b bs _ (held-step room s fs b a h) (walk-verdict bs (suc p))
-      ∙ ap₂ (λ (x : Move) (c : ℕ). caseMove x (refusedAt 4 p) (λ s′ ws′. fine c p (λ u. walk room (suc p) s′ ws′ bs))) (step-moves room s (length fs) fs b a)
+      ∙ ap₂ (λ (x : Move) (c : ℕ). caseMove x (refusedAt 4 p) (λ s′ ws′. fine c p (λ u. walk room (suc p) s′ ws′ bs)))
+      (step-moves room s (length fs) fs b a)
       (check-stand room s (length fs) (length fs) b a ∙ ap (λ (d : ℕ). checkStand room (standOf s) d b) (sym (length-map fs waitOf)))
 
 pub syntax-verdict : (s : List ℕ) → verdict (readForm s) ≡ syntax s

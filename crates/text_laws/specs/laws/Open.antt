@@ -7,9 +7,9 @@ use native.Mathlib.Nat.{add-zero, zero-add}
 use native.Mathlib.Omega.{arith}
 use lib.ListN.{length}
 use Rattle.text.specs.definitions.Meaning.{openAfter}
-use Rattle.text.specs.definitions.Numerals.{dec}
-use Rattle.text.specs.definitions.Reading.{Frame, first, second, base, Spot, operand, operator, exponent, ending, raised, Next, step, check}
-use Rattle.text.specs.definitions.Tokens.{Token, opening, closing, word}
+use Rattle.text.specs.definitions.Bytes.{decimal, Token, opening, closing, word}
+use Rattle.text.specs.definitions.Reading.{Frame, first, second, base, Spot, operand, operator, exponent, ending, raised, Next, step}
+use Rattle.text.specs.definitions.Reading.{check}
 use Rattle.text.specs.definitions.Tree.{Tree, num, letter, neg, two, power, placed}
 use Rattle.text_laws.specs.laws.Begun.{Live}
 use Rattle.text_laws.specs.laws.Sofar.{frameTokens, stackTokens, soFar}
@@ -18,13 +18,16 @@ use Rattle.text_laws.specs.laws.Sofar.{frameTokens, stackTokens, soFar}
 pub open-placed : (t : Tree) (d : ℕ) (ts : List Token) → openAfter d (placed t ++ ts) ≡ openAfter d ts
 open-placed (num p z) d ts = refl
 open-placed (letter p b) d ts = refl
-open-placed (neg p o c x) d ts = ap (openAfter (suc d)) (append-assoc (placed x) (closing c ∷ []) ts) ∙ open-placed x (suc d) (closing c ∷ ts)
+open-placed (neg p o c x) d ts =
+    ap (openAfter (suc d)) (append-assoc (placed x) (closing c ∷ []) ts) ∙ open-placed x (suc d) (closing c ∷ ts)
 open-placed (two p o c g x y) d ts =
-    ap (openAfter (suc d)) (append-assoc (placed x) (placed y ++ (closing c ∷ [])) ts ∙ ap (λ (z : List Token). placed x ++ z) (append-assoc (placed y) (closing c ∷ []) ts))
+    ap (openAfter (suc d)) (append-assoc (placed x) (placed y ++ (closing c ∷ [])) ts
+    ∙ ap (λ (z : List Token). placed x ++ z) (append-assoc (placed y) (closing c ∷ []) ts))
     ∙ open-placed x (suc d) (placed y ++ (closing c ∷ ts))
     ∙ open-placed y (suc d) (closing c ∷ ts)
 open-placed (power p o c x q n) d ts =
-    ap (openAfter (suc d)) (append-assoc (placed x) (word q (dec n) ∷ closing c ∷ []) ts) ∙ open-placed x (suc d) (word q (dec n) ∷ closing c ∷ ts)
+    ap (openAfter (suc d)) (append-assoc (placed x) (word q (decimal n) ∷ closing c ∷ []) ts)
+    ∙ open-placed x (suc d) (word q (decimal n) ∷ closing c ∷ ts)
 
 open-frame : (f : Frame) (d : ℕ) (ts : List Token) → openAfter d (frameTokens f ++ ts) ≡ openAfter (suc d) ts
 open-frame (first p o g) d ts = refl
@@ -47,7 +50,8 @@ open-append (closing p ∷ ks) ls d = open-append ks ls (pred d)
 open-append (word p w ∷ ks) ls d = open-append ks ls d
 
 -- a parenthesis may be opened only where an operand may come
-pub open-depth : (p : ℕ) (s : Spot) (fs : List Frame) (x : Next) → step s fs (opening p) ≡ x → Live x → openAfter 0 (soFar s fs) ≡ length fs
+pub open-depth :
+    (p : ℕ) (s : Spot) (fs : List Frame) (x : Next) → step s fs (opening p) ≡ x → Live x → openAfter 0 (soFar s fs) ≡ length fs
 open-depth p operand fs x g l = open-stack fs 0 [] ∙ zero-add (length fs)
 open-depth p (operator q) fs x g l = absurd (rw (← g) at l)
 open-depth p (exponent q o y) fs x g l = absurd (rw (← g) at l)
@@ -60,15 +64,22 @@ module _ (known room : ℕ → Bool) where
   Checks d [] = Unit {0}
   Checks d (k ∷ ks) = (check known room d k ≡ 0) × Checks (openAfter d (k ∷ [])) ks
 
-  check-depth : (s : Spot) (fs : List Frame) (k : Token) (x : Next) → step s fs k ≡ x → Live x → check known room (length fs) k ≡ 0 → check known room (openAfter 0 (soFar s fs)) k ≡ 0
+  check-depth :
+      (s : Spot) (fs : List Frame) (k : Token) (x : Next) → step s fs k ≡ x → Live x → check known room (length fs) k ≡ 0 →
+      check known room (openAfter 0 (soFar s fs)) k ≡ 0
   check-depth s fs (opening p) x g l c = rw (open-depth p s fs x g l) c
   check-depth s fs (closing p) x g l c = refl
   check-depth s fs (word p w) x g l c = c
 
   -- a token that passes, before others that do
-  pub checks-before : (s : Spot) (fs : List Frame) (k : Token) (x : Next) (s′ : Spot) (fs′ : List Frame) (ks : List Token) → step s fs k ≡ x → Live x → check known room (length fs) k ≡ 0
+  pub checks-before :
+      (s : Spot) (fs : List Frame) (k : Token) (x : Next) (s′ : Spot) (fs′ : List Frame) (ks : List Token) → step s fs k ≡ x → Live x →
+      check known room (length fs) k ≡ 0
       → soFar s′ fs′ ≡ soFar s fs ++ (k ∷ []) → Checks (openAfter 0 (soFar s′ fs′)) ks → Checks (openAfter 0 (soFar s fs)) (k ∷ ks)
-  checks-before s fs k x s′ fs′ ks g l c w h = (check-depth s fs k x g l c, rw (ap (openAfter 0) w ∙ open-append (soFar s fs) (k ∷ []) 0) at h)
+  checks-before s fs k x s′ fs′ ks g l c w h =
+      (check-depth s fs k x g l c, rw (ap (openAfter 0) w ∙ open-append (soFar s fs) (k ∷ []) 0) at h)
 
-  pub checks-one : (s : Spot) (fs : List Frame) (k : Token) (x : Next) → step s fs k ≡ x → Live x → check known room (length fs) k ≡ 0 → Checks (openAfter 0 (soFar s fs)) (k ∷ [])
+  pub checks-one :
+      (s : Spot) (fs : List Frame) (k : Token) (x : Next) → step s fs k ≡ x → Live x → check known room (length fs) k ≡ 0 →
+      Checks (openAfter 0 (soFar s fs)) (k ∷ [])
   checks-one s fs k x g l c = (check-depth s fs k x g l c, tt)

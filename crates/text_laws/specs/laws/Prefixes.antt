@@ -8,11 +8,13 @@ use native.Mathlib.Omega.{arith}
 use borrow.Author.Tests.{eqb-true}
 use lib.Dec.{eqb}
 use lib.IntN.{ℤ, pos, negsuc}
-use Rattle.text.specs.definitions.Bytes.{bytes, same, digit, all}
+use Rattle.text.specs.definitions.Bytes.{bytes, same, digit, all, canonical, isEmpty, valueFrom, decimal, readNat, readInt, writeInt}
+use Rattle.text.specs.definitions.Bytes.{below0}
+use Rattle.text.specs.definitions.Bytes.{from0, isSome}
 use Rattle.text.specs.definitions.FormReading.{intBegun}
-use Rattle.text.specs.definitions.Numerals.{canonical, isEmpty, valueFrom, dec, readNat, readInt, writeInt, below0, from0, isSome}
 use Rattle.text_laws.specs.laws.Bytes.{and-l, and-r, and-i}
-use Rattle.text_laws.specs.laws.Numerals.{no-none, Leading, leading-canonical, leading-dec, canonical-dec, dec-canonical, read-unsigned, dec-short}
+use Rattle.text_laws.specs.laws.Numerals.{no-none, Leading, leading-canonical, leading-decimal, canonical-decimal, decimal-canonical}
+use Rattle.text_laws.specs.laws.Numerals.{read-unsigned, decimal-short}
 
 -- ---- digits at the front of digits
 all-front : (p : ℕ → Bool) (v w : List ℕ) → all p (v ++ w) ≡ true → all p v ≡ true
@@ -58,8 +60,8 @@ begun-canonical w c = rw (read-unsigned w c, c, or-true)
 leading-value : (w : List ℕ) → Leading w → (n : ℕ) → valueFrom 0 w ≡ n → below0 (some n) ≡ none → ⊥
 leading-value [] l n e h = l
 leading-value (x ∷ w) l zero e h =
-    let d : dec 0 ≡ x ∷ w = ap dec (sym e) ∙ dec-canonical (x ∷ w) (leading-canonical (x ∷ w) l) in
-    let i : 48 ∷ [] ≡ x ∷ w = sym (dec-short 0 (omega arith)) ∙ d in
+    let d : decimal 0 ≡ x ∷ w = ap decimal (sym e) ∙ decimal-canonical (x ∷ w) (leading-canonical (x ∷ w) l) in
+    let i : 48 ∷ [] ≡ x ∷ w = sym (decimal-short 0 (omega arith)) ∙ d in
     let j : 48 ≡ x = cc in
     true≢false (let k : eqb 48 48 ≡ false = rw (← j) at (l .0) in k)
 leading-value (x ∷ w) l (suc n) e h = no-none (sym h)
@@ -172,9 +174,10 @@ minus-leading : (w : List ℕ) → Leading w → Minus (45 ∷ w)
 minus-leading [] l = absurd l
 minus-leading (y ∷ w) l = (refl, l)
 
-pub grows-nat : (n : ℕ) → Grows canonical [] (dec n)
-grows-nat n = grows canonical Canonical front-canonical (λ u c. c) (dec n) [] (canonical-dec n)
+pub grows-nat : (n : ℕ) → Grows canonical [] (decimal n)
+grows-nat n = grows canonical Canonical front-canonical (λ u c. c) (decimal n) [] (canonical-decimal n)
 
 pub grows-int : (z : ℤ) → Grows intBegun [] (writeInt z)
-grows-int (pos n) = grows intBegun Canonical front-canonical begun-canonical (dec n) [] (canonical-dec n)
-grows-int (negsuc n) = grows intBegun Minus front-minus minus-begun (writeInt (negsuc n)) [] (minus-leading (dec (suc n)) (leading-dec n))
+grows-int (pos n) = grows intBegun Canonical front-canonical begun-canonical (decimal n) [] (canonical-decimal n)
+grows-int (negsuc n) =
+    grows intBegun Minus front-minus minus-begun (writeInt (negsuc n)) [] (minus-leading (decimal (suc n)) (leading-decimal n))

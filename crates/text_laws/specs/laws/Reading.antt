@@ -8,11 +8,9 @@ use native.Mathlib.Omega.{arith}
 use borrow.Author.Tests.{ltb-true, lt-ltb, leb-true, le-leb}
 use lib.Dec.{leb, ltb}
 use lib.ListN.{length}
-use Rattle.text.specs.definitions.Answer.{read}
-use Rattle.text.specs.definitions.Bytes.{capital, inRow}
+use Rattle.text.specs.definitions.Bytes.{read, capital, inRow, tokens}
 use Rattle.text.specs.definitions.Meaning.{IsTerm}
 use Rattle.text.specs.definitions.Reading.{operand, run, readTerm}
-use Rattle.text.specs.definitions.Tokens.{tokens}
 use Rattle.text.specs.definitions.Tree.{Tree, num, letter, neg, two, power, letters, nesting}
 use Rattle.text_laws.specs.laws.Bytes.{and-l, and-r, and-i}
 use Rattle.text_laws.specs.laws.Sofar.{admits, run-sound, no-refusal}
@@ -49,7 +47,8 @@ module _ (known : ℕ → Bool) (L : ℕ) where
   limits-admits (neg p o c x) d l h = and-i (lt-ltb d L (omega arith)) (limits-admits x (suc d) l (omega arith))
   limits-admits (two p o c g x y) d l h =
       and-i (lt-ltb d L (omega arith))
-      (and-i (limits-admits x (suc d) (and-l (letters fit x) (letters fit y) l) (omega arith)) (limits-admits y (suc d) (and-r (letters fit x) (letters fit y) l) (omega arith)))
+      (and-i (limits-admits x (suc d) (and-l (letters fit x) (letters fit y) l) (omega arith))
+      (limits-admits y (suc d) (and-r (letters fit x) (letters fit y) l) (omega arith)))
   limits-admits (power p o c x q n) d l h = and-i (lt-ltb d L (omega arith)) (limits-admits x (suc d) l (omega arith))
 
 module _ (row s : List ℕ) (t : Tree) where

@@ -2,28 +2,23 @@
 use mathlib.Core.List.{List, [], _∷_}
 use mathlib.Core.Path.{_≡_, refl}
 use Prim.Native.Nat.{ℕ, zero, suc, _-_, _*_, _≤_}
-use native.Mathlib.Nat.{mul-le-mul}
 use native.Mathlib.Omega.{arith}
 use mathlib.Core.Bool.{true}
 use lib.IntN.{ℤ}
 use lib.ListN.{length}
-use Rattle.horner.specs.definitions.Form.{Form, int, pop, pow, size}
-use Rattle.horner.specs.definitions.Integers.{ℤ-ring}
-use Rattle.horner.specs.definitions.Measures.{AllLe, Bounded, zeros, firstOr0, maxs, degrees, degreesOf, weight, count, terms, nest}
-use Rattle.horner.specs.definitions.Normal.{Normal}
+use Rattle.horner.specs.definitions.Form.{Form, int, pop, pow, size, Normal, tl, after}
+use Rattle.horner.specs.definitions.Rings.{ℤ-ring}
+use Rattle.horner.specs.laws.Degree.{Bounded, total}
+use Rattle.horner.specs.definitions.Measures.{AllLe, zeros, firstOr0, maxs, degrees, degreesOf, weight, count, terms, nest}
 use Rattle.horner.specs.definitions.Term.{normℤ}
-use Rattle.horner.specs.definitions.Value.{tl, after}
-use Rattle.horner.specs.laws.Degree.{total}
 use Rattle.horner.specs.laws.Room.{words-3073, nest-total}
 use Rattle.horner.specs.laws.Limits.{weight-norm, length-degreesOf, bounded-norm, count-norm}
 use Rattle.horner.specs.laws.Term.{normal-norm}
-use Rattle.text.specs.definitions.Answer.{read}
-use Rattle.text.specs.definitions.Bytes.{isRow}
-use Rattle.text.specs.definitions.FormJudging.{acceptForm}
+use Rattle.text.specs.definitions.Bytes.{read, isRow}
+use Rattle.text.specs.definitions.FormReading.{acceptForm, text}
 use Rattle.text.specs.definitions.FormMeaning.{IsForm}
-use Rattle.text.specs.definitions.FormText.{text}
 use Rattle.text.specs.definitions.Limits.{acceptTerm}
-use Rattle.text.specs.definitions.Parts.{itself}
+use Rattle.text.specs.definitions.Meaning.{itself}
 use Rattle.text.specs.definitions.Tree.{Tree, termOf}
 use Rattle.text_laws.specs.laws.Accepted.{accepts as term-accepts}
 use Rattle.text_laws.specs.laws.FormAccepted.{accepts}
@@ -61,8 +56,11 @@ le-degrees (int z) n ds b = le-zeros n ds
 le-degrees (pop i p) n ds b = le-after i (degrees (n - i) p) ds (le-degrees p (n - i) (after i ds) b)
 le-degrees (pow i p q) n [] b = absurd b
 le-degrees (pow i p q) n (d ∷ ds) b =
-    let h = le-degrees p n ((d - i) ∷ ds) (b .1) in
-    (omega (arith, le-first (degrees n p) ((d - i) ∷ ds) h, b .0), le-maxs (tl (degrees n p)) (degrees (n - 1) q) ds (le-tl (degrees n p) ((d - i) ∷ ds) h) (le-degrees q (n - 1) ds (b .2)))
+    let h = le-degrees p n ((d - i) ∷ ds) (b .1) in (
+      omega (arith, le-first (degrees n p) ((d - i) ∷ ds) h, b .0),
+      le-maxs (tl (degrees n p)) (degrees (n - 1) q) ds
+          (le-tl (degrees n p) ((d - i) ∷ ds) h) (le-degrees q (n - 1) ds (b .2)),
+    )
 
 all-first : (ds : List ℕ) → AllLe 63 ds → firstOr0 ds ≤ 63
 all-first [] h = omega arith

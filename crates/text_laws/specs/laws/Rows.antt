@@ -7,12 +7,10 @@ use native.Mathlib.Omega.{arith}
 use borrow.Author.Tests.{leb-true}
 use lib.Dec.{eqb, leb}
 use lib.ListN.{length}
-use Rattle.horner.specs.definitions.Measures.{Within}
-use Rattle.horner.specs.definitions.Term.{Over}
-use Rattle.text.specs.definitions.Answer.{read}
-use Rattle.text.specs.definitions.Bytes.{all, capital, inRow, distinct, isRow, indexIn}
+use Rattle.horner.specs.laws.Within.{Within, Over}
+use Rattle.text.specs.definitions.Bytes.{read, all, capital, inRow, distinct, isRow, indexIn}
 use Rattle.text.specs.definitions.Limits.{acceptTerm}
-use Rattle.text.specs.definitions.Parts.{itself}
+use Rattle.text.specs.definitions.Meaning.{itself}
 use Rattle.text.specs.definitions.Tree.{Sign, add, sub, mul, Tree, num, letter, neg, two, power, letters, termOf}
 use Rattle.text_laws.specs.laws.Accepted.{accepts}
 use Rattle.text_laws.specs.laws.Bytes.{and-l, and-r}
@@ -28,15 +26,21 @@ index-below (c ∷ row) b h = go (eqb b c) refl (index-below row b)
 
 pub row-length : (row : List ℕ) → isRow row ≡ true → (1 ≤ length row) × (length row ≤ 4)
 row-length row r =
-    let a = and-l (leb 1 (length row) && leb (length row) 4) (all capital row) (and-l (leb 1 (length row) && leb (length row) 4 && all capital row) (distinct row) r) in
-    (leb-true 1 (length row) (and-l (leb 1 (length row)) (leb (length row) 4) a), leb-true (length row) 4 (and-r (leb 1 (length row)) (leb (length row) 4) a))
+    let a = and-l (leb 1 (length row) && leb (length row) 4) (all capital row)
+    (and-l (leb 1 (length row) && leb (length row) 4 && all capital row) (distinct row) r) in (
+      leb-true 1 (length row) (and-l (leb 1 (length row)) (leb (length row) 4) a),
+      leb-true (length row) 4
+          (and-r (leb 1 (length row)) (leb (length row) 4) a),
+    )
 
 -- ---- what the algebra asks of a term
 module _ (row : List ℕ) where
   abbrev fit : ℕ → Bool
   fit b = capital b && inRow row b
 
-  over-sign : (g : Sign) (x y : Tree) → Over (length row) (termOf row x) → Over (length row) (termOf row y) → (p o c : ℕ) → Over (length row) (termOf row (two p o c g x y))
+  over-sign :
+      (g : Sign) (x y : Tree) → Over (length row) (termOf row x) → Over (length row) (termOf row y) → (p o c : ℕ) →
+      Over (length row) (termOf row (two p o c g x y))
   over-sign add x y h k p o c = (h, k)
   over-sign sub x y h k p o c = (h, k)
   over-sign mul x y h k p o c = (h, k)
@@ -45,7 +49,9 @@ module _ (row : List ℕ) where
   letters-over (num p z) l = tt
   letters-over (letter p b) l = index-below row b (and-r (capital b) (inRow row b) l)
   letters-over (neg p o c x) l = letters-over x l
-  letters-over (two p o c g x y) l = over-sign g x y (letters-over x (and-l (letters fit x) (letters fit y) l)) (letters-over y (and-r (letters fit x) (letters fit y) l)) p o c
+  letters-over (two p o c g x y) l =
+      over-sign g x y (letters-over x (and-l (letters fit x) (letters fit y) l))
+      (letters-over y (and-r (letters fit x) (letters fit y) l)) p o c
   letters-over (power p o c x q n) l = letters-over x l
 
   pub accepted-within : (s : List ℕ) (t : Tree) → acceptTerm row s ≡ read t → Within (length row) (termOf row t)

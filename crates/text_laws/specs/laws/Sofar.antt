@@ -6,14 +6,15 @@ use mathlib.Core.Path.{_≡_, refl, sym, ap, _∙_}
 use Prim.Native.Nat.{ℕ, zero, suc}
 use native.Mathlib.Omega.{arith}
 use lib.ListN.{length}
-use Rattle.text.specs.definitions.Answer.{Reading, read, refusedAt, fine}
-use Rattle.text.specs.definitions.Bytes.{bytes, same, capital}
-use Rattle.text.specs.definitions.Numerals.{dec, readNat}
-use Rattle.text.specs.definitions.Reading.{Frame, first, second, base, Spot, operand, operator, exponent, ending, raised, Next, on, whole, off, deliver, leaf, deliverSome, operatorWord, raise, closeShort, step, caseNext, letterCheck, check, onlyEnd, run}
-use Rattle.text.specs.definitions.Tokens.{Token, opening, closing, word, placeOf}
+use Rattle.text.specs.definitions.Bytes.{Reading, read, refusedAt, fine, bytes, same, capital, decimal, readNat, Token, opening, closing}
+use Rattle.text.specs.definitions.Bytes.{word}
+use Rattle.text.specs.definitions.Bytes.{placeOf}
+use Rattle.text.specs.definitions.Reading.{Frame, first, second, base, Spot, operand, operator, exponent, ending, raised, Next, on, whole}
+use Rattle.text.specs.definitions.Reading.{off, deliver, leaf, deliverSome, operatorWord, raise, closeShort, step, caseNext, letterCheck}
+use Rattle.text.specs.definitions.Reading.{check, onlyEnd, run}
 use Rattle.text.specs.definitions.Tree.{Sign, add, sub, mul, signText, Tree, num, letter, neg, two, power, placed}
 use Rattle.text_laws.specs.laws.Bytes.{and-i, same-eq}
-use Rattle.text_laws.specs.laws.Numerals.{dec-read}
+use Rattle.text_laws.specs.laws.Numerals.{decimal-read}
 use Rattle.text_laws.specs.laws.Words.{LeafView, is-int, is-letter, leaf-view, letter-check}
 
 -- ---- the tokens that a state stands for
@@ -31,7 +32,7 @@ spotTokens operand = []
 spotTokens (operator p) = opening p ∷ []
 spotTokens (exponent p o x) = opening p ∷ word o (bytes "EXPT") ∷ placed x
 spotTokens (ending p o g x y) = opening p ∷ word o (signText g) ∷ placed x ++ placed y
-spotTokens (raised p o x q n) = opening p ∷ word o (bytes "EXPT") ∷ placed x ++ (word q (dec n) ∷ [])
+spotTokens (raised p o x q n) = opening p ∷ word o (bytes "EXPT") ∷ placed x ++ (word q (decimal n) ∷ [])
 
 abbrev pub soFar : Spot → List Frame → List Token
 soFar s fs = stackTokens fs ++ spotTokens s
@@ -68,11 +69,16 @@ module _ (known room : ℕ → Bool) where
   Held (on s fs) ts = (soFar s fs ≡ ts) × (SpotOk (length fs) s × StackOk fs)
   Held (whole t) ts = (placed t ≡ ts) × (admits 0 t ≡ true)
 
-  held-deliver : (t : Tree) (fs : List Frame) (ts : List Token) → stackTokens fs ++ placed t ≡ ts → admits (length fs) t ≡ true → StackOk fs → Held (deliver t fs) ts
+  held-deliver :
+      (t : Tree) (fs : List Frame) (ts : List Token) → stackTokens fs ++ placed t ≡ ts → admits (length fs) t ≡ true → StackOk fs →
+      Held (deliver t fs) ts
   held-deliver t [] ts e a h = (e, a)
-  held-deliver t (first p o g ∷ fs) ts e a h = (simp (append-nil) (sym (append-assoc (stackTokens fs) (frameTokens (first p o g)) (placed t)) ∙ e), (tt, ((h .0, a), h .1)))
-  held-deliver t (second p o g x ∷ fs) ts e a h = (sym (append-assoc (stackTokens fs) (frameTokens (second p o g x)) (placed t)) ∙ e, ((h .0 .0, h .0 .1, a), h .1))
-  held-deliver t (base p o ∷ fs) ts e a h = (sym (append-assoc (stackTokens fs) (frameTokens (base p o)) (placed t)) ∙ e, ((h .0, a), h .1))
+  held-deliver t (first p o g ∷ fs) ts e a h =
+      (simp (append-nil) (sym (append-assoc (stackTokens fs) (frameTokens (first p o g)) (placed t)) ∙ e), (tt, ((h .0, a), h .1)))
+  held-deliver t (second p o g x ∷ fs) ts e a h =
+      (sym (append-assoc (stackTokens fs) (frameTokens (second p o g x)) (placed t)) ∙ e, ((h .0 .0, h .0 .1, a), h .1))
+  held-deliver t (base p o ∷ fs) ts e a h =
+      (sym (append-assoc (stackTokens fs) (frameTokens (base p o)) (placed t)) ∙ e, ((h .0, a), h .1))
 
   held-cond : (b : Bool) (m n : Next) (ts : List Token) → (b ≡ true → Held m ts) → (b ≡ false → Held n ts) → Held (cond b m n) ts
   held-cond true m n ts f g = f refl
@@ -86,7 +92,8 @@ module _ (known room : ℕ → Bool) where
       go : LeafView p w t → Held (deliver t fs) (stackTokens fs ++ (word p w ∷ []))
       go (is-int z f g) = held-deliver t fs (stackTokens fs ++ (word p w ∷ [])) (rw (← g, f) refl) (rw (← g) refl) h
       go (is-letter b k f g) =
-          held-deliver t fs (stackTokens fs ++ (word p w ∷ [])) (rw (← g, f) refl) (rw (← g) (and-i k (letter-check known room b k (ap (letterCheck known room) f ∙ c)))) h
+          held-deliver t fs (stackTokens fs ++ (word p w ∷ [])) (rw (← g, f) refl)
+          (rw (← g) (and-i k (letter-check known room b k (ap (letterCheck known room) f ∙ c)))) h
 
   pub room-check : (d : ℕ) → _≡_ {A = ℕ} (cond (room d) 0 6) 0 → room d ≡ true
   room-check d e = go (room d) refl
@@ -100,7 +107,8 @@ module _ (known room : ℕ → Bool) where
   held-short c [] h = tt
   held-short c (first p o g ∷ fs) h = tt
   held-short c (second p o add x ∷ fs) h = tt
-  held-short c (second p o sub x ∷ fs) h = held-deliver (neg p o c x) fs _ (simp (append-nil, append-assoc)) (and-i (h .0 .0) (h .0 .1)) (h .1)
+  held-short c (second p o sub x ∷ fs) h =
+      held-deliver (neg p o c x) fs _ (simp (append-nil, append-assoc)) (and-i (h .0 .0) (h .0 .1)) (h .1)
   held-short c (second p o mul x ∷ fs) h = tt
   held-short c (base p o ∷ fs) h = tt
 
@@ -123,10 +131,13 @@ module _ (known room : ℕ → Bool) where
       sign : (g : Sign) → w ≡ signText g → Held (on operand (first p o g ∷ fs)) ts
       sign g e = (append-nil (stackTokens fs ++ frameTokens (first p o g)) ∙ split (signText g) e, (tt, (r, h)))
 
-  held-raise : (p o : ℕ) (x : Tree) (q : ℕ) (w : List ℕ) (fs : List Frame) (m : Option ℕ) → readNat w ≡ m → SpotOk (length fs) (exponent p o x) → StackOk fs
+  held-raise :
+      (p o : ℕ) (x : Tree) (q : ℕ) (w : List ℕ) (fs : List Frame) (m : Option ℕ) → readNat w ≡ m → SpotOk (length fs) (exponent p o x) →
+      StackOk fs
       → Held (raise p o x q m fs) ((stackTokens fs ++ spotTokens (exponent p o x)) ++ (word q w ∷ []))
   held-raise p o x q w fs none e k h = tt
-  held-raise p o x q w fs (some n) e k h = (rw (dec-read w n e) (sym (append-assoc (stackTokens fs) (spotTokens (exponent p o x)) (word q w ∷ []))), (k, h))
+  held-raise p o x q w fs (some n) e k h =
+      (rw (decimal-read w n e) (sym (append-assoc (stackTokens fs) (spotTokens (exponent p o x)) (word q w ∷ []))), (k, h))
 
   pub held-step : (s : Spot) (fs : List Frame) (k : Token) → SpotOk (length fs) s → StackOk fs → check known room (length fs) k ≡ 0
       → Held (step s fs k) (soFar s fs ++ (k ∷ []))
@@ -140,7 +151,8 @@ module _ (known room : ℕ → Bool) where
   held-step (exponent p o x) fs (closing q) a h c = tt
   held-step (exponent p o x) fs (word q w) a h c = held-raise p o x q w fs (readNat w) refl a h
   held-step (ending p o g x y) fs (opening q) a h c = tt
-  held-step (ending p o g x y) fs (closing q) a h c = held-deliver (two p o q g x y) fs _ (simp append-assoc) (and-i (a .0) (and-i (a .1) (a .2))) h
+  held-step (ending p o g x y) fs (closing q) a h c =
+      held-deliver (two p o q g x y) fs _ (simp append-assoc) (and-i (a .0) (and-i (a .1) (a .2))) h
   held-step (ending p o g x y) fs (word q w) a h c = tt
   held-step (raised p o x q n) fs (opening r) a h c = tt
   held-step (raised p o x q n) fs (closing r) a h c = held-deliver (power p o r x q n) fs _ (simp append-assoc) (and-i (a .0) (a .1)) h
@@ -160,8 +172,10 @@ module _ (known room : ℕ → Bool) (n : ℕ) where
   only-end t (k ∷ ks) u e = no-refusal e
 
   sound-next : (k : Token) (ks ts : List Token) (t : Tree) (c : ℕ) (x : Next) → (c ≡ 0 → Held known room x (ts ++ (k ∷ [])))
-      → ((s : Spot) (fs : List Frame) → SpotOk known room (length fs) s → StackOk known room fs → run known room n s fs ks ≡ read t → (placed t ≡ soFar s fs ++ ks) × (admits known room 0 t ≡ true))
-      → caseNext x (refusedAt 4 (placeOf k)) (λ s′ fs′. fine c (placeOf k) (λ u. run known room n s′ fs′ ks)) (λ t′. fine c (placeOf k) (λ u. onlyEnd known room t′ ks)) ≡ read t
+      → ((s : Spot) (fs : List Frame) → SpotOk known room (length fs) s → StackOk known room fs → run known room n s fs ks ≡ read t →
+      (placed t ≡ soFar s fs ++ ks) × (admits known room 0 t ≡ true))
+      → caseNext x (refusedAt 4 (placeOf k)) (λ s′ fs′. fine c (placeOf k) (λ u. run known room n s′ fs′ ks))
+      (λ t′. fine c (placeOf k) (λ u. onlyEnd known room t′ ks)) ≡ read t
       → (placed t ≡ ts ++ (k ∷ ks)) × (admits known room 0 t ≡ true)
   sound-next k ks ts t c off h ih e = no-refusal e
   sound-next k ks ts t c (on s fs) h ih e =
@@ -176,8 +190,11 @@ module _ (known room : ℕ → Bool) (n : ℕ) where
       (ap placed (sym (r .1)) ∙ g .0 ∙ ap (λ (z : List Token). ts ++ (k ∷ z)) (sym (r .0)), ap (admits known room 0) (sym (r .1)) ∙ g .1)
 
   -- what is read as a term is the term's tokens, and within the tests
-  pub run-sound : (ks : List Token) (t : Tree) (s : Spot) (fs : List Frame) → SpotOk known room (length fs) s → StackOk known room fs → run known room n s fs ks ≡ read t
+  pub run-sound :
+      (ks : List Token) (t : Tree) (s : Spot) (fs : List Frame) → SpotOk known room (length fs) s → StackOk known room fs →
+      run known room n s fs ks ≡ read t
       → (placed t ≡ soFar s fs ++ ks) × (admits known room 0 t ≡ true)
   run-sound [] t s fs a h e = no-refusal e
   run-sound (k ∷ ks) t s fs a h e =
-      sound-next k ks (soFar s fs) t (check known room (length fs) k) (step s fs k) (held-step known room s fs k a h) (λ s′ fs′. run-sound ks t s′ fs′) e
+      sound-next k ks (soFar s fs) t (check known room (length fs) k) (step s fs k) (held-step known room s fs k a h)
+      (λ s′ fs′. run-sound ks t s′ fs′) e

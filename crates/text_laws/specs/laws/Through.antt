@@ -6,14 +6,12 @@ use mathlib.Core.Path.{_≡_, refl, sym, ap, _∙_}
 use Prim.Native.Nat.{ℕ, suc}
 use lib.IntN.{pos}
 use lib.ListN.{length}
-use Rattle.text.specs.definitions.Answer.{Reading, read, refusedAt, fine}
-use Rattle.text.specs.definitions.Bytes.{bytes, capital}
-use Rattle.text.specs.definitions.Numerals.{dec, writeInt}
-use Rattle.text.specs.definitions.Reading.{Frame, first, second, base, operand, exponent, Next, deliver, leaf, caseNext, letterCheck, onlyEnd, run}
-use Rattle.text.specs.definitions.Tokens.{Token, opening, closing, word}
+use Rattle.text.specs.definitions.Bytes.{Reading, read, refusedAt, fine, bytes, capital, decimal, writeInt, Token, opening, closing, word}
+use Rattle.text.specs.definitions.Reading.{Frame, first, second, base, operand, exponent, Next, deliver, leaf, caseNext, letterCheck}
+use Rattle.text.specs.definitions.Reading.{onlyEnd, run}
 use Rattle.text.specs.definitions.Tree.{Sign, add, sub, mul, signText, Tree, num, letter, neg, two, power, placed}
 use Rattle.text_laws.specs.laws.Bytes.{and-l, and-r}
-use Rattle.text_laws.specs.laws.Numerals.{read-dec}
+use Rattle.text_laws.specs.laws.Numerals.{read-decimal}
 use Rattle.text_laws.specs.laws.Sofar.{admits}
 use Rattle.text_laws.specs.laws.Words.{num-leaf, letter-leaf, check-num, check-letter}
 
@@ -23,7 +21,8 @@ module _ (known room : ℕ → Bool) (n : ℕ) where
 
   -- one token, let through, that finishes an operand
   arrive : (t : Tree) (fs : List Frame) (p c : ℕ) (ks : List Token) → c ≡ 0
-      → caseNext (deliver t fs) (refusedAt 4 p) (λ s′ fs′. fine c p (λ u. run known room n s′ fs′ ks)) (λ t′. fine c p (λ u. onlyEnd known room t′ ks)) ≡ goOn (deliver t fs) ks
+      → caseNext (deliver t fs) (refusedAt 4 p) (λ s′ fs′. fine c p (λ u. run known room n s′ fs′ ks))
+      (λ t′. fine c p (λ u. onlyEnd known room t′ ks)) ≡ goOn (deliver t fs) ks
   arrive t [] p c ks e = rw e
   arrive t (first q o g ∷ fs) p c ks e = rw e
   arrive t (second q o g x ∷ fs) p c ks e = rw e
@@ -45,12 +44,16 @@ module _ (known room : ℕ → Bool) (n : ℕ) where
   through-base p o fs ks r = rw r
 
   through-exponent : (p o c : ℕ) (x : Tree) (q m : ℕ) (fs : List Frame) (ks : List Token)
-      → run known room n (exponent p o x) fs (word q (dec m) ∷ closing c ∷ ks) ≡ goOn (deliver (power p o c x q m) fs) ks
-  through-exponent p o c x q m fs ks = rw (read-dec m, check-num known room (pos m)) (arrive (power p o c x q m) fs c 0 ks refl)
+      → run known room n (exponent p o x) fs (word q (decimal m) ∷ closing c ∷ ks) ≡ goOn (deliver (power p o c x q m) fs) ks
+  through-exponent p o c x q m fs ks = rw (read-decimal m, check-num known room (pos m)) (arrive (power p o c x q m) fs c 0 ks refl)
 
-  pub through : (t : Tree) (fs : List Frame) (ks : List Token) → admits known room (length fs) t ≡ true → run known room n operand fs (placed t ++ ks) ≡ goOn (deliver t fs) ks
+  pub through :
+      (t : Tree) (fs : List Frame) (ks : List Token) → admits known room (length fs) t ≡ true →
+      run known room n operand fs (placed t ++ ks) ≡ goOn (deliver t fs) ks
   through (num p z) fs ks a = through-leaf (num p z) p (writeInt z) fs ks (num-leaf p z) (check-num known room z)
-  through (letter p b) fs ks a = through-leaf (letter p b) p (b ∷ []) fs ks (letter-leaf p b (and-l (capital b) (known b) a)) (check-letter known room b (and-r (capital b) (known b) a))
+  through (letter p b) fs ks a =
+      through-leaf (letter p b) p (b ∷ []) fs ks (letter-leaf p b (and-l (capital b) (known b) a))
+      (check-letter known room b (and-r (capital b) (known b) a))
   through (neg p o c x) fs ks a =
       let r = and-l (room (length fs)) (admits known room (suc (length fs)) x) a in
       let i = and-r (room (length fs)) (admits known room (suc (length fs)) x) a in
@@ -62,16 +65,19 @@ module _ (known room : ℕ → Bool) (n : ℕ) where
       let r = and-l (room (length fs)) (admits known room (suc (length fs)) x && admits known room (suc (length fs)) y) a in
       let i = and-r (room (length fs)) (admits known room (suc (length fs)) x && admits known room (suc (length fs)) y) a in
       through-open p o g fs ((placed x ++ (placed y ++ (closing c ∷ []))) ++ ks) r
-      ∙ ap (run known room n operand (first p o g ∷ fs)) (append-assoc (placed x) (placed y ++ (closing c ∷ [])) ks ∙ ap (λ (z : List Token). placed x ++ z) (append-assoc (placed y) (closing c ∷ []) ks))
-      ∙ through x (first p o g ∷ fs) (placed y ++ (closing c ∷ ks)) (and-l (admits known room (suc (length fs)) x) (admits known room (suc (length fs)) y) i)
-      ∙ through y (second p o g x ∷ fs) (closing c ∷ ks) (and-r (admits known room (suc (length fs)) x) (admits known room (suc (length fs)) y) i)
+      ∙ ap (run known room n operand (first p o g ∷ fs)) (append-assoc (placed x) (placed y ++ (closing c ∷ [])) ks
+      ∙ ap (λ (z : List Token). placed x ++ z) (append-assoc (placed y) (closing c ∷ []) ks))
+      ∙ through x (first p o g ∷ fs) (placed y ++ (closing c ∷ ks))
+      (and-l (admits known room (suc (length fs)) x) (admits known room (suc (length fs)) y) i)
+      ∙ through y (second p o g x ∷ fs) (closing c ∷ ks)
+      (and-r (admits known room (suc (length fs)) x) (admits known room (suc (length fs)) y) i)
       ∙ arrive (two p o c g x y) fs c 0 ks refl
   through (power p o c x q m) fs ks a =
       let r = and-l (room (length fs)) (admits known room (suc (length fs)) x) a in
       let i = and-r (room (length fs)) (admits known room (suc (length fs)) x) a in
-      through-base p o fs ((placed x ++ (word q (dec m) ∷ closing c ∷ [])) ++ ks) r
-      ∙ ap (run known room n operand (base p o ∷ fs)) (append-assoc (placed x) (word q (dec m) ∷ closing c ∷ []) ks)
-      ∙ through x (base p o ∷ fs) (word q (dec m) ∷ closing c ∷ ks) i
+      through-base p o fs ((placed x ++ (word q (decimal m) ∷ closing c ∷ [])) ++ ks) r
+      ∙ ap (run known room n operand (base p o ∷ fs)) (append-assoc (placed x) (word q (decimal m) ∷ closing c ∷ []) ks)
+      ∙ through x (base p o ∷ fs) (word q (decimal m) ∷ closing c ∷ ks) i
       ∙ through-exponent p o c x q m fs ks
 
   -- the whole text

@@ -8,8 +8,7 @@ use native.Mathlib.Omega.{arith}
 use borrow.Author.Tests.{leb-true, le-leb, lt-leb, ne-eqb}
 use lib.Dec.{leb}
 use lib.IntN.{ℤ}
-use Rattle.text.specs.definitions.Bytes.{capital}
-use Rattle.text.specs.definitions.Numerals.{writeInt, canonical, readNat, readInt}
+use Rattle.text.specs.definitions.Bytes.{capital, writeInt, canonical, readNat, readInt}
 use Rattle.text.specs.definitions.Reading.{lone, intOr, leaf, letterCheck}
 use Rattle.text.specs.definitions.Tree.{Tree, num, letter}
 use Rattle.text_laws.specs.laws.Bytes.{and-l, and-r}
@@ -23,14 +22,16 @@ pub capital-no-int : (b : ℕ) → capital b ≡ true → readInt (b ∷ []) ≡
 unfolding readInt readNat
 capital-no-int b e =
     let h = capital-range b e .0 in
-    rw (ne-eqb b 45 (omega arith), readInt) (rw (ne-eqb b 48 (omega arith), canonical) (rw (le-leb 48 b (omega arith), lt-leb b 57 (omega arith))))
+    rw (ne-eqb b 45 (omega arith), readInt)
+    (rw (ne-eqb b 48 (omega arith), canonical) (rw (le-leb 48 b (omega arith), lt-leb b 57 (omega arith))))
 
 -- ---- reading a word as an operand
 pub num-leaf : (p : ℕ) (z : ℤ) → leaf p (writeInt z) ≡ some (num p z)
 num-leaf p z = ap (λ (r : Option ℤ). intOr p r (lone p (writeInt z))) (read-int z)
 
 pub letter-leaf : (p b : ℕ) → capital b ≡ true → leaf p (b ∷ []) ≡ some (letter p b)
-letter-leaf p b c = ap (λ (r : Option ℤ). intOr p r (lone p (b ∷ []))) (capital-no-int b c) ∙ ap (λ (x : Bool). cond x (some (letter p b)) none) c
+letter-leaf p b c =
+    ap (λ (r : Option ℤ). intOr p r (lone p (b ∷ []))) (capital-no-int b c) ∙ ap (λ (x : Bool). cond x (some (letter p b)) none) c
 
 -- a word that is read is an integer's text or a capital letter
 pub data LeafView (p : ℕ) (w : List ℕ) (t : Tree) : Type 0 where

@@ -2,13 +2,12 @@
 use mathlib.Core.Path.{_≡_, refl, sym, ap, _∙_}
 use mathlib.Core.Bool.{true}
 use mathlib.Core.Logic.{⊎-elim}
-use Prim.Native.Nat.{ℕ, _+_, _*_, _≤_, _-_, min}
+use Prim.Native.Nat.{_+_, _*_, _≤_, _-_, min}
 use native.Mathlib.Omega.{arith}
 use lib.ListN.{length, drop, getD}
 use denote.Ref.{now}
 use borrow.Author.Needs.{needs}
-use Rattle.text.specs.definitions.Bytes.{all, digit}
-use Rattle.text.specs.definitions.Numerals.{valueFrom}
+use Rattle.text.specs.definitions.Bytes.{all, digit, valueFrom}
 use Rattle.text_laws.specs.laws.Bytes.{digit-range}
 use Rattle.text_word.proofs.Walk.{all-here, all-rest, value-on, value-end}
 use Rattle.text_word.proofs.cut_value.Statement.{statement}
@@ -27,9 +26,6 @@ loop-holds c = (omega arith, (omega arith, (c .pre, refl)))
 
 mul-value : tie.Need-mul-value Inv-loop μ-loop
 mul-value c = omega arith
-
-shared-slice-read-value : tie.Need-shared-slice-read-value Inv-loop μ-loop
-shared-slice-read-value c = search needs
 
 sub-value : tie.Need-sub-value Inv-loop μ-loop
 sub-value c =
@@ -86,6 +82,5 @@ returns c =
 
 pub cut-value-spec : {M : Type 1} → statement M
 cut-value-spec =
-    tie.close
-    (tie.spec Inv-loop μ-loop loop-holds mul-value shared-slice-read-value sub-value cast-value add-value add-i loop-less loop-again
+    tie.close (tie.spec Inv-loop μ-loop loop-holds mul-value (λ c. search needs) sub-value cast-value add-value add-i loop-less loop-again
     cast-result returns)

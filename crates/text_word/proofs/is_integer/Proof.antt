@@ -18,30 +18,12 @@ rest-part w = take-all (length w - 1) (drop 1 w) (omega (arith, length-drop 1 w)
 returns : tie.Need-returns
 returns c = sym (integer-none (now (c .before .before .args .w)) (c .if1 .taken))
 
-shared-slice-read-if2 : tie.Need-shared-slice-read-if2
-shared-slice-read-if2 c = search needs
-
-sub-is-positive : tie.Need-sub-is-positive
-sub-is-positive c = search needs
-
-part-is-positive-start : tie.Need-part-is-positive-start
-part-is-positive-start c = search needs
-
-part-is-positive-end : tie.Need-part-is-positive-end
-part-is-positive-end c = search needs
-
-is-positive-requires : tie.Need-is-positive-requires
-is-positive-requires c κs = search needs
-
 returns-2 : tie.Need-returns-2
 returns-2 c =
     let s : tie.Start = c .before .before .before .before .before .before in
     let w = now (s .args .w) in
     let some : 0 < length w = omega arith in
     c .is-positive .ensures ∙ ap isPositive (rest-part w) ∙ sym (integer-below w some (c .before .before .if2 .taken))
-
-is-natural-requires : tie.Need-is-natural-requires
-is-natural-requires c κs = search needs
 
 returns-3 : tie.Need-returns-3
 returns-3 c =
@@ -52,14 +34,5 @@ returns-3 c =
 
 pub is-integer-spec : {M : Type 1} → statement M
 is-integer-spec =
-    tie.close
-    (tie.spec
-    returns
-    shared-slice-read-if2
-    sub-is-positive
-    part-is-positive-start
-    part-is-positive-end
-    is-positive-requires
-    returns-2
-    is-natural-requires
-    returns-3)
+    tie.close (tie.spec returns (λ c. search needs) (λ c. search needs) (λ c. search needs) (λ c. search needs) (λ c κs. search needs)
+    returns-2 (λ c κs. search needs) returns-3)

@@ -1,6 +1,6 @@
 -- `text_word::is_positive` meets its contract, by the first byte and the length.
-use mathlib.Core.Path.{_≡_, sym, _∙_}
-use Prim.Native.Nat.{ℕ, _<_}
+use mathlib.Core.Path.{sym, _∙_}
+use Prim.Native.Nat.{_<_}
 use native.Mathlib.Omega.{arith}
 use lib.ListN.{length}
 use denote.Ref.{now}
@@ -12,16 +12,10 @@ use Rattle.text_word.proofs.is_positive.Tie as tie
 returns : tie.Need-returns
 returns c = sym (positive-none (now (c .before .before .args .w)) (c .if1 .taken))
 
-shared-slice-read-if2 : tie.Need-shared-slice-read-if2
-shared-slice-read-if2 c = search needs
-
 returns-2 : tie.Need-returns-2
 returns-2 c =
     let s : tie.Start = c .before .before .before .before in
     sym (positive-zero (now (s .args .w)) (c .if2 .taken))
-
-all-digits-requires : tie.Need-all-digits-requires
-all-digits-requires c κs = search needs
 
 returns-3 : tie.Need-returns-3
 returns-3 c =
@@ -31,4 +25,4 @@ returns-3 c =
     c .all-digits .ensures ∙ sym (positive-digits w some (c .before .if2 .left))
 
 pub is-positive-spec : {M : Type 1} → statement M
-is-positive-spec = tie.close (tie.spec returns shared-slice-read-if2 returns-2 all-digits-requires returns-3)
+is-positive-spec = tie.close (tie.spec returns (λ c. search needs) returns-2 (λ c κs. search needs) returns-3)

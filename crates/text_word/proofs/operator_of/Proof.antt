@@ -45,9 +45,6 @@ module _ (w : List ℕ) (one : length w ≡ 1) where
   other : (getD w 0 0 ≡ 43 → ⊥) → (getD w 0 0 ≡ 45 → ⊥) → (getD w 0 0 ≡ 42 → ⊥) → 0 ≡ operatorOf w
   other n m k = short (is-0 (eqb (getD w 0 0) 43) (eqb (getD w 0 0) 45) (eqb (getD w 0 0) 42) (ne-eqb _ _ n) (ne-eqb _ _ m) (ne-eqb _ _ k))
 
-shared-slice-read-b : tie.Need-shared-slice-read-b
-shared-slice-read-b c = search needs
-
 returns : tie.Need-returns
 returns c =
     let s : tie.Start = c .before .before .before .before in
@@ -70,21 +67,6 @@ returns-4 c =
     other (now (at-then1 .before .before .args .w)) (at-then1 .if1 .taken) (c .before .before .if2 .left) (c .before .if3 .left)
     (c .if4 .left)
 
-shared-slice-read-expt-of : tie.Need-shared-slice-read-expt-of
-shared-slice-read-expt-of c = search needs
-
-shared-slice-read-expt-of-2 : tie.Need-shared-slice-read-expt-of-2
-shared-slice-read-expt-of-2 c = search needs
-
-shared-slice-read-expt-of-3 : tie.Need-shared-slice-read-expt-of-3
-shared-slice-read-expt-of-3 c = search needs
-
-shared-slice-read-expt-of-4 : tie.Need-shared-slice-read-expt-of-4
-shared-slice-read-expt-of-4 c = search needs
-
-expt-of-requires : tie.Need-expt-of-requires
-expt-of-requires c κs = search needs
-
 returns-5 : tie.Need-returns-5
 returns-5 c =
     let at-then5 : tie.Then5 = c .before .before .before .before .before in
@@ -97,17 +79,5 @@ returns-6 c = sym (operator-none (now (c .before .before .before .args .w)) (c .
 
 pub operator-of-spec : {M : Type 1} → statement M
 operator-of-spec =
-    tie.close
-    (tie.spec
-    shared-slice-read-b
-    returns
-    returns-2
-    returns-3
-    returns-4
-    shared-slice-read-expt-of
-    shared-slice-read-expt-of-2
-    shared-slice-read-expt-of-3
-    shared-slice-read-expt-of-4
-    expt-of-requires
-    returns-5
-    returns-6)
+    tie.close (tie.spec (λ c. search needs) returns returns-2 returns-3 returns-4 (λ c. search needs) (λ c. search needs)
+    (λ c. search needs) (λ c. search needs) (λ c κs. search needs) returns-5 returns-6)

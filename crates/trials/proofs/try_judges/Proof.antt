@@ -14,31 +14,18 @@ Inv-loop row k₀ k = k ≤ 12
 abbrev μ-loop : tie.MeasureT-loop
 μ-loop row k₀ k = 12 - k
 
--- src/main.rt:118:5
 loop-holds : tie.Need-loop-holds Inv-loop μ-loop
 loop-holds c = omega arith
 
--- src/main.rt:119:9
-try-judge-requires : tie.Need-try-judge-requires Inv-loop μ-loop
-try-judge-requires c κs = search needs
-
--- src/main.rt:120:9
 add-k : tie.Need-add-k Inv-loop μ-loop
 add-k c = omega arith
 
--- src/main.rt:118:5
 loop-less : tie.Need-loop-less Inv-loop μ-loop
 loop-less c = omega arith
 
--- src/main.rt:118:5
 loop-again : tie.Need-loop-again Inv-loop μ-loop
 loop-again c = omega arith
 
--- src/main.rt:116:1
-returns : tie.Need-returns Inv-loop μ-loop
-returns c = search needs
-
 pub try-judges-spec : {M : Type 1} → statement M
 try-judges-spec =
-    tie.close
-    (tie.spec Inv-loop μ-loop loop-holds try-judge-requires add-k loop-less loop-again returns)
+    tie.close (tie.spec Inv-loop μ-loop loop-holds (λ c κs. search needs) add-k loop-less loop-again (λ c. search needs))

@@ -39,7 +39,9 @@ abbrev pub μ-mul-by-pop : Measures 5 mul-by-pop-kinds.ps ℕ
 μ-mul-by-pop κs a = 8 * (1 + length (a .1 .0 .now) + length (a .1 .1 .0 .now)) + 6
 
 abbrev pub μ-mul-lead : Measures 7 mul-lead-kinds.ps ℕ
-μ-mul-lead κs a = 8 * (2 + length (a .1 .1 .0 .now) + length (a .1 .1 .1 .0 .now) + length (a .1 .1 .1 .1 .1 .0 .now) + length (a .1 .1 .1 .1 .1 .1 .0 .now)) + 3
+μ-mul-lead κs a =
+    8 * (2 + length (a .1 .1 .0 .now) + length (a .1 .1 .1 .0 .now) + length (a .1 .1 .1 .1 .1 .0 .now) + length
+    (a .1 .1 .1 .1 .1 .1 .0 .now)) + 3
 
 abbrev pub μ-mul-lower : Measures 5 mul-lower-kinds.ps ℕ
 μ-mul-lower κs a = 8 * (1 + length (a .1 .1 .0 .now) + length (a .1 .1 .1 .0 .now)) + 7
@@ -60,7 +62,9 @@ abbrev pub μ-mul-pow : Measures 5 mul-pow-kinds.ps ℕ
 μ-mul-pow κs a = 8 * (length (a .1 .0 .now) + length (a .1 .1 .0 .now)) + 5
 
 abbrev pub μ-mul-pows : Measures 7 mul-pows-kinds.ps ℕ
-μ-mul-pows κs a = 8 * (2 + length (a .1 .1 .0 .now) + length (a .1 .1 .1 .0 .now) + length (a .1 .1 .1 .1 .1 .0 .now) + length (a .1 .1 .1 .1 .1 .1 .0 .now)) + 4
+μ-mul-pows κs a =
+    8 * (2 + length (a .1 .1 .0 .now) + length (a .1 .1 .1 .0 .now) + length (a .1 .1 .1 .1 .1 .0 .now) + length
+    (a .1 .1 .1 .1 .1 .1 .0 .now)) + 4
 
 abbrev pub μ-product : Measures 5 product-kinds.ps ℕ
 μ-product κs a = 8 * (length (a .1 .0 .now) + length (a .1 .1 .0 .now)) + 6

@@ -13,7 +13,7 @@ use Rattle.code_room.specs.laws.Equations.{pows}
 use Rattle.code_room.specs.laws.Fit.{fit-prod}
 use Rattle.code_room.specs.laws.Summands.{lead-held, two-held}
 use Rattle.code_room.specs.laws.Tables.{cross-at, space-sym, space-cross}
-use Rattle.code_cross.proofs.Products.{made-front}
+use Rattle.code.proofs.Making.{front-codes}
 use borrow.Fn.Kinds.{In, Out}
 use Rattle.code_product.proofs.add_cross.Reads as add-cross
 use Rattle.code_product.proofs.mul_lead.Reads as mul-lead
@@ -56,7 +56,7 @@ one·mul-pows : (t : ℕ) (c : At lts.After-mul-lead t) →
     (take (c .mul-lead .result) (c .mul-lead .last .1 .1 .1 .1 .1 .1 .1 .0))
 one·mul-pows t c =
     let s = start-from-mul-lead c in
-    made-front (c .mul-lead .result) (c .mul-lead .last .1 .1 .1 .1 .1 .1 .1 .0) (c .mul-lead .ensures)
+    front-codes {n = c .mul-lead .result} {d = c .mul-lead .last .1 .1 .1 .1 .1 .1 .1 .0} (c .mul-lead .ensures)
     (lead-held (s .args .i) (s .args .j) (dec (s .args .width) (s .args .p .now)) (dec (s .args .width) (s .args .q .now))
     (dec (s .args .width) (s .args .r .now)) (dec (s .args .width) (s .args .s .now)) (s .pre .1 .1 .fit) .good)
 
@@ -99,7 +99,7 @@ two·mul-pows : (t : ℕ) (c : At lts.After-add-cross t) →
     (take (c .add-cross .result) (c .add-cross .last .1 .1 .1 .1 .0))
 two·mul-pows t c =
     let s = start-from-add-cross c in
-    made-front (c .add-cross .result) (c .add-cross .last .1 .1 .1 .1 .0) (both·mul-pows t c)
+    front-codes {n = c .add-cross .result} {d = c .add-cross .last .1 .1 .1 .1 .0} (both·mul-pows t c)
     (two-held (s .args .i) (s .args .j) (dec (s .args .width) (s .args .p .now)) (dec (s .args .width) (s .args .q .now))
     (dec (s .args .width) (s .args .r .now)) (dec (s .args .width) (s .args .s .now)) (s .pre .1 .1 .fit) .good)
 

@@ -37,10 +37,14 @@ abbrev pub μ-add-pow : Measures 4 add-pow-kinds.ps ℕ
 μ-add-pow κs a = 4 * (1 + length (a .1 .1 .0 .now) + length (a .1 .1 .1 .0 .now) + length (a .1 .1 .1 .1 .0 .now)) + 2
 
 abbrev pub μ-add-pows : Measures 5 add-pows-kinds.ps ℕ
-μ-add-pows κs a = 4 * (2 + length (a .1 .1 .0 .now) + length (a .1 .1 .1 .0 .now) + length (a .1 .1 .1 .1 .1 .0 .now) + length (a .1 .1 .1 .1 .1 .1 .0 .now)) + 1
+μ-add-pows κs a =
+    4 * (2 + length (a .1 .1 .0 .now) + length (a .1 .1 .1 .0 .now) + length (a .1 .1 .1 .1 .1 .0 .now) + length
+    (a .1 .1 .1 .1 .1 .1 .0 .now)) + 1
 
 abbrev pub μ-add-pows-gt : Measures 5 add-pows-gt-kinds.ps ℕ
-μ-add-pows-gt κs a = 4 * (2 + length (a .1 .1 .0 .now) + length (a .1 .1 .1 .0 .now) + length (a .1 .1 .1 .1 .1 .0 .now) + length (a .1 .1 .1 .1 .1 .1 .0 .now))
+μ-add-pows-gt κs a =
+    4 * (2 + length (a .1 .1 .0 .now) + length (a .1 .1 .1 .0 .now) + length (a .1 .1 .1 .1 .1 .0 .now) + length
+    (a .1 .1 .1 .1 .1 .1 .0 .now))
 
 abbrev pub μ-sum : Measures 3 sum-kinds.ps ℕ
 μ-sum κs a = 4 * (length (a .1 .0 .now) + length (a .1 .1 .0 .now)) + 3

@@ -36,19 +36,10 @@ module _ (s : List ℕ) (at b : ℕ) (found : b ≡ begin s at) (l : at ≤ leng
       (λ e f h n m. ap (λ q. Word (begin s at) (record { at = q })) f
       ∙ sym (step-word s at (begin s at) (record { at = begin s at + width s at l }) (says-word s at l h n m)))
 
-skip-requires : tie.Need-skip-requires
-skip-requires c κs = search needs
-
 returns : tie.Need-returns
 returns c =
     let s : tie.Start = c .before .before .before in
     at-end (now (s .args .s)) _ _ (c .before .skip .ensures .0) (s .pre) (c .if1 .taken)
-
-shared-slice-read-x : tie.Need-shared-slice-read-x
-shared-slice-read-x c = search needs
-
-add-t11 : tie.Need-add-t11
-add-t11 c = search needs
 
 returns-2 : tie.Need-returns-2
 returns-2 c =
@@ -56,18 +47,12 @@ returns-2 c =
     let s = at-skip .before .before in
     at-open (now (s .args .s)) _ _ (at-skip .skip .ensures .0) (s .pre) (c .before .before .if1 .left) (c .if2 .taken)
 
-add-t13 : tie.Need-add-t13
-add-t13 c = search needs
-
 returns-3 : tie.Need-returns-3
 returns-3 c =
     let at-else1 : tie.Else1 = c .before .before .before in
     let at-skip = at-else1 .before in
     let s = at-skip .before .before in
     at-close (now (s .args .s)) _ _ (at-skip .skip .ensures .0) (s .pre) (at-else1 .if1 .left) (c .if3 .taken)
-
-run-requires : tie.Need-run-requires
-run-requires c κs = search needs
 
 returns-4 : tie.Need-returns-4
 returns-4 c =
@@ -78,4 +63,5 @@ returns-4 c =
 
 pub next-spec : {M : Type 1} → statement M
 next-spec =
-    tie.close (tie.spec skip-requires returns shared-slice-read-x add-t11 returns-2 add-t13 returns-3 run-requires returns-4)
+    tie.close (tie.spec (λ c κs. search needs) returns (λ c. search needs) (λ c. search needs) returns-2 (λ c. search needs) returns-3
+    (λ c κs. search needs) returns-4)
