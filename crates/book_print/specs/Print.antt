@@ -28,12 +28,9 @@ pub record Left (book : List ℕ) (p at i k : ℕ) : Type 0 where
   pub start : at ≤ 70000
   pub number : i + k ≤ 64
 
--- work tables of their fixed length or more
-pub record Lent (a b c d : ℕ) : Type 0 where
-  pub first : 16384 ≤ a
-  pub second : 16384 ≤ b
-  pub third : 16384 ≤ c
-  pub fourth : 16384 ≤ d
+-- the bytes of the longest answer to a book, and more
+abbrev pub page : ℕ
+page = 16384
 
 -- the line of an entry
 unfoldable pub lineAt : (book : List ℕ) (n p at i : ℕ) → List ℕ

@@ -4,12 +4,13 @@ use reply::Written;
 ghost use mathlib.Core.Path.{_≡_};
 ghost use Prim.Native.Nat.{_+_, _*_, _≤_};
 ghost use lib.ListN.{length};
+ghost use Rattle.code.specs.Lengths.{Full};
 ghost use Rattle.reply.specs.definitions.Reply.{work};
 ghost use Rattle.book.specs.definitions.Book.{printed, PrintCall, readBook};
 ghost use Rattle.form_write.specs.Write.{Wrote};
 ghost use Rattle.book_read.specs.Heads.{headOf};
 ghost use Rattle.book_read.specs.declared.Head.the-variants.{Fine};
-ghost use Rattle.book_print.specs.Print.{Row, Here, Left, Lent, lineAt, linesFrom};
+ghost use Rattle.book_print.specs.Print.{Row, Here, Left, page, lineAt, linesFrom};
 
 // No book's answer is longer: it has a first line, and at most 64 of at most 160 bytes.
 pub const PAGE: usize = 16384;
@@ -28,7 +29,7 @@ fn print_entry(
     d: &mut [u32],
 ) -> usize
     requires { ⌜ Row (now book) n × Here (now book) p at ⌝ }
-    requires { ⌜ Lent (length (now a)) (length (now b)) (length (now c)) (length (now d)) ⌝ }
+    requires { ⌜ Full (length (now a)) (length (now b)) (length (now c)) (length (now d)) ⌝ }
     requires { ⌜ 160 ≤ length (now out) ⌝ }
     ensures { λ r. ⌜ Wrote r (lineAt (now (book .entry)) n p at i) (now (out .entry)) (now (out .exit)) ⌝ }
     ensures { λ r. ⌜ r ≤ 160 ⌝ }
@@ -65,7 +66,7 @@ fn print_entries(
     d: &mut [u32],
 ) -> usize
     requires { ⌜ Row (now book) n × Left (now book) p at i k ⌝ }
-    requires { ⌜ Lent (length (now a)) (length (now b)) (length (now c)) (length (now d)) ⌝ }
+    requires { ⌜ Full (length (now a)) (length (now b)) (length (now c)) (length (now d)) ⌝ }
     requires { ⌜ 160 * k ≤ length (now out) ⌝ }
     ensures { λ r. ⌜ Wrote r (linesFrom (now (book .entry)) n p at i k) (now (out .entry)) (now (out .exit)) ⌝ }
     ensures { λ r. ⌜ r ≤ 160 * k ⌝ }
@@ -90,8 +91,8 @@ fn print_fine(
     d: &mut [u32],
 ) -> usize
     requires { ⌜ headOf (readBook (now book)) ≡ Fine ⌝ }
-    requires { ⌜ Lent (length (now a)) (length (now b)) (length (now c)) (length (now d)) ⌝ }
-    requires { ⌜ 16384 ≤ length (now out) ⌝ }
+    requires { ⌜ Full (length (now a)) (length (now b)) (length (now c)) (length (now d)) ⌝ }
+    requires { ⌜ page ≤ length (now out) ⌝ }
     ensures { λ r. ⌜ Wrote r (printed (now (book .entry))) (now (out .entry)) (now (out .exit)) ⌝ }
 {
     let n = book[0] as usize;
@@ -112,8 +113,8 @@ fn print_any(
     c: &mut [u32],
     d: &mut [u32],
 ) -> usize
-    requires { ⌜ Lent (length (now a)) (length (now b)) (length (now c)) (length (now d)) ⌝ }
-    requires { ⌜ 16384 ≤ length (now out) ⌝ }
+    requires { ⌜ Full (length (now a)) (length (now b)) (length (now c)) (length (now d)) ⌝ }
+    requires { ⌜ page ≤ length (now out) ⌝ }
     ensures { λ r. ⌜ Wrote r (printed (now (book .entry))) (now (out .entry)) (now (out .exit)) ⌝ }
 {
     let head = book_read::read_book(book);

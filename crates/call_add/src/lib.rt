@@ -8,6 +8,7 @@ ghost use mathlib.Core.Bool.{true};
 ghost use mathlib.Core.Path.{_≡_};
 ghost use Prim.Native.Nat.{_≤_};
 ghost use lib.ListN.{length};
+ghost use Rattle.code.specs.Lengths.{table};
 ghost use Rattle.horner.specs.definitions.Form.{sum};
 ghost use Rattle.horner.specs.definitions.Rings.{ℤ-ring};
 ghost use Rattle.text.specs.definitions.Bytes.{isRow};
@@ -29,7 +30,7 @@ fn write_sum(
     a: &mut [u32],
     b: &mut [u32],
 ) -> Written
-    requires { ⌜ (length (now row) ≤ 4) × ((16384 ≤ length (now a)) × (16384 ≤ length (now b))) ⌝ }
+    requires { ⌜ (length (now row) ≤ 4) × ((table ≤ length (now a)) × (table ≤ length (now b))) ⌝ }
     requires { ⌜ IsPair (length (now row)) (now s) (now t) x n y k (now a) ⌝ }
     ensures { λ r. ⌜ r ≡ writtenOf (twoOf (ofSum (length (now (row .entry)))) (sum ℤ-ring) (now (row .entry)) (now (s .entry))
         (now (t .entry)) (length (now (result .entry)))) ⌝ }
@@ -54,7 +55,7 @@ fn add_of(
     b: &mut [u32],
 ) -> Written
     requires { ⌜ isRow (now row) ≡ true ⌝ }
-    requires { ⌜ (16384 ≤ length (now a)) × (16384 ≤ length (now b)) ⌝ }
+    requires { ⌜ (table ≤ length (now a)) × (table ≤ length (now b)) ⌝ }
     ensures { λ r. ⌜ r ≡ writtenOf (twoOf (ofSum (length (now (row .entry)))) (sum ℤ-ring) (now (row .entry)) (now (s .entry))
         (now (t .entry)) (length (now (result .entry)))) ⌝ }
     ensures { λ _. ⌜ now (result .exit) ≡ resultAfter (twoOf (ofSum (length (now (row .entry)))) (sum ℤ-ring) (now (row .entry))

@@ -4,6 +4,7 @@ use mathlib.Core.Option.{Option, none, some}
 use mathlib.Core.Path.{_≡_, refl, ap, _∙_}
 use Prim.Native.Nat.{ℕ, _≤_}
 use lib.ListN.{length, take, drop}
+use Rattle.code.specs.Lengths.{table}
 use Rattle.horner.specs.definitions.Form.{Form}
 use Rattle.code.specs.Coding.{Coded, dec}
 use Rattle.code.specs.Operations.{sumOf, negateOf, valueOf}
@@ -73,9 +74,9 @@ pub record Rooms (n b c : ℕ) : Type 0 where
 -- two forms of at most 3,073 words each, and three tables of the fixed length or more
 pub record Wide (n a b c : ℕ) : Type 0 where
   pub forms : n ≤ 6146
-  pub first : 16384 ≤ a
-  pub second : 16384 ≤ b
-  pub third : 16384 ≤ c
+  pub first : table ≤ a
+  pub second : table ≤ b
+  pub third : table ≤ c
 
 -- the answer and the point buffer, of the forms x and y over n variables
 pub record Told (n : ℕ) (x y : Form (Leaf 0)) (r : Compared) (p p′ : List ℕ) : Type 0 where

@@ -14,7 +14,7 @@ ghost use Rattle.code_point.specs.Points.{pointOf, Ready};
 ghost use Rattle.text.specs.definitions.Bytes.{isRow};
 ghost use Rattle.reply.specs.definitions.Reply.{work};
 ghost use Rattle.reply.specs.definitions.Calls.{compareOf, pointAfter, CompareCall};
-ghost use Rattle.code.specs.Lengths.{Long};
+ghost use Rattle.code.specs.Lengths.{table, Long};
 ghost use Rattle.call_compare.specs.Compare.{comparedOf, gapOf, Told, Sides, Apart, Rooms, Wide};
 
 // The difference of the form in the first k words of l and the one behind it, at the front of c.
@@ -93,7 +93,7 @@ fn compare_of(
     d: &mut [u32],
 ) -> Compared
     requires { ⌜ isRow (now row) ≡ true ⌝ }
-    requires { ⌜ Long (length (now a)) (length (now b)) (length (now c)) (length (now d)) × (16384 ≤ length (now d)) ⌝ }
+    requires { ⌜ Long (length (now a)) (length (now b)) (length (now c)) (length (now d)) × (table ≤ length (now d)) ⌝ }
     requires { ⌜ length (now row) ≤ length (now point) ⌝ }
     ensures { λ r. ⌜ r ≡ comparedOf (compareOf (now (row .entry)) (now (s .entry)) (now (t .entry))) ⌝ }
     ensures { λ _. ⌜ now (point .exit) ≡ pointAfter (compareOf (now (row .entry)) (now (s .entry)) (now (t .entry)))

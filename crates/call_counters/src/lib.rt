@@ -12,7 +12,7 @@ ghost use Rattle.code_counters.specs.Same.{sameOf};
 ghost use Rattle.text.specs.definitions.Bytes.{isRow};
 ghost use Rattle.reply.specs.definitions.Reply.{work};
 ghost use Rattle.reply.specs.definitions.Calls.{isWidth, bits, countersOf, CountersCall};
-ghost use Rattle.code.specs.Lengths.{Long};
+ghost use Rattle.code.specs.Lengths.{table, Long};
 ghost use Rattle.call_compare.specs.Compare.{Sides, Wide};
 ghost use Rattle.call_counters.specs.Counters.{countedOf, answerOf};
 
@@ -71,7 +71,7 @@ fn counters_of(
     d: &mut [u32],
 ) -> Counted
     requires { ⌜ isRow (now row) ≡ true ⌝ }
-    requires { ⌜ Long (length (now a)) (length (now b)) (length (now c)) (length (now d)) × (16384 ≤ length (now d)) ⌝ }
+    requires { ⌜ Long (length (now a)) (length (now b)) (length (now c)) (length (now d)) × (table ≤ length (now d)) ⌝ }
     ensures { λ r. ⌜ r ≡ countedOf (countersOf (now (row .entry)) width (now (s .entry)) (now (t .entry))) ⌝ }
 {
     let pair = door_terms::read_pair(row, s, t, a, b, c, d);

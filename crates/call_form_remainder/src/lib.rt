@@ -7,6 +7,7 @@ ghost use mathlib.Core.Bool.{true};
 ghost use mathlib.Core.Path.{_≡_};
 ghost use Prim.Native.Nat.{_≤_};
 ghost use lib.ListN.{length};
+ghost use Rattle.code.specs.Lengths.{table};
 ghost use Rattle.text.specs.definitions.Bytes.{isRow};
 ghost use Rattle.reply.specs.definitions.Reply.{work};
 ghost use Rattle.reply.specs.definitions.Calls.{formRemainderOf, FormRemainderCall};
@@ -21,7 +22,7 @@ fn form_remainder_of(
     b: &mut [u32],
 ) -> Remaindered
     requires { ⌜ isRow (now row) ≡ true ⌝ }
-    requires { ⌜ (16384 ≤ length (now a)) × (16384 ≤ length (now b)) ⌝ }
+    requires { ⌜ (table ≤ length (now a)) × (table ≤ length (now b)) ⌝ }
     requires { ⌜ length (now point) ≡ length (now row) ⌝ }
     ensures { λ r. ⌜ r ≡ remainderedOf (formRemainderOf (now (row .entry)) (now (s .entry)) (now (point .entry))) ⌝ }
 {

@@ -7,6 +7,7 @@ ghost use mathlib.Core.Bool.{true};
 ghost use mathlib.Core.Path.{_≡_};
 ghost use Prim.Native.Nat.{_≤_};
 ghost use lib.ListN.{length};
+ghost use Rattle.code.specs.Lengths.{table};
 ghost use Rattle.text.specs.definitions.Bytes.{isRow};
 ghost use Rattle.reply.specs.definitions.Reply.{resultAfter, work};
 ghost use Rattle.reply.specs.definitions.Calls.{negateOf, NegateCall};
@@ -15,7 +16,7 @@ ghost use Rattle.door_result.specs.Result.{writtenOf};
 // The text of the negative of the form s, where the row is proper and the tables are long enough.
 fn negate_of(row: &[u8], s: &[u8], result: &mut [u8], a: &mut [u32], b: &mut [u32]) -> Written
     requires { ⌜ isRow (now row) ≡ true ⌝ }
-    requires { ⌜ (16384 ≤ length (now a)) × (16384 ≤ length (now b)) ⌝ }
+    requires { ⌜ (table ≤ length (now a)) × (table ≤ length (now b)) ⌝ }
     ensures { λ r. ⌜ r ≡ writtenOf (negateOf (now (row .entry)) (now (s .entry)) (length (now (result .entry)))) ⌝ }
     ensures { λ _. ⌜ now (result .exit) ≡ resultAfter (negateOf (now (row .entry)) (now (s .entry)) (length (now (result .entry))))
         (now (result .entry)) ⌝ }

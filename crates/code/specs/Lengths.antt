@@ -1,9 +1,20 @@
 -- How long the work tables are.
 use Prim.Native.Nat.{ℕ, _≤_}
 
+-- the fixed length of a work table, in words
+abbrev pub table : ℕ
+table = 16384
+
+-- tables of the fixed length or more
+pub record Full (a b c d : ℕ) : Type 0 where
+  pub first : table ≤ a
+  pub second : table ≤ b
+  pub third : table ≤ c
+  pub fourth : table ≤ d
+
 -- tables long enough to read a term in; the last one may have a form in front of it that is kept
 pub record Long (a b c d : ℕ) : Type 0 where
-  pub first : 16384 ≤ a
-  pub second : 16384 ≤ b
-  pub third : 16384 ≤ c
+  pub first : table ≤ a
+  pub second : table ≤ b
+  pub third : table ≤ c
   pub fourth : 6146 ≤ d

@@ -5,7 +5,7 @@ use Prim.Native.Nat.{ℕ}
 use lib.Dec.{leb}
 use Rattle.text.specs.definitions.Bytes.{bytes, same}
 use Rattle.desk_field.specs.Fields.{fieldOf}
-use Rattle.desk_reply.specs.Reply.{wrongText}
+use Rattle.desk_reply.specs.Reply.{room, wrongText}
 use Rattle.desk_term.specs.Term.{formLine, remainderLine}
 use Rattle.desk_compare.specs.Compare.{compareLine, countersLine}
 use Rattle.desk_form.specs.Form.{judgeLine, negateLine, raiseLine, formRemainderLine}
@@ -52,4 +52,4 @@ lineAnswer tables line = answerBy (wordOf (fieldOf line 0)) tables line
 
 -- the same into a buffer of n bytes: nothing where these are fewer than `FORM ` and a result of 65,535 bytes may take
 abbrev pub answerIn : ℕ → (tables line : List ℕ) → List ℕ
-answerIn n tables line = cond (leb 65540 n) (lineAnswer tables line) []
+answerIn n tables line = cond (leb room n) (lineAnswer tables line) []

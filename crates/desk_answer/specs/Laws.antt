@@ -12,6 +12,7 @@ use Rattle.form_write.specs.laws.Wrote.{wrote-as, wrote-none}
 use Rattle.desk_field.specs.Fields.{fieldOf}
 use Rattle.desk_answer.specs.Answer.{wordOf, answerBy, lineAnswer, answerIn}
 use Rattle.desk_answer.specs.declared.Word.{Word}
+use Rattle.desk_reply.specs.Reply.{room}
 
 -- ---- one test of a word: b tells whether v is the word w
 abbrev pub Tells : List ℕ → Bool → List ℕ → Type 0
@@ -37,10 +38,10 @@ by-word tables line {v} word f w k h = wrote-as h (ap (λ x. answerBy x tables l
 
 -- ---- the room
 module _ (tables line : List ℕ) where
-  pub answer-none : (old : List ℕ) → length old < 65540 → Wrote 0 (answerIn (length old) tables line) old old
-  answer-none old h = wrote-as (wrote-none old) (sym (ap (λ b. cond b (lineAnswer tables line) []) (lt-leb 65540 (length old) h)))
+  pub answer-none : (old : List ℕ) → length old < room → Wrote 0 (answerIn (length old) tables line) old old
+  answer-none old h = wrote-as (wrote-none old) (sym (ap (λ b. cond b (lineAnswer tables line) []) (lt-leb room (length old) h)))
 
   pub answer-some :
-      {r : ℕ} {old new : List ℕ} → 65540 ≤ length old → Wrote r (lineAnswer tables line) old new →
+      {r : ℕ} {old new : List ℕ} → room ≤ length old → Wrote r (lineAnswer tables line) old new →
       Wrote r (answerIn (length old) tables line) old new
-  answer-some {r} {old} h w = wrote-as w (sym (ap (λ b. cond b (lineAnswer tables line) []) (le-leb 65540 (length old) h)))
+  answer-some {r} {old} h w = wrote-as w (sym (ap (λ b. cond b (lineAnswer tables line) []) (le-leb room (length old) h)))

@@ -4,6 +4,7 @@ ghost use mathlib.Core.Path.{_≡_};
 ghost use Prim.Native.Nat.{_≤_};
 ghost use lib.ListN.{length};
 ghost use Rattle.form_write.specs.Write.{Wrote};
+ghost use Rattle.desk_reply.specs.Reply.{room};
 ghost use Rattle.desk_answer.specs.Answer.{wordOf, lineAnswer, answerIn};
 
 // The words, and what is none.
@@ -67,7 +68,7 @@ fn word_line(
     c: &mut [u32],
     d: &mut [u32],
 ) -> usize
-    requires { ⌜ 65540 ≤ length (now out) ⌝ }
+    requires { ⌜ room ≤ length (now out) ⌝ }
     ensures { λ r. ⌜ Wrote r
         (lineAnswer (length (now (a .entry)) ∷ length (now (b .entry)) ∷ length (now (c .entry)) ∷ length (now (d .entry)) ∷ [])
         (now (line .entry)))

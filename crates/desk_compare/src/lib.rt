@@ -7,12 +7,13 @@ ghost use mathlib.Core.Path.{_≡_};
 ghost use Prim.Native.Nat.{_≤_, min};
 ghost use lib.ListN.{length};
 ghost use Rattle.form_write.specs.Write.{Wrote};
+ghost use Rattle.desk_reply.specs.Reply.{room};
 ghost use Rattle.desk_compare.specs.Compare.{comparedLine, compareLine, countedLine, countersLine};
 
 // The line of a comparison at this point.
 fn compared(answer: Compared, point: &[u32], out: &mut [u8]) -> usize
     requires { ⌜ length (now point) ≤ 4 ⌝ }
-    requires { ⌜ 65540 ≤ length (now out) ⌝ }
+    requires { ⌜ room ≤ length (now out) ⌝ }
     ensures { λ r. ⌜ Wrote r (comparedLine answer (now (point .entry))) (now (out .entry)) (now (out .exit)) ⌝ }
 {
     match answer {
@@ -41,7 +42,7 @@ pub fn compare_line(
     c: &mut [u32],
     d: &mut [u32],
 ) -> usize
-    requires { ⌜ 65540 ≤ length (now out) ⌝ }
+    requires { ⌜ room ≤ length (now out) ⌝ }
     ensures { λ r. ⌜ Wrote r (compareLine (length (now (a .entry)) ∷ length (now (b .entry)) ∷ length (now (c .entry)) ∷
         length (now (d .entry)) ∷ []) (now (line .entry))) (now (out .entry)) (now (out .exit)) ⌝ }
 {
@@ -60,7 +61,7 @@ pub fn compare_line(
 
 // The line of a comparison as counters.
 fn counted(answer: Counted, out: &mut [u8]) -> usize
-    requires { ⌜ 65540 ≤ length (now out) ⌝ }
+    requires { ⌜ room ≤ length (now out) ⌝ }
     ensures { λ r. ⌜ Wrote r (countedLine answer) (now (out .entry)) (now (out .exit)) ⌝ }
 {
     match answer {
@@ -79,7 +80,7 @@ pub fn counters_line(
     c: &mut [u32],
     d: &mut [u32],
 ) -> usize
-    requires { ⌜ 65540 ≤ length (now out) ⌝ }
+    requires { ⌜ room ≤ length (now out) ⌝ }
     ensures { λ r. ⌜ Wrote r (countersLine (length (now (a .entry)) ∷ length (now (b .entry)) ∷ length (now (c .entry)) ∷
         length (now (d .entry)) ∷ []) (now (line .entry))) (now (out .entry)) (now (out .exit)) ⌝ }
 {

@@ -6,11 +6,12 @@ ghost use mathlib.Core.List.{[], _∷_};
 ghost use Prim.Native.Nat.{_≤_};
 ghost use lib.ListN.{length};
 ghost use Rattle.form_write.specs.Write.{Wrote};
+ghost use Rattle.desk_reply.specs.Reply.{room};
 ghost use Rattle.desk_form.specs.Form.{judgedLine, judgeLine, negateLine, raiseLine, formRemainderLine};
 
 // The line of a judgement.
 fn judged(answer: Judged, out: &mut [u8]) -> usize
-    requires { ⌜ 65540 ≤ length (now out) ⌝ }
+    requires { ⌜ room ≤ length (now out) ⌝ }
     ensures { λ r. ⌜ Wrote r (judgedLine answer) (now (out .entry)) (now (out .exit)) ⌝ }
 {
     match answer {
@@ -21,7 +22,7 @@ fn judged(answer: Judged, out: &mut [u8]) -> usize
 
 // `judge ROW FORM`
 pub fn judge_line(line: &[u8], out: &mut [u8]) -> usize
-    requires { ⌜ 65540 ≤ length (now out) ⌝ }
+    requires { ⌜ room ≤ length (now out) ⌝ }
     ensures { λ r. ⌜ Wrote r (judgeLine (now (line .entry))) (now (out .entry)) (now (out .exit)) ⌝ }
 {
     let n = desk_field::count(line);
@@ -43,7 +44,7 @@ pub fn negate_line(
     c: &mut [u32],
     d: &mut [u32],
 ) -> usize
-    requires { ⌜ 65540 ≤ length (now out) ⌝ }
+    requires { ⌜ room ≤ length (now out) ⌝ }
     ensures { λ r. ⌜ Wrote r (negateLine (length (now (a .entry)) ∷ length (now (b .entry)) ∷ length (now (c .entry)) ∷
         length (now (d .entry)) ∷ []) (now (line .entry))) (now (out .entry)) (now (out .exit)) ⌝ }
 {
@@ -66,7 +67,7 @@ pub fn raise_line(
     c: &mut [u32],
     d: &mut [u32],
 ) -> usize
-    requires { ⌜ 65540 ≤ length (now out) ⌝ }
+    requires { ⌜ room ≤ length (now out) ⌝ }
     ensures { λ r. ⌜ Wrote r (raiseLine (length (now (a .entry)) ∷ length (now (b .entry)) ∷ length (now (c .entry)) ∷
         length (now (d .entry)) ∷ []) (now (line .entry))) (now (out .entry)) (now (out .exit)) ⌝ }
 {
@@ -96,7 +97,7 @@ pub fn form_remainder_line(
     c: &mut [u32],
     d: &mut [u32],
 ) -> usize
-    requires { ⌜ 65540 ≤ length (now out) ⌝ }
+    requires { ⌜ room ≤ length (now out) ⌝ }
     ensures { λ r. ⌜ Wrote r (formRemainderLine (length (now (a .entry)) ∷ length (now (b .entry)) ∷ length (now (c .entry)) ∷
         length (now (d .entry)) ∷ []) (now (line .entry))) (now (out .entry)) (now (out .exit)) ⌝ }
 {

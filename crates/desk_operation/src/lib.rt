@@ -4,6 +4,7 @@ ghost use mathlib.Core.List.{[], _∷_};
 ghost use Prim.Native.Nat.{_≤_};
 ghost use lib.ListN.{length};
 ghost use Rattle.form_write.specs.Write.{Wrote};
+ghost use Rattle.desk_reply.specs.Reply.{room};
 ghost use Rattle.desk_operation.specs.Operation.{addLine, multiplyLine};
 
 // `add ROW FORM FORM`
@@ -15,7 +16,7 @@ pub fn add_line(
     c: &mut [u32],
     d: &mut [u32],
 ) -> usize
-    requires { ⌜ 65540 ≤ length (now out) ⌝ }
+    requires { ⌜ room ≤ length (now out) ⌝ }
     ensures { λ r. ⌜ Wrote r (addLine (length (now (a .entry)) ∷ length (now (b .entry)) ∷ length (now (c .entry)) ∷
         length (now (d .entry)) ∷ []) (now (line .entry))) (now (out .entry)) (now (out .exit)) ⌝ }
 {
@@ -39,7 +40,7 @@ pub fn multiply_line(
     c: &mut [u32],
     d: &mut [u32],
 ) -> usize
-    requires { ⌜ 65540 ≤ length (now out) ⌝ }
+    requires { ⌜ room ≤ length (now out) ⌝ }
     ensures { λ r. ⌜ Wrote r (multiplyLine (length (now (a .entry)) ∷ length (now (b .entry)) ∷ length (now (c .entry)) ∷
         length (now (d .entry)) ∷ []) (now (line .entry))) (now (out .entry)) (now (out .exit)) ⌝ }
 {

@@ -11,6 +11,10 @@ use Rattle.refusal.specs.declared.Side.the-variants.{Left, Right, Neither}
 use Rattle.reply.specs.declared.Written.{Written}
 use Rattle.reply.specs.declared.Written.the-variants.{Text, Refused}
 
+-- the bytes that an answer may take: `FORM `, and a result of at most 65,535 bytes
+abbrev pub room : ℕ
+room = 65540
+
 -- `? n`
 abbrev pub wrongText : ℕ → List ℕ
 wrongText n = bytes "? " ++ decimal n

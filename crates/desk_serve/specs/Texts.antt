@@ -14,7 +14,7 @@ use Rattle.reply.specs.definitions.Calls.{Measured, limited}
 use Rattle.desk_field.specs.Fields.{fieldOf, countOf}
 use Rattle.door_result.specs.Result.{writtenOf}
 use Rattle.reply.specs.declared.Written.{Written}
-use Rattle.desk_reply.specs.Reply.{resultText, Replied}
+use Rattle.desk_reply.specs.Reply.{room, resultText, Replied}
 use Rattle.desk_reply.specs.laws.Replies.{Within, within-asked, text-line}
 use Rattle.desk_serve.specs.Serve.{counted}
 use Rattle.desk_serve.specs.Laws.{two-fields, three-fields}
@@ -31,7 +31,7 @@ within-limited n m r h =
     (λ u. within-asked n (leb (m .heavy) 1073741823) 9 _ (λ v. within-asked n (leb (min (m .many) (box (m .powers))) 256) 10 r h))
 
 -- f is the call by its texts; x is what it answered with, e what it left in the part that it was lent
-module _ (line : List ℕ) {old new : List ℕ} {r : ℕ} (long : 65540 ≤ length old) {n : ℕ} (is : n ≡ countOf line) {row s : List ℕ}
+module _ (line : List ℕ) {old new : List ℕ} {r : ℕ} (long : room ≤ length old) {n : ℕ} (is : n ≡ countOf line) {row s : List ℕ}
     (row-is : row ≡ fieldOf line 1) (s-is : s ≡ fieldOf line 2) where
   -- of a call on one text
   pub one-text :

@@ -5,12 +5,12 @@ ghost use Prim.Native.Nat.{_-_, _≤_, min};
 ghost use lib.ListN.{length};
 ghost use Rattle.form_write.specs.Write.{Wrote};
 ghost use Rattle.desk_field.specs.Fields.{countOf};
-ghost use Rattle.desk_reply.specs.Reply.{wrongText};
+ghost use Rattle.desk_reply.specs.Reply.{room, wrongText};
 ghost use Rattle.desk_serve.specs.Serve.{pointFault, fiveOf, remainderedLine};
 
 // The answer to a request of n fields, where k are wanted: the first that is missing or too many.
 pub fn miscounted(n: usize, k: usize, out: &mut [u8]) -> usize
-    requires { ⌜ 65540 ≤ length (now out) ⌝ }
+    requires { ⌜ room ≤ length (now out) ⌝ }
     ensures { λ r. ⌜ Wrote r (wrongText (min n k)) (now (out .entry)) (now (out .exit)) ⌝ }
 {
     if n < k {
@@ -63,7 +63,7 @@ pub fn point_length(line: &[u8]) -> usize
 
 // The line of a remainder.
 pub fn remaindered(answer: Remaindered, out: &mut [u8]) -> usize
-    requires { ⌜ 65540 ≤ length (now out) ⌝ }
+    requires { ⌜ room ≤ length (now out) ⌝ }
     ensures { λ r. ⌜ Wrote r (remainderedLine answer) (now (out .entry)) (now (out .exit)) ⌝ }
 {
     match answer {

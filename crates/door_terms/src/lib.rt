@@ -7,7 +7,7 @@ ghost use mathlib.Core.Path.{_≡_};
 ghost use Prim.Native.Nat.{_≤_};
 ghost use lib.ListN.{length};
 ghost use Rattle.text.specs.definitions.Bytes.{isRow};
-ghost use Rattle.code.specs.Lengths.{Long};
+ghost use Rattle.code.specs.Lengths.{table, Long};
 ghost use Rattle.term_read.specs.Read.{TermRead};
 ghost use Rattle.door_terms.specs.Terms.{PairRead, begun, ended};
 
@@ -69,7 +69,7 @@ pub fn read_pair(
     d: &mut [u32],
 ) -> TermPair
     requires { ⌜ isRow (now row) ≡ true ⌝ }
-    requires { ⌜ Long (length (now a)) (length (now b)) (length (now c)) (length (now d)) × (16384 ≤ length (now d)) ⌝ }
+    requires { ⌜ Long (length (now a)) (length (now b)) (length (now c)) (length (now d)) × (table ≤ length (now d)) ⌝ }
     ensures { λ r. ⌜ PairRead (now (row .entry)) (now (s .entry)) (now (t .entry)) r (now (d .exit)) ⌝ }
 {
     let left = begun(read_into(row, s, a, b, c, d));

@@ -7,7 +7,8 @@ use native.Mathlib.Omega.{arith}
 use borrow.Author.Tests.{not-true, not-false}
 use lib.ListN.{length}
 use Rattle.door.specs.laws.Ending.{zeros-of}
-use Rattle.book_print.specs.laws.Whole.{lent-four, reply-2, reply-11, reply-text, whole-2, whole-11, whole-text, front}
+use Rattle.door.specs.laws.Door.{four-full}
+use Rattle.book_print.specs.laws.Whole.{reply-2, reply-11, reply-text, whole-2, whole-11, whole-text, front}
 use borrow.Author.Needs.{needs}
 use Rattle.book_print.proofs.print_book.Statement.{statement}
 use Rattle.book_print.proofs.print_book.Tie as tie
@@ -47,7 +48,7 @@ print-any-requires c κs =
     let if1 = (at-else1 .if1) in
     let enough = (at-else1 .before .enough) in
     let s = start (at-else1 .before) .args in (
-      lent-four (length (s .a .now)) (length (s .b .now)) (length (s .c .now)) (length (s .d .now))
+      four-full (length (s .a .now)) (length (s .b .now)) (length (s .c .now)) (length (s .d .now))
           (sym (enough .ensures) ∙ not-false _ (if1 .left)),
       omega arith,
     )

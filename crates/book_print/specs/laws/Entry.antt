@@ -5,6 +5,7 @@ use Prim.Native.Nat.{ℕ, _+_, _-_, _≤_}
 use native.Mathlib.Omega.{arith}
 use lib.ListN.{length, take, drop, length-drop}
 use lib.Seq.{length-take-le}
+use Rattle.code.specs.Lengths.{Full}
 use Rattle.reply.specs.definitions.Calls.{compareOf, compareReply, pointAfter}
 use Rattle.book.specs.definitions.Book.{number16, part, entryLine}
 use Rattle.door.specs.laws.Door.{Open, enough-four}
@@ -13,7 +14,7 @@ use Rattle.reply.specs.declared.Compared.{Compared}
 use Rattle.call_compare.specs.laws.Whole.{compare-open}
 use Rattle.book_line.specs.Lines.{entryText}
 use Rattle.book_line.specs.laws.Texts.{entry-is}
-use Rattle.book_print.specs.Print.{Row, Lent, lineAt}
+use Rattle.book_print.specs.Print.{Row, lineAt}
 
 module _ (book : List ℕ) (n p at : ℕ) (row : Row book n) where
   row-length : length (part book 1 n) ≡ n
@@ -32,7 +33,7 @@ module _ (book : List ℕ) (n p at : ℕ) (row : Row book n) where
       ∙ compare-open (part book 1 n) ts k (part book at m) (part book (at + m) l) o (omega (arith, row-length, row .most))
 
   pub entry-line :
-      (a b c d k m l i : ℕ) {r : Compared} {q : List ℕ} (point : List ℕ) → Lent a b c d → 4 ≤ k → m ≡ number16 book (p + 2) → l ≡
+      (a b c d k m l i : ℕ) {r : Compared} {q : List ℕ} (point : List ℕ) → Full a b c d → 4 ≤ k → m ≡ number16 book (p + 2) → l ≡
       number16 book (p + 6) →
       r ≡ comparedOf (compareReply (take (1 + n - 1) (drop 1 book)) (a ∷ b ∷ c ∷ d ∷ []) k (take (at + m - at) (drop at book))
       (take (at + m + l - (at + m)) (drop (at + m) book))) →

@@ -1,17 +1,15 @@
 -- The whole answer, and the call.
 use mathlib.Core.Bool.{true, false}
-use mathlib.Core.List.{List, [], _∷_, _++_}
+use mathlib.Core.List.{List, _++_}
 use mathlib.Core.Path.{_≡_, refl, sym, ap, ap₂, _∙_}
 use Prim.Native.Nat.{ℕ, _<_, _≤_}
 use native.Mathlib.Omega.{arith}
-use borrow.Author.Tests.{le-leb, lt-leb, leb-true}
-use lib.Dec.{leb}
+use borrow.Author.Tests.{le-leb, lt-leb}
 use lib.ListN.{length, take, drop}
 use lib.Seq.{take-at}
 use Rattle.refusal.specs.Refusal.{ofNeither}
 use Rattle.refusal.specs.declared.Fault.{Fault}
 use Rattle.text.specs.definitions.Bytes.{Reading, read, refused}
-use Rattle.text_laws.specs.laws.Bytes.{and-l, and-r}
 use Rattle.reply.specs.definitions.Reply.{Reply, gives, refuses, asked, enough, fitted, work, Writes}
 use Rattle.book.specs.definitions.Book.{Book, readBook, answer, printed, printReply}
 use Rattle.form_write.specs.Write.{Wrote}
@@ -23,7 +21,6 @@ use Rattle.book_read.specs.declared.Head.{Head}
 use Rattle.book_read.specs.declared.Head.the-variants.{Refused}
 use Rattle.book_line.specs.Lines.{refusalText}
 use Rattle.book_line.specs.laws.Texts.{refusal-is}
-use Rattle.book_print.specs.Print.{Lent}
 
 pub refused-text : (book : List ℕ) {h : Head} {bad : Fault} → h ≡ headOf (readBook book) → h ≡ Refused bad → refusalText bad ≡ printed book
 unfolding printed
@@ -32,18 +29,6 @@ refused-text book {h} {bad} a b = refusal-is bad ∙ ap answer (sym (go (readBoo
     go : (x : Reading Book) → headOf x ≡ Refused bad → x ≡ refused bad
     go (read k) c = let z : _≡_ {A = ℕ} 0 1 = cc in absurd (omega arith)
     go (refused worse) c = cc
-
-pub lent-four : (a b c d : ℕ) → enough (a ∷ b ∷ c ∷ d ∷ []) ≡ true → Lent a b c d
-lent-four a b c d h =
-    let i = and-r (leb 16384 a) (enough (b ∷ c ∷ d ∷ [])) h in
-    let j = and-r (leb 16384 b) (enough (c ∷ d ∷ [])) i in
-    let k = and-r (leb 16384 c) (enough (d ∷ [])) j in
-    record {
-      first = leb-true 16384 a (and-l (leb 16384 a) (enough (b ∷ c ∷ d ∷ [])) h);
-      second = leb-true 16384 b (and-l (leb 16384 b) (enough (c ∷ d ∷ [])) i);
-      third = leb-true 16384 c (and-l (leb 16384 c) (enough (d ∷ [])) j);
-      fourth = leb-true 16384 d (and-l (leb 16384 d) (enough []) k);
-    }
 
 -- ---- the reply
 module _ (ts book : List ℕ) (n : ℕ) where

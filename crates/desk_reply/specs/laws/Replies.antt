@@ -15,7 +15,7 @@ use Rattle.door_result.specs.Result.{writtenOf}
 use Rattle.reply.specs.declared.Written.{Written}
 use Rattle.reply.specs.declared.Written.the-variants.{Text, Refused}
 use Rattle.refusal.specs.declared.Refusal.{Refusal}
-use Rattle.desk_reply.specs.Reply.{refusedText, resultText, LineFits, Replied}
+use Rattle.desk_reply.specs.Reply.{room, refusedText, resultText, LineFits, Replied}
 use lib.Dec.{leb}
 use borrow.Author.Tests.{leb-true}
 
@@ -41,12 +41,12 @@ within-fitted n w = at (leb (length w) n) refl
     at false e = tt
 
 -- so there is room for its line
-pub room-for : (x : Reply (List ℕ)) (k : ℕ) → Within 65535 x → 65540 ≤ k → LineFits (writtenOf x) k
+pub room-for : (x : Reply (List ℕ)) (k : ℕ) → Within 65535 x → room ≤ k → LineFits (writtenOf x) k
 room-for (gives w) k h l = (omega arith, omega arith)
 room-for (refuses bad) k h l = omega arith
 
 -- ---- the line
-module _ (old : List ℕ) (long : 65540 ≤ length old) where
+module _ (old : List ℕ) (long : room ≤ length old) where
   over-rest : (k : ℕ) → k ≤ 65535 → drop k (take 65535 (drop 5 old)) ++ drop 65535 (drop 5 old) ≡ drop (5 + k) old
   over-rest k h =
       sym (drop-append-le k (take 65535 (drop 5 old)) (drop 65535 (drop 5 old))
@@ -91,7 +91,7 @@ pub room-text : {x : Written} {n k : ℕ} → x ≡ Text n → LineFits x k → 
 room-text {x} {n} {k} e h = subst (λ z. LineFits z k) e h
 
 -- ---- a call f that is lent the bytes 5 to 65,540, and the line of its answer
-module _ (old : List ℕ) (long : 65540 ≤ length old) (f : ℕ → Reply (List ℕ)) (within : (n : ℕ) → Within n (f n)) where
+module _ (old : List ℕ) (long : room ≤ length old) (f : ℕ → Reply (List ℕ)) (within : (n : ℕ) → Within n (f n)) where
   lent-all : f (length (take 65535 (drop 5 old))) ≡ f 65535
   lent-all = ap f (length-take-le 65535 (drop 5 old) (omega (arith, length-drop 5 old)))
 

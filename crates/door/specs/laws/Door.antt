@@ -11,7 +11,7 @@ use Rattle.text.specs.definitions.Bytes.{isRow}
 use Rattle.refusal.specs.declared.Refusal.{Refusal}
 use Rattle.reply.specs.definitions.Reply.{Reply, refuses, enough, opened}
 use Rattle.text_laws.specs.laws.Bytes.{and-l, and-r}
-use Rattle.code.specs.Lengths.{Long}
+use Rattle.code.specs.Lengths.{table, Full, Long}
 use Rattle.door.specs.Door.{readyOf}
 use Rattle.door.specs.declared.Entry.the-variants.{Granted, Refused}
 
@@ -77,46 +77,47 @@ ready-small row ts {bad} = go (isRow row) (enough ts) refl refl
 
 -- four lengths
 module _ (a b c d : ℕ) where
-  pub enough-four : 16384 ≤ a → 16384 ≤ b → 16384 ≤ c → 16384 ≤ d → enough (a ∷ b ∷ c ∷ d ∷ []) ≡ true
-  enough-four i j k l = rw (le-leb 16384 a i, le-leb 16384 b j, le-leb 16384 c k, le-leb 16384 d l) refl
+  pub enough-four : table ≤ a → table ≤ b → table ≤ c → table ≤ d → enough (a ∷ b ∷ c ∷ d ∷ []) ≡ true
+  enough-four i j k l = rw (le-leb table a i, le-leb table b j, le-leb table c k, le-leb table d l) refl
 
-  pub first-short : a < 16384 → enough (a ∷ b ∷ c ∷ d ∷ []) ≡ false
-  first-short h = rw (lt-leb 16384 a h) refl
+  pub first-short : a < table → enough (a ∷ b ∷ c ∷ d ∷ []) ≡ false
+  first-short h = rw (lt-leb table a h) refl
 
-  pub second-short : b < 16384 → enough (a ∷ b ∷ c ∷ d ∷ []) ≡ false
-  second-short h = rw (lt-leb 16384 b h) (short-second (leb 16384 a))
+  pub second-short : b < table → enough (a ∷ b ∷ c ∷ d ∷ []) ≡ false
+  second-short h = rw (lt-leb table b h) (short-second (leb table a))
 
-  pub third-short : c < 16384 → enough (a ∷ b ∷ c ∷ d ∷ []) ≡ false
-  third-short h = rw (lt-leb 16384 c h) (drop-two (leb 16384 a) (leb 16384 b))
+  pub third-short : c < table → enough (a ∷ b ∷ c ∷ d ∷ []) ≡ false
+  third-short h = rw (lt-leb table c h) (drop-two (leb table a) (leb table b))
     where
       drop-two : (x y : Bool) → (x && (y && false)) ≡ false
       drop-two true y = short-second y
       drop-two false y = refl
 
-  pub fourth-short : d < 16384 → enough (a ∷ b ∷ c ∷ d ∷ []) ≡ false
-  fourth-short h = rw (lt-leb 16384 d h) (drop-three (leb 16384 a) (leb 16384 b) (leb 16384 c))
+  pub fourth-short : d < table → enough (a ∷ b ∷ c ∷ d ∷ []) ≡ false
+  fourth-short h = rw (lt-leb table d h) (drop-three (leb table a) (leb table b) (leb table c))
     where
       drop-three : (x y z : Bool) → (x && (y && (z && false))) ≡ false
       drop-three true true z = short-second z
       drop-three true false z = refl
       drop-three false y z = refl
 
--- four tables of the fixed length
+  pub four-full : enough (a ∷ b ∷ c ∷ d ∷ []) ≡ true → Full a b c d
+  four-full h =
+      let i = and-r (leb table a) (enough (b ∷ c ∷ d ∷ [])) h in
+      let j = and-r (leb table b) (enough (c ∷ d ∷ [])) i in
+      let k = and-r (leb table c) (enough (d ∷ [])) j in
+      record {
+        first = leb-true table a (and-l (leb table a) (enough (b ∷ c ∷ d ∷ [])) h);
+        second = leb-true table b (and-l (leb table b) (enough (c ∷ d ∷ [])) i);
+        third = leb-true table c (and-l (leb table c) (enough (d ∷ [])) j);
+        fourth = leb-true table d (and-l (leb table d) (enough []) k);
+      }
+
+-- four tables of the fixed length are long enough
 pub open-long : {row : List ℕ} (a b c d : ℕ) → Open row (a ∷ b ∷ c ∷ d ∷ []) → Long a b c d
 open-long a b c d o =
-    let h = o .long in
-    let k = and-r (leb 16384 a) (enough (b ∷ c ∷ d ∷ [])) h in
-    let l = and-r (leb 16384 b) (enough (c ∷ d ∷ [])) k in
-    let m = leb-true 16384 d (and-l (leb 16384 d) true (and-r (leb 16384 c) (enough (d ∷ [])) l)) in
-    record {
-      first = leb-true 16384 a (and-l (leb 16384 a) (enough (b ∷ c ∷ d ∷ [])) h);
-      second = leb-true 16384 b (and-l (leb 16384 b) (enough (c ∷ d ∷ [])) k);
-      third = leb-true 16384 c (and-l (leb 16384 c) (enough (d ∷ [])) l);
-      fourth = omega (arith, m);
-    }
+    let f = four-full a b c d (o .long) in
+    record { first = f .first; second = f .second; third = f .third; fourth = omega (arith, f .fourth) }
 
-pub open-fourth : {row : List ℕ} (a b c d : ℕ) → Open row (a ∷ b ∷ c ∷ d ∷ []) → 16384 ≤ d
-open-fourth a b c d o =
-    let k = and-r (leb 16384 a) (enough (b ∷ c ∷ d ∷ [])) (o .long) in
-    let l = and-r (leb 16384 b) (enough (c ∷ d ∷ [])) k in
-    leb-true 16384 d (and-l (leb 16384 d) true (and-r (leb 16384 c) (enough (d ∷ [])) l))
+pub open-fourth : {row : List ℕ} (a b c d : ℕ) → Open row (a ∷ b ∷ c ∷ d ∷ []) → table ≤ d
+open-fourth a b c d o = four-full a b c d (o .long) .fourth
