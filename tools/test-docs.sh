@@ -56,7 +56,7 @@ for number in $(seq 14); do
     has docs/refusals.md "^\| $number \| "
     has docs/scope.md "^\| $number \| "
 done
-for word in $(sed -n 's/.*spelt v (bytes "\([a-z]*\)").*/\1/p' crates/desk_answer/specs/Answer.antt); do has README.md "^\| \`$word ROW"; done
+for word in $(sed -n 's/^ .*(bytes "\([a-z]*\)", [A-Z].*/\1/p' crates/desk_answer/specs/Answer.antt); do has README.md "^\| \`$word ROW"; done
 make help > "$work/help"
 for command in $(sed -n 's/^\.PHONY: help //p' Makefile); do
     has "$work/help" "^make $command\\b"

@@ -1,6 +1,6 @@
 -- What a request line is answered with: the ten words, each by the fields of its line; tables lists the lengths of the work tables.
 use mathlib.Core.Bool.{cond}
-use mathlib.Core.List.{List, []}
+use mathlib.Core.List.{List, [], _∷_}
 use Prim.Native.Nat.{ℕ}
 use lib.Dec.{leb}
 use Rattle.text.specs.definitions.Bytes.{bytes, same}
@@ -14,24 +14,28 @@ use Rattle.desk_answer.specs.declared.Word.{Word}
 use Rattle.desk_answer.specs.declared.Word.the-variants.{Form, Remainder, Judge, Negate, Add, Multiply, Raise, FormRemainder}
 use Rattle.desk_answer.specs.declared.Word.the-variants.{Compare, Counters, Unknown}
 
--- the word w, where v is spelt as it; else what comes after
-abbrev spelt : List ℕ → List ℕ → Word → Word → Word
-spelt v w k after = cond (same v w) k after
-
 -- how each word is spelt
+abbrev pub words : List (List ℕ × Word)
+words =
+    (bytes "form", Form)
+    ∷ (bytes "remainder", Remainder)
+    ∷ (bytes "judge", Judge)
+    ∷ (bytes "negate", Negate)
+    ∷ (bytes "add", Add)
+    ∷ (bytes "multiply", Multiply)
+    ∷ (bytes "raise", Raise)
+    ∷ (bytes "formremainder", FormRemainder)
+    ∷ (bytes "compare", Compare)
+    ∷ (bytes "counters", Counters)
+    ∷ []
+
+-- the word of the first row of the table that v spells
+abbrev pub wordIn : List ℕ → List (List ℕ × Word) → Word
+wordIn v [] = Unknown
+wordIn v (r ∷ rs) = cond (same v (r .0)) (r .1) (wordIn v rs)
+
 unfoldable pub wordOf : List ℕ → Word
-wordOf v =
-    spelt v (bytes "form") Form
-    (spelt v (bytes "remainder") Remainder
-    (spelt v (bytes "judge") Judge
-    (spelt v (bytes "negate") Negate
-    (spelt v (bytes "add") Add
-    (spelt v (bytes "multiply") Multiply
-    (spelt v (bytes "raise") Raise
-    (spelt v (bytes "formremainder") FormRemainder
-    (spelt v (bytes "compare") Compare
-    (spelt v (bytes "counters") Counters
-    Unknown)))))))))
+wordOf v = wordIn v words
 
 -- what a line with the word is answered with; field 0 is wrong where it is no word at all
 abbrev pub answerBy : Word → (tables line : List ℕ) → List ℕ

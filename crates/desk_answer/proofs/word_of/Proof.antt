@@ -1,8 +1,10 @@
--- `desk_answer::word_of` meets its contract, word by word.
-use mathlib.Core.Path.{refl}
-use Rattle.text.specs.definitions.Bytes.{bytes}
-use Rattle.desk_answer.specs.Answer.{wordOf}
-use Rattle.desk_answer.specs.Laws.{is-word, not-word}
+-- `desk_answer::word_of` meets its contract: each test that fails passes over a row of the table, and the first that holds has its word.
+use mathlib.Core.List.{List}
+use mathlib.Core.Path.{_≡_, sym, _∙_}
+use Prim.Native.Nat.{ℕ}
+use lib.ListN.{drop}
+use Rattle.desk_answer.specs.Answer.{words, wordIn, wordOf}
+use Rattle.desk_answer.specs.Laws.{passed, found}
 use borrow.Author.Needs.{needs}
 use Rattle.desk_answer.proofs.word_of.Statement.{statement}
 use Rattle.desk_answer.proofs.word_of.Tie as tie
@@ -10,227 +12,115 @@ use Rattle.desk_answer.proofs.word_of.Reads as reads
 use Rattle.desk_answer.proofs.word_of.Lts as lts
 use Rattle.check.proofs.same.Reads as same-reads
 
--- the places that are looked at, each seen from a later one
-abbrev start : tie.Else1 → tie.Start
-start c = c .before .before .before .before
+-- behind the k-th test: the field, and that the first k rows are passed over
+abbrev field1 : tie.Else1 → List ℕ
+field1 c = c .before .before .before .before .args .field .now
 
-abbrev else1 : tie.Else2 → tie.Else1
-else1 c = c .before .before .before
+left1 : (c : tie.Else1) → wordOf (field1 c) ≡ wordIn (field1 c) (drop 1 words)
+unfolding wordOf
+left1 c = passed (field1 c) words (c .before .same .ensures) (c .if1 .left)
 
-abbrev else2 : tie.Else3 → tie.Else2
-else2 c = c .before .before .before
+abbrev field2 : tie.Else2 → List ℕ
+field2 c = field1 (c .before .before .before)
 
-abbrev else3 : tie.Else4 → tie.Else3
-else3 c = c .before .before .before
+left2 : (c : tie.Else2) → wordOf (field2 c) ≡ wordIn (field2 c) (drop 2 words)
+left2 c = left1 (c .before .before .before) ∙ passed (field2 c) (drop 1 words) (c .before .same2 .ensures) (c .if2 .left)
 
-abbrev else4 : tie.Else5 → tie.Else4
-else4 c = c .before .before .before
+abbrev field3 : tie.Else3 → List ℕ
+field3 c = field2 (c .before .before .before)
 
-abbrev else5 : tie.Else6 → tie.Else5
-else5 c = c .before .before .before
+left3 : (c : tie.Else3) → wordOf (field3 c) ≡ wordIn (field3 c) (drop 3 words)
+left3 c = left2 (c .before .before .before) ∙ passed (field3 c) (drop 2 words) (c .before .same3 .ensures) (c .if3 .left)
+
+abbrev field4 : tie.Else4 → List ℕ
+field4 c = field3 (c .before .before .before)
+
+left4 : (c : tie.Else4) → wordOf (field4 c) ≡ wordIn (field4 c) (drop 4 words)
+left4 c = left3 (c .before .before .before) ∙ passed (field4 c) (drop 3 words) (c .before .same4 .ensures) (c .if4 .left)
+
+abbrev field5 : tie.Else5 → List ℕ
+field5 c = field4 (c .before .before .before)
+
+left5 : (c : tie.Else5) → wordOf (field5 c) ≡ wordIn (field5 c) (drop 5 words)
+left5 c = left4 (c .before .before .before) ∙ passed (field5 c) (drop 4 words) (c .before .same5 .ensures) (c .if5 .left)
+
+abbrev field6 : tie.Else6 → List ℕ
+field6 c = field5 (c .before .before .before)
+
+left6 : (c : tie.Else6) → wordOf (field6 c) ≡ wordIn (field6 c) (drop 6 words)
+left6 c = left5 (c .before .before .before) ∙ passed (field6 c) (drop 5 words) (c .before .same6 .ensures) (c .if6 .left)
+
+abbrev field7 : tie.Else7 → List ℕ
+field7 c = field6 (c .before .before .before)
+
+left7 : (c : tie.Else7) → wordOf (field7 c) ≡ wordIn (field7 c) (drop 7 words)
+left7 c = left6 (c .before .before .before) ∙ passed (field7 c) (drop 6 words) (c .before .same7 .ensures) (c .if7 .left)
+
+abbrev field8 : tie.Else8 → List ℕ
+field8 c = field7 (c .before .before .before)
+
+left8 : (c : tie.Else8) → wordOf (field8 c) ≡ wordIn (field8 c) (drop 8 words)
+left8 c = left7 (c .before .before .before) ∙ passed (field8 c) (drop 7 words) (c .before .same8 .ensures) (c .if8 .left)
+
+abbrev field9 : tie.Else9 → List ℕ
+field9 c = field8 (c .before .before .before)
+
+left9 : (c : tie.Else9) → wordOf (field9 c) ≡ wordIn (field9 c) (drop 9 words)
+left9 c = left8 (c .before .before .before) ∙ passed (field9 c) (drop 8 words) (c .before .same9 .ensures) (c .if9 .left)
 
 returns : tie.Need-returns
 unfolding wordOf
-returns c =
-    let s : tie.Start = c .before .before .before .before in
-    let v = s .args .field .now in rw (is-word v (bytes "form") ((c .before .same) .ensures) ((c .if1) .taken)) refl
+returns c = sym (found (c .before .before .before .before .args .field .now) words (c .before .same .ensures) (c .if1 .taken))
 
 returns-2 : tie.Need-returns-2
-unfolding wordOf
 returns-2 c =
-    let at-else1 : tie.Else1 = c .before .before .before in
-    let at-same = at-else1 .before in
-    let s = start at-else1 in
-    let v = s .args .field .now in
-    rw (
-      not-word v (bytes "form") ((at-same .same) .ensures) ((at-else1 .if1) .left),
-      is-word v (bytes "remainder") ((c .before .same2) .ensures) ((c .if2) .taken),
-    ) refl
+    let e : tie.Else1 = c .before .before .before in
+    sym (left1 e ∙ found (field1 e) (drop 1 words) (c .before .same2 .ensures) (c .if2 .taken))
 
 returns-3 : tie.Need-returns-3
-unfolding wordOf
 returns-3 c =
-    let at-else2 : tie.Else2 = c .before .before .before in
-    let at-same2 = at-else2 .before in
-    let at-else1 = else1 at-else2 in
-    let v = (start at-else1) .args .field .now in
-    rw (
-      not-word v (bytes "form") ((at-else1 .before .same) .ensures) ((at-else1 .if1) .left),
-      not-word v (bytes "remainder") ((at-same2 .same2) .ensures) ((at-else2 .if2) .left),
-      is-word v (bytes "judge") ((c .before .same3) .ensures) ((c .if3) .taken),
-    ) refl
+    let e : tie.Else2 = c .before .before .before in
+    sym (left2 e ∙ found (field2 e) (drop 2 words) (c .before .same3 .ensures) (c .if3 .taken))
 
 returns-4 : tie.Need-returns-4
-unfolding wordOf
 returns-4 c =
-    let at-else3 : tie.Else3 = c .before .before .before in
-    let at-else2 = else2 at-else3 in
-    let at-else1 = else1 at-else2 in
-    let v = (start at-else1) .args .field .now in
-    rw (
-      not-word v (bytes "form") ((at-else1 .before .same) .ensures) ((at-else1 .if1) .left),
-      not-word v (bytes "remainder") ((at-else2 .before .same2) .ensures) ((at-else2 .if2) .left),
-      not-word v (bytes "judge") ((at-else3 .before .same3) .ensures) ((at-else3 .if3) .left),
-      is-word v (bytes "negate") ((c .before .same4) .ensures) ((c .if4) .taken),
-    ) refl
+    let e : tie.Else3 = c .before .before .before in
+    sym (left3 e ∙ found (field3 e) (drop 3 words) (c .before .same4 .ensures) (c .if4 .taken))
 
 returns-5 : tie.Need-returns-5
-unfolding wordOf
 returns-5 c =
-    let at-else4 : tie.Else4 = c .before .before .before in
-    let at-same4 = at-else4 .before in
-    let at-else3 = else3 at-else4 in
-    let at-else2 = else2 at-else3 in
-    let at-else1 = else1 at-else2 in
-    let v = (start at-else1) .args .field .now in
-    rw (
-      not-word v (bytes "form") ((at-else1 .before .same) .ensures) ((at-else1 .if1) .left),
-      not-word v (bytes "remainder") ((at-else2 .before .same2) .ensures) ((at-else2 .if2) .left),
-      not-word v (bytes "judge") ((at-else3 .before .same3) .ensures) ((at-else3 .if3) .left),
-      not-word v (bytes "negate") ((at-same4 .same4) .ensures) ((at-else4 .if4) .left),
-      is-word v (bytes "add") ((c .before .same5) .ensures) ((c .if5) .taken),
-    ) refl
+    let e : tie.Else4 = c .before .before .before in
+    sym (left4 e ∙ found (field4 e) (drop 4 words) (c .before .same5 .ensures) (c .if5 .taken))
 
 returns-6 : tie.Need-returns-6
-unfolding wordOf
 returns-6 c =
-    let at-else5 : tie.Else5 = c .before .before .before in
-    let at-same5 = at-else5 .before in
-    let at-same4 = else4 at-else5 .before in
-    let at-else3 = at-same4 .before .before in
-    let at-else2 = else2 at-else3 in
-    let at-else1 = else1 at-else2 in
-    let v = (start at-else1) .args .field .now in
-    rw (
-      not-word v (bytes "form") ((at-else1 .before .same) .ensures) ((at-else1 .if1) .left),
-      not-word v (bytes "remainder") ((at-else2 .before .same2) .ensures) ((at-else2 .if2) .left),
-      not-word v (bytes "judge") ((at-else3 .before .same3) .ensures) ((at-else3 .if3) .left),
-      not-word v (bytes "negate") ((at-same4 .same4) .ensures) ((else4 at-else5 .if4) .left),
-      not-word v (bytes "add") ((at-same5 .same5) .ensures) ((at-else5 .if5) .left),
-      is-word v (bytes "multiply") ((c .before .same6) .ensures) ((c .if6) .taken),
-    ) refl
+    let e : tie.Else5 = c .before .before .before in
+    sym (left5 e ∙ found (field5 e) (drop 5 words) (c .before .same6 .ensures) (c .if6 .taken))
 
 returns-7 : tie.Need-returns-7
-unfolding wordOf
 returns-7 c =
-    let at-else6 : tie.Else6 = c .before .before .before in
-    let at-same6 = at-else6 .before in
-    let at-same5 = else5 at-else6 .before in
-    let at-same4 : tie.After-same4 = at-same5 .before .before .before in
-    let at-else3 = at-same4 .before .before in
-    let at-else2 = else2 at-else3 in
-    let at-else1 = else1 at-else2 in
-    let v = (start at-else1) .args .field .now in
-    rw (
-      not-word v (bytes "form") ((at-else1 .before .same) .ensures) ((at-else1 .if1) .left),
-      not-word v (bytes "remainder") ((at-else2 .before .same2) .ensures) ((at-else2 .if2) .left),
-      not-word v (bytes "judge") ((at-else3 .before .same3) .ensures) ((at-else3 .if3) .left),
-      not-word v (bytes "negate") ((at-same4 .same4) .ensures) ((at-same5 .before .before .if4) .left),
-      not-word v (bytes "add") ((at-same5 .same5) .ensures) ((else5 at-else6 .if5) .left),
-      not-word v (bytes "multiply") ((at-same6 .same6) .ensures) ((at-else6 .if6) .left),
-      is-word v (bytes "raise") ((c .before .same7) .ensures) ((c .if7) .taken),
-    ) refl
+    let e : tie.Else6 = c .before .before .before in
+    sym (left6 e ∙ found (field6 e) (drop 6 words) (c .before .same7 .ensures) (c .if7 .taken))
 
 returns-8 : tie.Need-returns-8
-unfolding wordOf
 returns-8 c =
-    let at-else7 : tie.Else7 = c .before .before .before in
-    let at-else6 : tie.Else6 = at-else7 .before .before .before in
-    let at-else5 = else5 at-else6 in
-    let at-else4 = else4 at-else5 in
-    let at-else3 = else3 at-else4 in
-    let at-else2 = else2 at-else3 in
-    let at-else1 = else1 at-else2 in
-    let v = (start at-else1) .args .field .now in
-    rw (
-      not-word v (bytes "form") ((at-else1 .before .same) .ensures) ((at-else1 .if1) .left),
-      not-word v (bytes "remainder") ((at-else2 .before .same2) .ensures) ((at-else2 .if2) .left),
-      not-word v (bytes "judge") ((at-else3 .before .same3) .ensures) ((at-else3 .if3) .left),
-      not-word v (bytes "negate") ((at-else4 .before .same4) .ensures) ((at-else4 .if4) .left),
-      not-word v (bytes "add") ((at-else5 .before .same5) .ensures) ((at-else5 .if5) .left),
-      not-word v (bytes "multiply") ((at-else6 .before .same6) .ensures) ((at-else6 .if6) .left),
-      not-word v (bytes "raise") ((at-else7 .before .same7) .ensures) ((at-else7 .if7) .left),
-      is-word v (bytes "formremainder") ((c .before .same8) .ensures) ((c .if8) .taken),
-    ) refl
+    let e : tie.Else7 = c .before .before .before in
+    sym (left7 e ∙ found (field7 e) (drop 7 words) (c .before .same8 .ensures) (c .if8 .taken))
 
 returns-9 : tie.Need-returns-9
-unfolding wordOf
 returns-9 c =
-    let at-else8 : tie.Else8 = c .before .before .before in
-    let at-same8 = at-else8 .before in
-    let at-same7 : tie.After-same7 = at-same8 .before .before .before in
-    let at-else6 = at-same7 .before .before in
-    let at-else5 = else5 at-else6 in
-    let at-else4 = else4 at-else5 in
-    let at-else3 = else3 at-else4 in
-    let at-else2 = else2 at-else3 in
-    let at-else1 = else1 at-else2 in
-    let v = (start at-else1) .args .field .now in
-    rw (
-      not-word v (bytes "form") ((at-else1 .before .same) .ensures) ((at-else1 .if1) .left),
-      not-word v (bytes "remainder") ((at-else2 .before .same2) .ensures) ((at-else2 .if2) .left),
-      not-word v (bytes "judge") ((at-else3 .before .same3) .ensures) ((at-else3 .if3) .left),
-      not-word v (bytes "negate") ((at-else4 .before .same4) .ensures) ((at-else4 .if4) .left),
-      not-word v (bytes "add") ((at-else5 .before .same5) .ensures) ((at-else5 .if5) .left),
-      not-word v (bytes "multiply") ((at-else6 .before .same6) .ensures) ((at-else6 .if6) .left),
-      not-word v (bytes "raise") ((at-same7 .same7) .ensures) ((at-same8 .before .before .if7) .left),
-      not-word v (bytes "formremainder") ((at-same8 .same8) .ensures) ((at-else8 .if8) .left),
-      is-word v (bytes "compare") ((c .before .same9) .ensures) ((c .if9) .taken),
-    ) refl
+    let e : tie.Else8 = c .before .before .before in
+    sym (left8 e ∙ found (field8 e) (drop 8 words) (c .before .same9 .ensures) (c .if9 .taken))
 
 returns-10 : tie.Need-returns-10
-unfolding wordOf
 returns-10 c =
-    let at-else9 : tie.Else9 = c .before .before .before in
-    let at-same9 = at-else9 .before in
-    let at-same8 : tie.After-same8 = at-same9 .before .before .before in
-    let at-same7 : tie.After-same7 = at-same8 .before .before .before in
-    let at-else6 = at-same7 .before .before in
-    let at-else5 = else5 at-else6 in
-    let at-else4 = else4 at-else5 in
-    let at-else3 = else3 at-else4 in
-    let at-else2 = else2 at-else3 in
-    let at-else1 = else1 at-else2 in
-    let v = (start at-else1) .args .field .now in
-    rw (
-      not-word v (bytes "form") ((at-else1 .before .same) .ensures) ((at-else1 .if1) .left),
-      not-word v (bytes "remainder") ((at-else2 .before .same2) .ensures) ((at-else2 .if2) .left),
-      not-word v (bytes "judge") ((at-else3 .before .same3) .ensures) ((at-else3 .if3) .left),
-      not-word v (bytes "negate") ((at-else4 .before .same4) .ensures) ((at-else4 .if4) .left),
-      not-word v (bytes "add") ((at-else5 .before .same5) .ensures) ((at-else5 .if5) .left),
-      not-word v (bytes "multiply") ((at-else6 .before .same6) .ensures) ((at-else6 .if6) .left),
-      not-word v (bytes "raise") ((at-same7 .same7) .ensures) ((at-same8 .before .before .if7) .left),
-      not-word v (bytes "formremainder") ((at-same8 .same8) .ensures) ((at-same9 .before .before .if8) .left),
-      not-word v (bytes "compare") ((at-same9 .same9) .ensures) ((at-else9 .if9) .left),
-      is-word v (bytes "counters") ((c .before .same10) .ensures) ((c .if10) .taken),
-    ) refl
+    let e : tie.Else9 = c .before .before .before in
+    sym (left9 e ∙ found (field9 e) (drop 9 words) (c .before .same10 .ensures) (c .if10 .taken))
 
 returns-11 : tie.Need-returns-11
-unfolding wordOf
 returns-11 c =
-    let at-else9 : tie.Else9 = c .before .before .before in
-    let at-same9 = at-else9 .before in
-    let at-same8 : tie.After-same8 = at-same9 .before .before .before in
-    let at-same7 : tie.After-same7 = at-same8 .before .before .before in
-    let at-else6 = at-same7 .before .before in
-    let at-else5 = else5 at-else6 in
-    let at-else4 = else4 at-else5 in
-    let at-else3 = else3 at-else4 in
-    let at-else2 = else2 at-else3 in
-    let at-else1 = else1 at-else2 in
-    let v = (start at-else1) .args .field .now in
-    rw (
-      not-word v (bytes "form") ((at-else1 .before .same) .ensures) ((at-else1 .if1) .left),
-      not-word v (bytes "remainder") ((at-else2 .before .same2) .ensures) ((at-else2 .if2) .left),
-      not-word v (bytes "judge") ((at-else3 .before .same3) .ensures) ((at-else3 .if3) .left),
-      not-word v (bytes "negate") ((at-else4 .before .same4) .ensures) ((at-else4 .if4) .left),
-      not-word v (bytes "add") ((at-else5 .before .same5) .ensures) ((at-else5 .if5) .left),
-      not-word v (bytes "multiply") ((at-else6 .before .same6) .ensures) ((at-else6 .if6) .left),
-      not-word v (bytes "raise") ((at-same7 .same7) .ensures) ((at-same8 .before .before .if7) .left),
-      not-word v (bytes "formremainder") ((at-same8 .same8) .ensures) ((at-same9 .before .before .if8) .left),
-      not-word v (bytes "compare") ((at-same9 .same9) .ensures) ((at-else9 .if9) .left),
-      not-word v (bytes "counters") ((c .before .same10) .ensures) ((c .if10) .left),
-    ) refl
+    let e : tie.Else9 = c .before .before .before in
+    sym (left9 e ∙ passed (field9 e) (drop 9 words) (c .before .same10 .ensures) (c .if10 .left))
 
 pub word-of-spec : {M : Type 1} → statement M
 word-of-spec =
