@@ -9,8 +9,9 @@ import sys
 
 FLOORS = (
     ("horner",),
-    ("refusal",),
+    ("dialect", "refusal"),
     ("code",),
+    ("run",),
     ("text", "term", "form", "measure"),
     ("reply", "door"),
     ("call",),

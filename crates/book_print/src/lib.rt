@@ -38,7 +38,7 @@ fn print_entry(
     let mid = at + book_read::number_at(book, p + 2);
     let end = mid + book_read::number_at(book, p + 6);
     let mut point = [0u32; 4];
-    let answer = call_compare::compare(
+    let answer = door_compare::compare_of(
         &book[1..e],
         &book[at..mid],
         &book[mid..end],

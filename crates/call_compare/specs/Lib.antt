@@ -1,3 +1,2 @@
--- The call `compare`. Its reply is defined in crates/reply.
-pub mod Compare
+-- The call `compare`.
 pub mod laws

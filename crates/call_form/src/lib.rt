@@ -31,7 +31,7 @@ fn form_of(
     let reading = term_read::read_term(row, s, a, b, c, d);
     match reading {
         TermReading::Refused(fault) => Written::Refused(refusal::on_side(Side::Left, fault)),
-        TermReading::Form(n) => door_result::write_result(&a[..n], result),
+        TermReading::Words(n) => door_result::write_result(&a[..n], result),
     }
 }
 

@@ -43,7 +43,7 @@ fn write_product(
     if e != 0 {
         return Written::Refused(refusal::of_neither(e));
     }
-    let words = code_combine::multiply(a, n, k, &mut b[..TABLE], &mut c[..TABLE], &mut d[..6146]);
+    let words = code_pair::multiply(a, n, k, &mut b[..TABLE], &mut c[..TABLE], &mut d[..6146]);
     door_result::write_result(&a[..words], result)
 }
 

@@ -30,7 +30,7 @@ fn remainder_of(
     let reading = term_read::read_term(row, s, a, b, c, d);
     match reading {
         TermReading::Refused(fault) => Remaindered::Refused(refusal::on_side(Side::Left, fault)),
-        TermReading::Form(n) => {
+        TermReading::Words(n) => {
             door_point::put_point(point, b);
             let k = point.len();
             let v = code_walk::value(0, &a[..n], &b[..k]);

@@ -12,7 +12,7 @@ pub record Full (a b c d : ℕ) : Type 0 where
   pub third : table ≤ c
   pub fourth : table ≤ d
 
--- tables long enough to read a term in; the last one may have a form in front of it that is kept
+-- tables long enough for a product of two forms, whose third table needs less
 pub record Long (a b c d : ℕ) : Type 0 where
   pub first : table ≤ a
   pub second : table ≤ b

@@ -4,4 +4,3 @@ pub mod Fit
 pub mod Summands
 pub mod Tables
 pub mod Equations
-pub mod Terms

@@ -3,12 +3,12 @@ use code::NODE;
 ghost use mathlib.Core.Path.{_≡_};
 ghost use Prim.Native.Nat.{ℕ, _+_, _<_, _≤_, min};
 ghost use lib.ListN.{length};
-ghost use Rattle.horner.specs.definitions.Form.{int, isZero};
+ghost use Rattle.horner.specs.definitions.Form.{isZero};
 ghost use Rattle.code.specs.Widths.{modulus, ringOf, leaf};
 ghost use Rattle.code.specs.Coding.{Coded, Made, RoomUnder, dec};
 ghost use Rattle.code.specs.Operations.{negateOf, valueOf, scaleOf};
 ghost use Rattle.code_walk.specs.Points.{Leaves};
-ghost use Rattle.code_walk.specs.Shapes.{Decides, letterOf};
+ghost use Rattle.code_walk.specs.Shapes.{Decides};
 ghost use Rattle.code_walk.specs.Carrying.{carried, carryOf, reduceOf};
 
 // The lesser of two numbers.
@@ -165,33 +165,4 @@ pub fn is_zero(width: u32, x: &[u32]) -> bool
     ensures { λ r. ⌜ r ≡ isZero (ringOf width) (dec width (now (x .entry))) ⌝ }
 {
     x[0] == 0
-}
-
-// The number a as a form.
-pub fn integer(width: u32, a: u32, out: &mut [u32]) -> usize
-    requires { ⌜ a < modulus width ⌝ }
-    requires { ⌜ 1 ≤ length (now out) ⌝ }
-    ensures { λ r. ⌜ Made width (int (leaf width a)) r (now (out .exit)) ⌝ }
-{
-    out[0] = a;
-    1
-}
-
-// The i-th variable as a form: pop(i, (POW 1 1 0)). The head word of that pow is NODE + 64 + 1.
-pub fn letter(width: u32, i: u32, out: &mut [u32]) -> usize
-    requires { ⌜ i ≤ 3 ⌝ }
-    requires { ⌜ 4 ≤ length (now out) ⌝ }
-    ensures { λ r. ⌜ Made width (letterOf width i) r (now (out .exit)) ⌝ }
-{
-    if i == 0 {
-        out[0] = 2147483713;
-        out[1] = 1;
-        out[2] = 0;
-        return 3;
-    }
-    out[0] = NODE + i;
-    out[1] = 2147483713;
-    out[2] = 1;
-    out[3] = 0;
-    4
 }

@@ -10,6 +10,7 @@ use borrow.Author.Tests.{le-leb}
 use lib.IntN.{ℤ, natAbs}
 use lib.ListN.{length}
 use lib.Pow.{pow-pos}
+use Rattle.dialect.specs.Dialects.{ordinary}
 use Rattle.refusal.specs.declared.Side.the-variants.{Left, Right}
 use Rattle.horner.specs.definitions.Measures.{coefAt, multiplesOf}
 use Rattle.horner.specs.definitions.Form.{Form, evalh}
@@ -25,9 +26,9 @@ use Rattle.text.specs.definitions.FormMeaning.{IsForm}
 use Rattle.text.specs.definitions.Limits.{acceptTerm}
 use Rattle.text.specs.definitions.Meaning.{IsTerm, Part, Fits}
 use Rattle.text.specs.definitions.Tree.{Tree, termOf}
-use Rattle.text_laws.specs.laws.Accepted as Terms
 use Rattle.text_laws.specs.laws.FormAccepted as Forms
 use Rattle.text_laws.specs.laws.FormReading.{text-injective}
+use Rattle.text_laws.specs.laws.Ordinary as Terms
 use Rattle.text_laws.specs.laws.Result.{result-form, result-accepted}
 use Rattle.text_laws.specs.laws.Rows.{accepted-within}
 use Rattle.reply.specs.definitions.Calls.{equal, different, verdictOf, pointOf, compareReply, countersReply, isWidth, bits}
@@ -35,7 +36,7 @@ use Rattle.reply.specs.definitions.Calls.{judgeReply, formReply}
 use Rattle.reply.specs.definitions.Reply.{Reply, gives, asked, readAs, enough, opened, fitted}
 use Rattle.code_walk.specs.Shapes.{Decides}
 use Rattle.code_counters.specs.laws.Multiples.{multiples-coefs}
-use Rattle.call_compare.specs.laws.Verdict.{verdict-same, verdict-bytes, verdict-apart, not-zero}
+use Rattle.door_compare.specs.laws.Verdict.{verdict-same, verdict-bytes, verdict-apart, not-zero}
 
 -- what is lent is proper: the row, and the lengths of the work tables
 pub record Lent (row tables : List ℕ) : Type 0 where
@@ -48,7 +49,7 @@ goes r l = rw (l .proper) (rw (l .long) refl)
 -- ---- demand 2
 -- "Given a proper row and long enough buffers, a term inside the limits is never refused, and its form is exactly the sparse Horner normal
 -- form of the polynomial it denotes." The longest form's text has 33,803 bytes.
-module _ (row tables s : List ℕ) (l : Lent row tables) (t : Tree) (is : IsTerm row s t)
+module _ (row tables s : List ℕ) (l : Lent row tables) (t : Tree) (is : IsTerm ordinary row s t)
     (inside : (y : Tree) → Part y t → Fits row y) (n : ℕ) (long : 33803 ≤ n) where
   accepted : acceptTerm row s ≡ read t
   accepted = Terms.accepts row s t .1 (is, inside)

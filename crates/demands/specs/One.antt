@@ -6,7 +6,7 @@ use mathlib.Core.Path.{_≡_, sym, _∙_}
 use Prim.Native.Nat.{ℕ}
 use lib.IntN.{ℤ}
 use Rattle.book.specs.definitions.Book.{PrintCall}
-use Rattle.call_compare.specs.Compare.{is-compared}
+use Rattle.door_compare.specs.Compare.{is-compared}
 use Rattle.call_counters.specs.Counters.{is-counted}
 use Rattle.call_judge.specs.Judge.{is-judged}
 use Rattle.door_point.specs.Point.{is-remainder}

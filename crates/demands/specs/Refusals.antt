@@ -24,56 +24,25 @@ use Rattle.text.specs.definitions.FormReading as J
 use Rattle.text.specs.definitions.FormReading.{Node, nodes, stands, firstWrong, formMeasured, formJudged, acceptForm, text}
 use Rattle.text.specs.definitions.FormMeaning as M
 use Rattle.text.specs.definitions.FormMeaning.{IsFormText, AllStand, WrongNode}
-use Rattle.text.specs.definitions.Limits.{firstPast, overLimit, measured, acceptTerm}
-use Rattle.text.specs.definitions.Meaning.{IsTerm, RefusedAs, AllWithin, FirstOver}
-use Rattle.text.specs.definitions.Tree.{Tree, startOf, termOf}
-use Rattle.text_laws.specs.laws.Accepted.{Outcome, not-term, too-big, stands-as, outcome}
-use Rattle.text_laws.specs.laws.Exactly.{refused-exactly}
+use Rattle.text.specs.definitions.Limits.{acceptTerm}
+use Rattle.text.specs.definitions.Tree.{Tree, termOf}
+use Rattle.text_laws.specs.laws.Bytes.{no-refusal, refusal-parts}
 use Rattle.text_laws.specs.laws.FormAccepted as F
 use Rattle.text_laws.specs.laws.FormAccepted.{Measure, within, degree, heavy, many, measure}
 use Rattle.text_laws.specs.laws.FormExactly as FE
 use Rattle.text_laws.specs.laws.FormNormal.{normal-stand}
 use Rattle.text_laws.specs.laws.FormReading as FR
-use Rattle.text_laws.specs.laws.Places.{refusal-parts}
-use Rattle.text_laws.specs.laws.Reading.{reads}
-use Rattle.text_laws.specs.laws.Sofar.{no-refusal}
+use Rattle.text_laws.specs.laws.Ordinary as Terms
+use Rattle.text_laws.specs.laws.Ordinary.{Refused as TermRefused}
 use Rattle.reply.specs.definitions.Calls.{Verdict, verdictOf, compareOf, compareReply, judgeReply, formReply}
 use Rattle.reply.specs.definitions.Reply.{Reply, gives, refuses, asked, readAs, fitted}
 use Rattle.demands.specs.Demands.{Lent, goes}
 
 -- ---- a term's text
--- 3, 4, 5 and 6: it is no term, as text/definitions/Meaning says. 8, 9 and 10: "the first offending node in order of finishing decides"
-pub data TermRefused (row s : List ℕ) (e p : ℕ) : Type 0 where
-  no-term : RefusedAs row s e p → TermRefused row s e p
-  over-limit : (t : Tree) → IsTerm row s t → FirstOver row t e p → TermRefused row s e p
-
-module _ (row : List ℕ) where
-  first-past :
-      (r : Reading Tree) (us : List Tree) (u : Tree) (vs : List Tree) (e : ℕ) → AllWithin row us → overLimit row u ≡ suc e →
-      firstPast row r (us ++ (u ∷ vs)) ≡ refusedAt (suc e) (startOf u)
-  first-past r [] u vs e a h = rw h
-  first-past r (t ∷ us) u vs e a h = rw (a .0) (first-past r us u vs e (a .1) h)
-
-  measured-first : (t : Tree) (e p : ℕ) → FirstOver row t e p → measured row t ≡ refusedAt e p
-  unfolding measured
-  measured-first t zero p w = absurd (w .over refl)
-  measured-first t (suc e) p w =
-      ap (firstPast row (read t)) (w .parts) ∙ first-past (read t) (w .before) (w .node) (w .behind) e (w .within) (w .number)
-      ∙ ap (refusedAt (suc e)) (sym (w .place))
-
-  module _ (s : List ℕ) (e p : ℕ) where
-    why-term : Outcome row s (acceptTerm row s) → acceptTerm row s ≡ refusedAt e p → TermRefused row s e p
-    why-term (not-term e′ p′ i j) h = no-term (refused-exactly row s e p .0 (i ∙ sym j ∙ h))
-    why-term (too-big t e′ p′ i w j) h = let q = refusal-parts e′ p′ e p (sym j ∙ h) in over-limit t i (rw (q .0, q .1) w)
-    why-term (stands-as t i w j) h = no-refusal (sym h ∙ j)
-
-    of-why : TermRefused row s e p → acceptTerm row s ≡ refusedAt e p
-    unfolding acceptTerm
-    of-why (no-term a) = ap (λ (r : Reading Tree). onward r (measured row)) (refused-exactly row s e p .1 a)
-    of-why (over-limit t i w) = ap (λ (r : Reading Tree). onward r (measured row)) (reads row s t .1 i) ∙ measured-first t e p w
-
-    pub term-refused : (acceptTerm row s ≡ refusedAt e p) ↔ TermRefused row s e p
-    term-refused = (why-term (outcome row s), of-why)
+-- 3, 4, 5 and 6: it is no term. 8, 9 and 10: "the first offending node in order of finishing decides". Both as text/definitions/Meaning
+-- says (TermRefused), of the ordinary dialect and with some end beside the place
+pub term-refused : (row s : List ℕ) (e p : ℕ) → (acceptTerm row s ≡ refusedAt e p) ↔ TermRefused row s e p
+term-refused row s e p = Terms.refuses row s e p
 
 -- ---- a form's text
 -- 3, 4 and 6: it is no form's text. 7: the first node, in order of places, that is not normal. 8, 9 and 10: its measures, the lowest

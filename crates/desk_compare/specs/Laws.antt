@@ -17,9 +17,9 @@ use Rattle.desk_field.specs.declared.Number.the-variants.{Is}
 use Rattle.text_line.specs.Line.{differentText}
 use Rattle.desk_reply.specs.Reply.{wrongText}
 use Rattle.desk_serve.specs.Laws.{counted-is, counted-not, three-fields, numbered-is}
-use Rattle.call_compare.specs.Compare.{comparedOf}
+use Rattle.door_compare.specs.Compare.{comparedOf}
 use Rattle.reply.specs.declared.Compared.{Compared}
-use Rattle.call_compare.specs.laws.Sized.{Sized, alike, apart, refusal, compare-sized}
+use Rattle.door_compare.specs.laws.Sized.{Sized, alike, apart, refusal, compare-sized}
 use Rattle.call_counters.specs.Counters.{countedOf}
 use Rattle.reply.specs.declared.Counted.{Counted}
 use Rattle.desk_compare.specs.Compare.{comparedText, comparedLine, compareLine, countedText, countedLine, countersBy, countersLine}

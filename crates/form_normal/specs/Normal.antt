@@ -10,7 +10,7 @@ use Rattle.horner.specs.definitions.Form.{Form, int, pop, pow, isZero}
 use Rattle.horner.specs.definitions.Rings.{ℤ-ring, isZeroℤ}
 use Rattle.text.specs.definitions.Bytes.{Reading, read, refused}
 use Rattle.text.specs.definitions.FormReading.{text}
-use Rattle.text_laws.specs.laws.Descent.{judgedAt}
+use Rattle.text_laws.specs.laws.FormDescent.{judgedAt}
 use Rattle.text_laws.specs.laws.Picks.{pick}
 use Rattle.form_head.specs.Heads.{Stands}
 use Rattle.form_normal.specs.declared.Seen.{Seen}

@@ -73,15 +73,6 @@ small m (terms-passed z a w l) z′ = absurd (omega arith)
 pub is-small : (m : Measures) → limitM m ≡ 0 → Small m
 is-small m z = small m (limited m) z
 
-fitting : (m : Measures) → Small m → Limited m → limitM m ≡ 0
-fitting m s (fits z f) = z
-fitting m s (degree-over z n) = absurd (n (s .small-0) (s .small-1) (s .small-2) (s .small-3))
-fitting m s (weight-passed z a l) = absurd (omega (arith, s .weight-small))
-fitting m s (terms-passed z a w l) = absurd (omega (arith, s .terms-small))
-
-pub small-fits : (m : Measures) → Small m → limitM m ≡ 0
-small-fits m s = fitting m s (limited m)
-
 -- ---- degrees as a list and as four numbers
 pub degree-63 : (ds : List ℕ) (i : ℕ) → AllLe 63 ds → getD ds i 0 ≤ 63
 degree-63 [] i h = omega arith

@@ -86,8 +86,8 @@ box-le ds l h =
 
 -- ---- the nodes
 module _ (row : List ℕ) (four : length row ≤ 4) where
-  pub meets-num : (p : ℕ) (z : ℤ) (v : ℕ) → v ≡ min (natAbs z) 1073741824 → Meets row (num p z) (of v 1 0 0 0 0)
-  meets-num p z v e =
+  pub meets-num : (p : ℕ) (w : List ℕ) (z : ℤ) (v : ℕ) → v ≡ min (natAbs z) 1073741824 → Meets row (num p w z) (of v 1 0 0 0 0)
+  meets-num p w z v e =
       record {
         at-0 = sym (zeros-zero (length row) 0);
         at-1 = sym (zeros-zero (length row) 1);

@@ -2,7 +2,7 @@
 use mathlib.Core.List.{List}
 use mathlib.Core.Path.{_≡_, refl, ap, _∙_}
 use Prim.Native.Nat.{ℕ}
-use Rattle.call_compare.specs.Compare.{comparedOf, is-compared}
+use Rattle.door_compare.specs.Compare.{comparedOf, is-compared}
 use Rattle.door_point.specs.Point.{remainderedOf, is-remainder}
 use Rattle.door_result.specs.Result.{writtenOf, is-written}
 use Rattle.reply.specs.declared.Compared.{Compared}

@@ -1,9 +1,3 @@
-pub mod Found
-pub mod Integers
-pub mod Judging
-pub mod Steps
-pub mod Owning
-pub mod Operands
-pub mod Inside
-pub mod Walk
-pub mod Accepting
+-- A term's text read and measured.
+pub mod Accepted
+pub mod Ordinary

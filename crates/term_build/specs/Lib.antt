@@ -1,4 +1,4 @@
--- Building the form of an accepted term: its leaves, and what the stack holds.
-pub mod Leaves
-pub mod Stack
+-- The run of a term's polynomial, from the words of its tree.
+pub mod Terms
+pub mod Build
 pub mod laws

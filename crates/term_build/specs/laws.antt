@@ -1,7 +1,7 @@
+pub mod Sized
 pub mod Leaves
-pub mod Same
-pub mod Words
-pub mod Building
-pub mod Operators
-pub mod Room
-pub mod Accepted
+pub mod Nodes
+pub mod Two
+pub mod Letters
+pub mod Joined
+pub mod Plain

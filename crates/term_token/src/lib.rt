@@ -72,12 +72,6 @@ fn run(s: &[u8], at: usize) -> usize
 }
 
 impl Reader {
-    pub fn new() -> Self
-        ensures { λ r. ⌜ r .at ≡ 0 ⌝ }
-    {
-        Reader { at: 0 }
-    }
-
     // The next token of s, or its end.
     pub fn next(self, s: &[u8]) -> Step
         requires { ⌜ self .at ≤ length (now s) ⌝ }

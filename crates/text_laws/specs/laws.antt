@@ -3,8 +3,9 @@ pub mod Lists
 pub mod Bytes
 pub mod Numerals
 pub mod Prefixes
+pub mod Answer
 pub mod Words
--- a text reads as a term exactly when its tokens are the term's (Reading); where and why it is refused (Refused)
+-- a text reads as a term of a dialect exactly when its tokens are the term's (Reading); where and why it is refused (Refused, Exactly)
 pub mod Sofar
 pub mod Through
 pub mod Reading
@@ -13,9 +14,10 @@ pub mod Open
 pub mod Places
 pub mod Refused
 pub mod Exactly
--- the measures of every subterm (Measured); a text is accepted exactly when .. (Accepted)
+-- the measures of every subterm (Measured); a text is accepted, or refused, exactly when .. (Accepted; Ordinary: document 01's own terms)
 pub mod Measured
 pub mod Accepted
+pub mod Ordinary
 pub mod Rows
 -- the same for form texts (FormReading, FormRefused, FormAccepted), and the places of nodes (FormNodes)
 pub mod FormSofar
@@ -37,3 +39,4 @@ pub mod Picks
 pub mod FormKinds
 pub mod FormWalk
 pub mod Descent
+pub mod FormDescent

@@ -13,8 +13,8 @@ use Rattle.reply.specs.definitions.Calls.{Verdict, different, compareOf, pointA
 use Rattle.reply.specs.definitions.Reply.{Reply, gives, refuses}
 use Rattle.book.specs.definitions.Book.{line, numbers, verdict, entryLine}
 use Rattle.text_line.specs.Line.{numbersText, differentText}
-use Rattle.call_compare.specs.Compare.{comparedOf}
-use Rattle.call_compare.specs.laws.Sized.{Sized, alike, apart, refusal, compare-sized}
+use Rattle.door_compare.specs.Compare.{comparedOf}
+use Rattle.door_compare.specs.laws.Sized.{Sized, alike, apart, refusal, compare-sized}
 use Rattle.book_line.specs.Lines.{entryText, headText, refusalText}
 
 -- ---- an entry's line

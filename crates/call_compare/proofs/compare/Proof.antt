@@ -6,7 +6,7 @@ use mathlib.Core.List.{[], _∷_}
 use native.Mathlib.Omega.{arith}
 use denote.Ref.{now}
 use lib.ListN.{length}
-use Rattle.door.specs.laws.Door.{ready-open, open-long, open-fourth, ready-small}
+use Rattle.door.specs.laws.Door.{ready-open, four-full, ready-small}
 use Rattle.door.specs.laws.Ending.{zeros-of}
 use Rattle.call_compare.specs.laws.Whole.{compare-open, compare-not-open, compare-short, compare-clears, refused-whole}
 use Rattle.call_compare.specs.laws.Whole.{answered-whole}
@@ -15,7 +15,7 @@ use Rattle.call_compare.proofs.compare.Statement.{statement}
 use Rattle.call_compare.proofs.compare.Tie as tie
 use Rattle.call_compare.proofs.compare.Reads as reads
 use Rattle.call_compare.proofs.compare.Lts as lts
-use Rattle.call_compare.proofs.compare_of.Reads as compare-of-reads
+use Rattle.door_compare.proofs.compare_of.Reads as compare-of-reads
 use Rattle.door.proofs.clear_tables.Reads as clear-tables-reads
 use Rattle.door.proofs.ready.Reads as ready-reads
 use Rattle.refusal.proofs.of_neither.Reads as of-neither-reads
@@ -60,10 +60,7 @@ compare-of-requires c κs =
     (sym (ready .ensures) ∙ (at-else1 .before .enum-told) .given .1) in (
       o .proper,
       (
-        (
-          open-long (length (s .a .now)) (length (s .b .now)) (length (s .c .now)) (length (s .d .now)) o,
-          open-fourth (length (s .a .now)) (length (s .b .now)) (length (s .c .now)) (length (s .d .now)) o,
-        ),
+        four-full (length (s .a .now)) (length (s .b .now)) (length (s .c .now)) (length (s .d .now)) (o .long),
         if1 .left,
       ),
     )

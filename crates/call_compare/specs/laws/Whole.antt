@@ -18,20 +18,9 @@ use Rattle.refusal.specs.declared.Refusal.{Refusal}
 use Rattle.door.specs.laws.Ending.{Zeros, tables-kept, tables-cleared, read-clears}
 use Rattle.door.specs.laws.Numbers.{term-number}
 use Rattle.door.specs.laws.Door.{Open, open-goes, not-open}
-use Rattle.door_terms.specs.Terms.{PairRead}
-use Rattle.door_terms.specs.declared.TermPair.{TermPair}
-use Rattle.door_terms.specs.declared.TermPair.the-variants as B
-use Rattle.door_terms.specs.laws.Terms.{pair-refused}
-use Rattle.call_compare.specs.Compare.{comparedOf, tells-compared}
+use Rattle.door_compare.specs.Compare.{comparedOf, tells-compared}
 use Rattle.reply.specs.declared.Compared.{Compared}
 use Rattle.reply.specs.declared.Compared.the-variants.{Refused}
-
--- one text is refused
-pub text-refused : {row s t l : List ℕ} {q : TermPair} {bad : Refusal} (b : List ℕ) → q ≡ B.Refused bad → PairRead row s t q l
-    → (Refused bad ≡ comparedOf (compareOf row s t)) × (b ≡ pointAfter (compareOf row s t) b)
-text-refused {row} b h R =
-    let k = pair-refused (λ f g. gives (verdictOf (length row) (termOf row f) (termOf row g))) h R in
-    (ap comparedOf (sym k), ap (λ x. pointAfter x b) (sym k))
 
 -- ---- the door
 module _ (row ts : List ℕ) (k : ℕ) (s t : List ℕ) where

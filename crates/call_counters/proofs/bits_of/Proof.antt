@@ -2,8 +2,6 @@
 use Rattle.call_counters.specs.laws.Widths.{bits-8, bits-16}
 use Rattle.call_counters.proofs.bits_of.Statement.{statement}
 use Rattle.call_counters.proofs.bits_of.Tie as tie
-use Rattle.call_counters.proofs.bits_of.Reads as reads
-use Rattle.call_counters.proofs.bits_of.Lts as lts
 
 returns : tie.Need-returns
 returns c = bits-8 (c .before .args .width) (c .if1 .taken)

@@ -6,20 +6,13 @@ use mathlib.Core.List.{[], _∷_}
 use denote.Ref.{now}
 use lib.ListN.{length}
 use borrow.Author.Tests.{not-true, not-false}
-use Rattle.door.specs.laws.Door.{ready-open, open-long, open-fourth, ready-small}
+use Rattle.door.specs.laws.Door.{ready-open, four-full, ready-small}
 use Rattle.door.specs.laws.Ending.{zeros-of}
 use Rattle.call_counters.specs.laws.Whole.{counters-open, counters-not-open, counters-width, counters-clears, refused-whole}
 use Rattle.call_counters.specs.laws.Whole.{width-whole, answered-whole}
 use borrow.Author.Needs.{needs}
 use Rattle.call_counters.proofs.counters.Statement.{statement}
 use Rattle.call_counters.proofs.counters.Tie as tie
-use Rattle.call_counters.proofs.counters.Reads as reads
-use Rattle.call_counters.proofs.counters.Lts as lts
-use Rattle.call_counters.proofs.counters_of.Reads as counters-of-reads
-use Rattle.call_counters.proofs.is_width.Reads as is-width-reads
-use Rattle.door.proofs.clear_tables.Reads as clear-tables-reads
-use Rattle.door.proofs.ready.Reads as ready-reads
-use Rattle.refusal.proofs.of_neither.Reads as of-neither-reads
 
 -- the places that are looked at, each seen from a later one
 abbrev to-start : tie.After-ready → tie.Start
@@ -66,10 +59,7 @@ counters-of-requires c κs =
     let o = ready-open (s .row .now) (length (s .a .now) ∷ length (s .b .now) ∷ length (s .c .now) ∷ length (s .d .now) ∷ [])
     (sym (ready .ensures) ∙ (at-enum-told .enum-told) .given .1) in (
       o .proper,
-      (
-        open-long (length (s .a .now)) (length (s .b .now)) (length (s .c .now)) (length (s .d .now)) o,
-        open-fourth (length (s .a .now)) (length (s .b .now)) (length (s .c .now)) (length (s .d .now)) o,
-      ),
+      four-full (length (s .a .now)) (length (s .b .now)) (length (s .c .now)) (length (s .d .now)) (o .long),
     )
 
 returns-3 : tie.Need-returns-3

@@ -2,8 +2,6 @@
 use Rattle.call_counters.specs.laws.Widths.{width-0, width-8, width-16}
 use Rattle.call_counters.proofs.is_width.Statement.{statement}
 use Rattle.call_counters.proofs.is_width.Tie as tie
-use Rattle.call_counters.proofs.is_width.Reads as reads
-use Rattle.call_counters.proofs.is_width.Lts as lts
 
 returns : tie.Need-returns
 returns c = width-0 (c .before .args .width) (c .if1 .taken)

@@ -1,74 +1,98 @@
--- `call_counters::verdict` meets its contract, in as much of the tables as a node's word can say.
-use mathlib.Core.Path.{sym, ap, _∙_}
+-- `call_counters::verdict` meets its contract: the codes of the two forms are made side by side, and compared.
+use mathlib.Core.Path.{sym, ap, ap₂, _∙_}
+use Prim.Native.Nat.{_+_, _≤_}
 use native.Mathlib.Omega.{arith}
-use denote.Ref.{now}
+use lib.ListN.{length, take, drop}
+use mathlib.Core.List.{_++_}
 use lib.Seq.{length-take-le}
-use lib.ListN.{take}
-use Rattle.code.proofs.Lists.{length-tail-part}
-use Rattle.code.specs.Coding.{dec}
-use Rattle.code.specs.laws.Codes.{tail-part}
-use Rattle.call_compare.specs.laws.Points.{right-part}
 use Rattle.code_counters.specs.Same.{sameOf}
+use Rattle.door_terms.specs.laws.Forms.{sides-front}
+use Rattle.door_compare.specs.laws.Sides.{sides-inside, made-sides, left-is, right-is}
 use Rattle.call_counters.specs.Counters.{answerOf}
 use borrow.Author.Needs.{needs}
 use Rattle.call_counters.proofs.verdict.Statement.{statement}
 use Rattle.call_counters.proofs.verdict.Tie as tie
-use Rattle.call_counters.proofs.verdict.Reads as reads
-use Rattle.call_counters.proofs.verdict.Lts as lts
-use Rattle.code_counters.proofs.same_counters.Reads as same-counters-reads
 
 -- the places that are looked at, each seen from a later one
-abbrev to-start : tie.After-same-counters-arg3 → tie.Start
-to-start c = c .before .before .before .before .before .before .before
+abbrev start : tie.After-code-pair-arg2 → tie.Start
+start c = c .before .before .before .before .before .before
 
-slice-aggregate-same-counters : tie.Need-slice-aggregate-same-counters
-slice-aggregate-same-counters c =
+slice-aggregate-code-pair : tie.Need-slice-aggregate-code-pair
+slice-aggregate-code-pair c =
     let s : tie.Start = c .before .before .before .before .before in
-    sym (length-take-le (s .args .k) (s .args .l .now) (s .pre .0 .inside))
+    sym (length-take-le (s .args .e) (s .args .d .now) ((s .pre .0) .inside))
 
-slice-aggregate-same-counters-2 : tie.Need-slice-aggregate-same-counters-2
-slice-aggregate-same-counters-2 c =
-    let s = to-start c in
-    sym (length-take-le 16384 (s .args .a .now) (s .pre .1 .first))
+slice-aggregate-code-pair-2 : tie.Need-slice-aggregate-code-pair-2
+slice-aggregate-code-pair-2 c =
+    let s = start c in
+    sym (length-take-le 16384 (s .args .a .now) ((s .pre .1) .first))
 
-slice-aggregate-same-counters-3 : tie.Need-slice-aggregate-same-counters-3
-slice-aggregate-same-counters-3 c =
-    let s = to-start (c .before) in
-    sym (length-take-le 16384 (s .args .b .now) (s .pre .1 .second))
+code-pair-requires : tie.Need-code-pair-requires
+code-pair-requires c κs =
+    let s = start c in
+    let z = length-take-le 16384 (s .args .a .now) ((s .pre .1) .first) in
+    record {
+      four = (s .pre .0) .coding .four;
+      inside = (s .pre .0) .coding .inside;
+      left = (s .pre .0) .coding .left;
+      right = (s .pre .0) .coding .right;
+      room = omega (arith, z);
+      small = omega (arith, z);
+    }
 
-same-counters-requires : tie.Need-same-counters-requires
-same-counters-requires c κs =
-    let start = to-start (c .before .before) in
-    let s = start .args in
-    let w = start .pre .1 in
-    let i = length-take-le (s .k) (s .l .now) (start .pre .0 .inside) in
-    let t = length-tail-part (s .k) (s .l .now) in
-    let j = length-take-le 16384 (s .a .now) (w .first) in
-    let k = length-take-le 16384 (s .b .now) (w .second) in (
-      (start .pre .0 .left, right-part (start .pre .0)),
-      (
-        omega (arith, i, j, w .forms, start .pre .0 .inside),
-        (omega (arith, i, t, k, w .forms, start .pre .0 .inside), omega (arith, t, w .forms, w .third)),
-      ),
+slice-aggregate-counted : tie.Need-slice-aggregate-counted
+slice-aggregate-counted c =
+    let at-code-pair : tie.After-code-pair = c .before .before .before .before in
+    let s = start (at-code-pair .before) in
+    sym (length-take-le ((at-code-pair .code-pair) .result .left + (at-code-pair .code-pair) .result .right)
+    ((at-code-pair .code-pair) .last .1 .1 .1 .0 ++ drop 16384 (s .args .a .now)) (sides-inside ((s .pre .0) .left-good)
+    ((s .pre .0) .right-good) ((sides-front ((at-code-pair .code-pair) .last .1 .1 .1 .0) (drop 16384 (s .args .a .now))
+    ((at-code-pair .code-pair) .ensures)) .left) ((sides-front ((at-code-pair .code-pair) .last .1 .1 .1 .0) (drop 16384 (s .args .a .now))
+    ((at-code-pair .code-pair) .ensures)) .right)))
+
+counted-requires : tie.Need-counted-requires
+counted-requires c κs =
+    let at-code-pair : tie.After-code-pair = c .before .before .before .before .before .before .before in
+    let entry = start (at-code-pair .before) in
+    let w = length-take-le ((at-code-pair .code-pair) .result .left + (at-code-pair .code-pair) .result .right)
+    ((at-code-pair .code-pair) .last .1 .1 .1 .0 ++ drop 16384 (entry .args .a .now)) (sides-inside ((entry .pre .0) .left-good)
+    ((entry .pre .0) .right-good) ((sides-front ((at-code-pair .code-pair) .last .1 .1 .1 .0) (drop 16384 (entry .args .a .now))
+    ((at-code-pair .code-pair) .ensures)) .left) ((sides-front ((at-code-pair .code-pair) .last .1 .1 .1 .0)
+    (drop 16384 (entry .args .a .now)) ((at-code-pair .code-pair) .ensures)) .right)) in
+    let s : length (take ((at-code-pair .code-pair) .result .left + (at-code-pair .code-pair) .result .right)
+    ((at-code-pair .code-pair) .last .1 .1 .1 .0 ++ drop 16384 (entry .args .a .now))) ≤ 6146 = omega (
+      arith,
+      w,
+      (sides-front ((at-code-pair .code-pair) .last .1 .1 .1 .0) (drop 16384 (entry .args .a .now))
+          ((at-code-pair .code-pair) .ensures)) .left .size,
+      (sides-front ((at-code-pair .code-pair) .last .1 .1 .1 .0) (drop 16384 (entry .args .a .now))
+          ((at-code-pair .code-pair) .ensures)) .right .size,
+      (entry .pre .0) .coding .left .words,
+      (entry .pre .0) .coding .right .words,
+    ) in (
+      made-sides ((entry .pre .0) .left-good) ((entry .pre .0) .right-good) ((sides-front
+          ((at-code-pair .code-pair) .last .1 .1 .1 .0) (drop 16384 (entry .args .a .now)) ((at-code-pair .code-pair) .ensures)) .left)
+          ((sides-front ((at-code-pair .code-pair) .last .1 .1 .1 .0) (drop 16384 (entry .args .a .now))
+          ((at-code-pair .code-pair) .ensures)) .right),
+      record { forms = s; first = (entry .pre .1) .second; second = (entry .pre .1) .third; third = (entry .pre .1) .fourth },
     )
 
 returns : tie.Need-returns
 returns c =
-    let at-same-counters : tie.After-same-counters = c .before .before .before .before .before .before .before in
-    let s : tie.Start = to-start (at-same-counters .before .before .before) in
-    sym (ap answerOf (sym (ap (λ z. sameOf (s .args .width) (dec 0 (take (s .args .k) (s .args .l .now))) (dec 0 z))
-    (tail-part (s .args .k) (s .args .l .now))) ∙ sym (at-same-counters .same-counters .ensures) ∙ c .if1 .taken))
-
-returns-2 : tie.Need-returns-2
-returns-2 c =
-    let at-same-counters : tie.After-same-counters = c .before .before .before .before .before .before .before in
-    let s : tie.Start = to-start (at-same-counters .before .before .before) in
-    sym (ap answerOf (sym (ap (λ z. sameOf (s .args .width) (dec 0 (take (s .args .k) (s .args .l .now))) (dec 0 z))
-    (tail-part (s .args .k) (s .args .l .now))) ∙ sym (at-same-counters .same-counters .ensures) ∙ c .if1 .left))
+    let at-counted : tie.After-counted = c .before .before .before .before .before .before in
+    let at-code-pair : tie.After-code-pair = at-counted .before .before .before .before .before .before .before .before in
+    let s = start (at-code-pair .before) in
+    (at-counted .counted) .ensures
+    ∙ ap answerOf (ap₂ (sameOf (s .args .width)) (left-is ((s .pre .0) .left-good) ((s .pre .0) .right-good)
+    ((sides-front ((at-code-pair .code-pair) .last .1 .1 .1 .0) (drop 16384 (s .args .a .now)) ((at-code-pair .code-pair) .ensures)) .left)
+    ((sides-front ((at-code-pair .code-pair) .last .1 .1 .1 .0) (drop 16384 (s .args .a .now))
+    ((at-code-pair .code-pair) .ensures)) .right))
+    (right-is ((s .pre .0) .left-good) ((s .pre .0) .right-good) ((sides-front ((at-code-pair .code-pair) .last .1 .1 .1 .0)
+    (drop 16384 (s .args .a .now)) ((at-code-pair .code-pair) .ensures)) .left) ((sides-front ((at-code-pair .code-pair) .last .1 .1 .1 .0)
+    (drop 16384 (s .args .a .now)) ((at-code-pair .code-pair) .ensures)) .right)))
 
 pub verdict-spec : {M : Type 1} → statement M
 verdict-spec =
-    tie.close (tie.spec slice-aggregate-same-counters (λ c. search needs) (λ c. search needs) (λ c. search needs) (λ c. search needs)
-    (λ c. search needs) slice-aggregate-same-counters-2 (λ c. search needs) slice-aggregate-same-counters-3 same-counters-requires
-    (λ c. search needs) (λ c. search needs) (λ c. search needs) returns (λ c. search needs) (λ c. search needs) (λ c. search needs)
-    returns-2)
+    tie.close (tie.spec (λ c. search needs) (λ c. search needs) slice-aggregate-code-pair (λ c. search needs)
+    slice-aggregate-code-pair-2 code-pair-requires (λ c. search needs) (λ c. search needs) slice-aggregate-counted counted-requires
+    (λ c. search needs) (λ c. search needs) (λ c. search needs) (λ c. search needs) returns)

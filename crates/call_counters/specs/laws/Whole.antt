@@ -8,8 +8,6 @@ use Rattle.refusal.specs.Refusal.{ofNeither}
 use Rattle.refusal.specs.declared.Side.the-variants.{Left, Right}
 use Rattle.horner.specs.definitions.Measures.{multiplesOf}
 use Rattle.horner.specs.definitions.Term.{diff, normℤ}
-use Rattle.code.specs.Coding.{dec}
-use Rattle.code.specs.laws.Codes.{dec-enc}
 use Rattle.text.specs.definitions.Bytes.{Reading, isRow}
 use Rattle.text.specs.definitions.Limits.{acceptTerm}
 use Rattle.text.specs.definitions.Tree.{Tree, termOf}
@@ -28,7 +26,8 @@ use Rattle.door_terms.specs.Terms.{IsPair, PairRead}
 use Rattle.door_terms.specs.declared.TermPair.{TermPair}
 use Rattle.door_terms.specs.declared.TermPair.the-variants as B
 use Rattle.door_terms.specs.laws.Terms.{pair-refused}
-use Rattle.call_compare.specs.laws.Pairs.{pair-left, pair-right}
+use Rattle.door_terms.specs.laws.Forms.{left-form, right-form}
+use Rattle.run_code.specs.Decoding.{formAt}
 use Rattle.call_counters.specs.Counters.{countedOf, tells-counted, answerOf}
 use Rattle.call_counters.specs.laws.Widths.{modulus-bits}
 use Rattle.reply.specs.declared.Counted.{Counted}
@@ -46,11 +45,12 @@ text-refused {row} w h R = ap countedOf (sym (pair-refused (verdict row w) h R))
 
 -- both are read
 pub pair-counted : {row s t d : List ℕ} {k m : ℕ} (w : ℕ) (r : isRow row ≡ true) → IsPair row s t k m d
-    → answerOf (sameOf (bits w) (dec 0 (take k (take (k + m) d))) (dec 0 (drop k (take (k + m) d)))) ≡ countedOf (countersOf row w s t)
+    → answerOf (sameOf (bits w) (formAt (length row) 0 (take k (take (k + m) d))) (formAt (length row) 0 (drop k (take (k + m) d))))
+    ≡ countedOf (countersOf row w s t)
 pair-counted {row} {s} {t} w r Q =
     let f = termOf row (Q .f) in
     let g = termOf row (Q .g) in
-    let e = ap₂ (sameOf (bits w)) (dec-enc (pair-left r Q)) (dec-enc (pair-right r Q))
+    let e = ap₂ (sameOf (bits w)) (left-form r Q) (right-form r Q)
     ∙ counters-same (length row) (bits w) f g (accepted-within row s (Q .f) (Q .left-accepted))
     (accepted-within row t (Q .g) (Q .right-accepted))
     ∙ ap (λ m. multiplesOf m (normℤ (diff f g))) (modulus-bits w) in

@@ -7,7 +7,7 @@ use lib.ListN.{length}
 use lib.Seq.{length-take-le}
 use Rattle.code.specs.laws.Codes.{coded}
 use Rattle.code.proofs.Lists.{begins-le}
-use Rattle.term_read.specs.laws.Reading.{read-form}
+use Rattle.term_read.specs.laws.Reading.{read-words}
 use Rattle.term_read.specs.laws.Terms.{term-codes, term-words}
 use Rattle.door_result.specs.Result.{writtenOf}
 use Rattle.reply.specs.definitions.Reply.{resultAfter}
@@ -34,14 +34,14 @@ after-read-term-from-on-side c = c .before .before .before .before .before .befo
 slice-reshare-prefix-write-result : tie.Need-slice-reshare-prefix-write-result
 slice-reshare-prefix-write-result c =
     let read-term = (after-read-term (c .before) .read-term) in
-    begins-le (read-form ((c .before .reading2) .given .1) (read-term .ensures) .made)
+    begins-le (read-words ((c .before .reading2) .given .1) (read-term .ensures) .made)
 
 slice-aggregate-write-result : tie.Need-slice-aggregate-write-result
 slice-aggregate-write-result c =
     let at-reading2 = c .before .before in
     let read-term = (after-read-term at-reading2 .read-term) in
     sym (length-take-le ((at-reading2 .reading2) .given .0 .0) (read-term .last .1 .1 .0)
-    (begins-le (read-form ((at-reading2 .reading2) .given .1) (read-term .ensures) .made)))
+    (begins-le (read-words ((at-reading2 .reading2) .given .1) (read-term .ensures) .made)))
 
 write-result-requires : tie.Need-write-result-requires
 write-result-requires c κs =
@@ -49,7 +49,7 @@ write-result-requires c κs =
     let at-read-term = after-read-term at-reading2 in
     let s = start at-read-term in
     let read-term = (at-read-term .read-term) in
-    let T = read-form ((at-reading2 .reading2) .given .1) (read-term .ensures) in (
+    let T = read-words ((at-reading2 .reading2) .given .1) (read-term .ensures) in (
       coded (term-codes (s .pre .0) T),
       omega (
         arith,
@@ -72,7 +72,7 @@ returns-2 c =
     let s = start at-read-term in
     let reading = (at-reading2 .reading2) in
     let read-term = (at-read-term .read-term) in
-    let e = form-is (length (now (s .args .result))) (s .pre .0) (read-form (reading .given .1) (read-term .ensures)) in (
+    let e = form-is (length (now (s .args .result))) (s .pre .0) (read-words (reading .given .1) (read-term .ensures)) in (
       (c .before .before .write-result) .ensures .0 ∙ ap writtenOf e,
       (c .before .before .write-result) .ensures .1 ∙ ap (λ x. resultAfter x (now (s .args .result))) e,
     )

@@ -22,7 +22,7 @@ use Rattle.call_multiply.proofs.write_product.Statement.{statement}
 use Rattle.call_multiply.proofs.write_product.Tie as tie
 use Rattle.call_multiply.proofs.write_product.Reads as reads
 use Rattle.call_multiply.proofs.write_product.Lts as lts
-use Rattle.code_combine.proofs.multiply.Reads as multiply-reads
+use Rattle.code_pair.proofs.multiply.Reads as multiply-reads
 use Rattle.door_result.proofs.write_result.Reads as write-result-reads
 use Rattle.measure.proofs.limit_of.Reads as limit-of-reads
 use Rattle.measure.proofs.multiply.Reads as multiply-reads′

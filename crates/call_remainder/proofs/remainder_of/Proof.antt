@@ -7,7 +7,7 @@ use lib.ListN.{length, drop}
 use lib.Seq.{length-take-le}
 use Rattle.code.specs.laws.Codes.{coded}
 use Rattle.code.proofs.Lists.{begins-le}
-use Rattle.term_read.specs.laws.Reading.{read-form}
+use Rattle.term_read.specs.laws.Reading.{read-words}
 use Rattle.term_read.specs.laws.Terms.{term-codes}
 use Rattle.call_remainder.specs.laws.Remainder.{remainder-refused, remainder-is}
 use Rattle.door_point.specs.laws.Residues.{front-leaves}
@@ -51,7 +51,7 @@ slice-reshare-prefix-value c =
     let at-reading2 = after-reading2 (c .before .before) in
     let reading = (at-reading2 .reading2) in
     let read-term = (after-read-term at-reading2 .read-term) in
-    begins-le (read-form (reading .given .1) (read-term .ensures) .made)
+    begins-le (read-words (reading .given .1) (read-term .ensures) .made)
 
 slice-aggregate-value : tie.Need-slice-aggregate-value
 slice-aggregate-value c =
@@ -59,7 +59,7 @@ slice-aggregate-value c =
     let reading = (at-reading2 .reading2) in
     let read-term = (after-read-term at-reading2 .read-term) in
     sym (length-take-le (reading .given .0 .0) (read-term .last .1 .1 .0)
-    (begins-le (read-form (reading .given .1) (read-term .ensures) .made)))
+    (begins-le (read-words (reading .given .1) (read-term .ensures) .made)))
 
 slice-reshare-prefix-value-2 : tie.Need-slice-reshare-prefix-value-2
 slice-reshare-prefix-value-2 c =
@@ -99,7 +99,7 @@ value-requires c κs =
     let reading = (at-reading2 .reading2) in
     let read-term = (at-read-term .read-term) in
     let N = s .args .point .now in (
-      coded (term-codes (s .pre .0) (read-form (reading .given .1) (read-term .ensures))),
+      coded (term-codes (s .pre .0) (read-words (reading .given .1) (read-term .ensures))),
       front-leaves N (length N) (drop (length N) (read-term .last .1 .1 .1 .0)) refl (put-point .ensures),
     )
 
@@ -121,7 +121,7 @@ returns-2 c =
     let read-term = (at-read-term .read-term) in
     let N = s .args .point .now in
     remainder-is N (length N) (drop (length N) (read-term .last .1 .1 .1 .0)) (s .pre .0)
-    (read-form (reading .given .1) (read-term .ensures)) (s .pre .1 .1) refl (put-point .ensures) (c .value .ensures .0)
+    (read-words (reading .given .1) (read-term .ensures)) (s .pre .1 .1) refl (put-point .ensures) (c .value .ensures .0)
 
 pub remainder-of-spec : {M : Type 1} → statement M
 remainder-of-spec =

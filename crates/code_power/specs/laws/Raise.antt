@@ -1,13 +1,13 @@
 -- A form fits with each of its powers below one that fits.
 use mathlib.Core.List.{List, [], _∷_}
-use mathlib.Core.Path.{_≡_, refl, sym, _∙_, ap, ap₂, subst}
+use mathlib.Core.Path.{_≡_, refl, sym, _∙_, ap, subst}
 use Prim.Native.Nat.{ℕ, zero, suc, _+_, _-_, _^_, _<_, _≤_}
 use native.Mathlib.Nat as NatL
 use native.Mathlib.Omega.{arith}
 use lib.ListN.{length}
 use Rattle.horner.specs.definitions.Form.{Form, raise}
 use Rattle.horner.specs.definitions.Measures.{sums, multiples, box, AllLe, one-if}
-use Rattle.horner.specs.laws.Bounds.{bounded-raise}
+use Rattle.horner.specs.laws.Bounds.{bounded-raise, sums-multiples}
 use Rattle.horner.specs.laws.Count.{count-size, one-if-le}
 use Rattle.horner.specs.laws.Degree.{Below, all-le-below}
 use Rattle.horner.specs.laws.Measure.{meas-raise}
@@ -23,10 +23,6 @@ use Rattle.code_power.specs.Raise.{raiseOf, Raising}
 length-multiples : (k : ℕ) (ds : List ℕ) → length (multiples k ds) ≡ length ds
 length-multiples k [] = refl
 length-multiples k (d ∷ ds) = ap suc (length-multiples k ds)
-
-sums-multiples : (k : ℕ) (ds : List ℕ) → sums ds (multiples k ds) ≡ multiples (suc k) ds
-sums-multiples k [] = refl
-sums-multiples k (d ∷ ds) = ap₂ _∷_ (omega (arith, NatL.suc-mul k d)) (sums-multiples k ds)
 
 pub below-multiples : (j k : ℕ) (ds : List ℕ) → j ≤ k → Below (multiples j ds) (multiples k ds)
 below-multiples j k [] l = tt

@@ -6,9 +6,9 @@ use native.Mathlib.Omega.{arith}
 use lib.ListN.{length}
 use Rattle.horner.specs.definitions.Form.{Form, pop, pow, lower, prod, after}
 use Rattle.horner.specs.definitions.Measures.{firstOr0, sums, box, AllLe, one-if, count}
-use Rattle.horner.specs.laws.Bounds.{sums-comm, length-sums, bounded-mkpop, bounded-prod}
+use Rattle.horner.specs.laws.Bounds.{sums-comm, length-sums, after-sums, bounded-mkpop, bounded-prod}
 use Rattle.horner.specs.laws.Count.{box-after, count-size, count-box}
-use Rattle.horner.specs.laws.Degree.{bounded-mono, all-le-below}
+use Rattle.horner.specs.laws.Degree.{bounded-mono, all-le-below, length-after}
 use Rattle.horner.specs.laws.Measure.{meas-mkpop, meas-prod}
 use Rattle.horner.specs.laws.Normal.{normal-mkpop, normal-prod}
 use Rattle.horner.specs.laws.Room.{words-3073}
@@ -18,7 +18,7 @@ use Rattle.code.specs.Widths.{Leaf, ringOf}
 use Rattle.code.specs.laws.Good.{good-at}
 use Rattle.code.specs.laws.Sizes.{size-enc}
 use Rattle.code_room.specs.Fit.{prodOf, Within, Fit, Held}
-use Rattle.code_room.specs.laws.Lists.{sums-left, after-sums, first-left, length-after, all-after, first-le, box-below, below-limits}
+use Rattle.code_room.specs.laws.Lists.{sums-left, first-left, all-after, first-le, box-below, below-limits}
 use Rattle.code_room.specs.laws.Lists.{cut, length-cut, below-cut, first-cut}
 use Rattle.code_room.specs.laws.Parts.{under-pop, under-lower, under-pow, within-cut, exponent-le}
 

@@ -1,43 +1,26 @@
 -- Laws of the lists of degrees.
 use mathlib.Core.List.{List, [], _∷_}
-use mathlib.Core.Path.{_≡_, refl, _∙_, ap, subst}
+use mathlib.Core.Path.{_≡_, refl, subst}
 use Prim.Native.Nat.{ℕ, zero, suc, _-_, _≤_}
 use native.Mathlib.Nat as NatL
 use native.Mathlib.Omega.{arith}
 use lib.ListN.{length}
 use Rattle.horner.specs.definitions.Measures.{firstOr0, sums, box, AllLe}
-use Rattle.horner.specs.definitions.Form.{tl, after}
-use Rattle.horner.specs.laws.Bounds.{sums-comm}
+use Rattle.horner.specs.definitions.Form.{after}
+use Rattle.horner.specs.laws.Bounds.{sums-comm, sums-right}
 use Rattle.horner.specs.laws.Count.{box-pos}
 use Rattle.horner.specs.laws.Degree.{Below, below-refl}
 use Rattle.code.specs.Coding.{limits}
 
 -- ---- two lists of bounds, added up
-pub sums-right : (ds es : List ℕ) → Below es (sums ds es)
-sums-right ds [] = tt
-sums-right ds (e ∷ es) = (omega arith, sums-right (tl ds) es)
-
 pub sums-left : (ds es : List ℕ) → Below ds (sums ds es)
 sums-left ds es = subst (Below ds) (sums-comm es ds) (sums-right es ds)
-
-tl-sums : (ds es : List ℕ) → tl (sums ds es) ≡ sums (tl ds) (tl es)
-tl-sums ds [] = refl
-tl-sums ds (e ∷ es) = refl
-
-pub after-sums : (i : ℕ) (ds es : List ℕ) → after i (sums ds es) ≡ sums (after i ds) (after i es)
-after-sums zero ds es = refl
-after-sums (suc i) ds es = ap (after i) (tl-sums ds es) ∙ after-sums i (tl ds) (tl es)
 
 pub first-left : (ds es : List ℕ) → firstOr0 ds ≤ firstOr0 (sums ds es)
 first-left ds [] = omega arith
 first-left ds (e ∷ es) = omega arith
 
 -- ---- the rest of a list
-pub length-after : (i : ℕ) (ds : List ℕ) → length (after i ds) ≡ length ds - i
-length-after zero ds = omega arith
-length-after (suc i) [] = length-after i [] ∙ omega arith
-length-after (suc i) (d ∷ ds) = length-after i ds ∙ omega arith
-
 pub all-after : (K i : ℕ) (ds : List ℕ) → AllLe K ds → AllLe K (after i ds)
 all-after K zero ds a = a
 all-after K (suc i) [] a = all-after K i [] a

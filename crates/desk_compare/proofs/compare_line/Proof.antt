@@ -6,7 +6,7 @@ use native.Mathlib.Omega.{arith}
 use lib.ListN.{length, length-take}
 use lib.Seq.{length-take-le}
 use denote.Ref.{now}
-use Rattle.call_compare.specs.Compare.{is-compared}
+use Rattle.door_compare.specs.Compare.{is-compared}
 use Rattle.form_write.specs.laws.Wrote.{wrote-as}
 use Rattle.desk_serve.specs.Laws.{counted-not}
 use Rattle.desk_compare.specs.Laws.{compare-fields}

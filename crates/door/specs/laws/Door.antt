@@ -118,6 +118,3 @@ pub open-long : {row : List ℕ} (a b c d : ℕ) → Open row (a ∷ b ∷ c ∷
 open-long a b c d o =
     let f = four-full a b c d (o .long) in
     record { first = f .first; second = f .second; third = f .third; fourth = omega (arith, f .fourth) }
-
-pub open-fourth : {row : List ℕ} (a b c d : ℕ) → Open row (a ∷ b ∷ c ∷ d ∷ []) → table ≤ d
-open-fourth a b c d o = four-full a b c d (o .long) .fourth

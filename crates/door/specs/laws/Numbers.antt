@@ -6,27 +6,28 @@ use Prim.Native.Nat.{ℕ, suc, _<_}
 use native.Mathlib.Omega.{arith}
 use Rattle.horner.specs.definitions.Form.{Form}
 use lib.IntN.{ℤ}
+use Rattle.dialect.specs.Dialects.{ordinary}
 use Rattle.refusal.specs.declared.Fault.{Fault}
 use Rattle.text.specs.definitions.Bytes.{Reading, refused}
 use Rattle.text.specs.definitions.FormReading.{acceptForm}
 use Rattle.text.specs.definitions.FormMeaning as F
 use Rattle.text.specs.definitions.Limits.{acceptTerm, overLimit, powersFit, weightFits, termsFit}
-use Rattle.text.specs.definitions.Meaning.{RefusedAs, too-long, no-term-so, ended, unknown-letter, too-deep}
+use Rattle.text.specs.definitions.Meaning.{RefusedAs, too-long, no-term-so, ended, unknown-letter, too-deep, TermRefused, no-term}
+use Rattle.text.specs.definitions.Meaning.{over-limit}
 use Rattle.text.specs.definitions.Tree.{Tree}
-use Rattle.text_laws.specs.laws.Accepted as T
+use Rattle.text_laws.specs.laws.Bytes.{no-refusal}
 use Rattle.text_laws.specs.laws.FormAccepted as A
 use Rattle.text_laws.specs.laws.FormRefused as FR
-use Rattle.text_laws.specs.laws.Refused.{why}
-use Rattle.text_laws.specs.laws.Sofar.{no-refusal}
+use Rattle.text_laws.specs.laws.Ordinary.{refuses}
 
 same-number : {X : Type 0} {bad worse : Fault} → _≡_ {A = Reading X} (refused bad) (refused worse) → bad .number ≡ worse .number
 same-number {bad = bad} {worse} h = let same : bad ≡ worse = cc in ap (λ (f : Fault). f .number) same
 
 -- ---- terms
-syntax-number : {row s : List ℕ} {e p : ℕ} → RefusedAs row s e p → 2 < e
-syntax-number (too-long i j k) = omega arith
+syntax-number : {row s : List ℕ} {c p e : ℕ} → RefusedAs ordinary row s c p e → 2 < c
+syntax-number (too-long i j k l) = omega arith
 syntax-number (no-term-so i j k) = omega arith
-syntax-number (ended i j k l) = omega arith
+syntax-number (ended i j k l m) = omega arith
 syntax-number (unknown-letter i j k) = omega arith
 syntax-number (too-deep i j k) = omega arith
 
@@ -39,14 +40,12 @@ over-number row t = go (powersFit row t) (weightFits row t) (termsFit row t) ref
     go true true false h k l n = omega (arith, let i : overLimit row t ≡ 10 = rw (h, overLimit) (rw (k, l) refl) in i)
     go true true true h k l n = absurd (n (rw (h, overLimit) (rw (k, l) refl)))
 
+refusal-number : {row s : List ℕ} {c p e : ℕ} → TermRefused ordinary row s c p e → 2 < c
+refusal-number (no-term w) = syntax-number w
+refusal-number {row = row} (over-limit t i f) = omega (arith, over-number row (f .node) (λ z. f .over (sym (f .number) ∙ z)), f .number)
+
 pub term-number : (row s : List ℕ) (bad : Fault) → acceptTerm row s ≡ refused bad → 2 < bad .number
-term-number row s bad h = go (T.outcome row s)
-  where
-    go : T.Outcome row s (acceptTerm row s) → 2 < bad .number
-    go (T.not-term e′ p′ i j) = omega (arith, syntax-number (why row s e′ p′ i), same-number (sym j ∙ h))
-    go (T.too-big t e′ p′ i f j) =
-        omega (arith, over-number row (f .node) (λ z. f .over (sym (f .number) ∙ z)), f .number, same-number (sym j ∙ h))
-    go (T.stands-as t i f j) = no-refusal (sym h ∙ j)
+term-number row s bad h = refusal-number (refuses row s (bad .number) (bad .place) .0 h .why)
 
 -- ---- forms
 form-syntax-number : {s : List ℕ} {e p : ℕ} → F.RefusedAs s e p → 2 < e

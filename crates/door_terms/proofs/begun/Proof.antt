@@ -5,9 +5,6 @@ use Rattle.door_terms.specs.declared.TermPair.the-variants.{Refused}
 use borrow.Author.Needs.{needs}
 use Rattle.door_terms.proofs.begun.Statement.{statement}
 use Rattle.door_terms.proofs.begun.Tie as tie
-use Rattle.door_terms.proofs.begun.Reads as reads
-use Rattle.door_terms.proofs.begun.Lts as lts
-use Rattle.refusal.proofs.on_side.Reads as on-side-reads
 
 returns : tie.Need-returns
 returns c = ap Refused (c .on-side .ensures) ∙ ap begun (sym ((c .before .before .left) .given .1))

@@ -5,9 +5,6 @@ use Rattle.door_terms.specs.declared.TermPair.the-variants.{Refused}
 use borrow.Author.Needs.{needs}
 use Rattle.door_terms.proofs.ended.Statement.{statement}
 use Rattle.door_terms.proofs.ended.Tie as tie
-use Rattle.door_terms.proofs.ended.Reads as reads
-use Rattle.door_terms.proofs.ended.Lts as lts
-use Rattle.refusal.proofs.on_side.Reads as on-side-reads
 
 returns : tie.Need-returns
 returns c =

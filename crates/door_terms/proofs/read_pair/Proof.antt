@@ -1,16 +1,11 @@
--- `door_terms::read_pair` meets its contract: the left text is refused, or the right one, or both forms stand side by side.
+-- `door_terms::read_pair` meets its contract: the left text is refused, or the right one, or both runs stand side by side.
 use native.Mathlib.Omega.{arith}
 use Rattle.code.proofs.Lists.{length-tail-part}
-use Rattle.term_read.specs.laws.Terms.{term-words}
-use Rattle.door_terms.specs.laws.Terms.{left-form, left-refused, right-read}
+use Rattle.term_read.specs.laws.Terms.{run-words}
+use Rattle.door_terms.specs.laws.Terms.{left-run, left-refused, right-read}
 use borrow.Author.Needs.{needs}
 use Rattle.door_terms.proofs.read_pair.Statement.{statement}
 use Rattle.door_terms.proofs.read_pair.Tie as tie
-use Rattle.door_terms.proofs.read_pair.Reads as reads
-use Rattle.door_terms.proofs.read_pair.Lts as lts
-use Rattle.door_terms.proofs.begun.Reads as begun-reads
-use Rattle.door_terms.proofs.ended.Reads as ended-reads
-use Rattle.door_terms.proofs.read_into.Reads as read-into-reads
 
 -- the places that are looked at, each seen from a later one
 abbrev start : tie.After-read-into → tie.Start
@@ -34,8 +29,8 @@ mul-read-into c =
     let at-read-into = after-read-into at-begun in
     omega (
       arith,
-      term-words ((start at-read-into) .pre .0)
-          (left-form ((at-begun .begun) .ensures) ((at-left .left) .given .1) ((at-read-into .read-into) .ensures)),
+      run-words ((start at-read-into) .pre .0)
+          (left-run ((at-begun .begun) .ensures) ((at-left .left) .given .1) ((at-read-into .read-into) .ensures)),
     )
 
 sub-read-into : tie.Need-sub-read-into
@@ -46,9 +41,9 @@ sub-read-into c =
     let s = start at-read-into in
     omega (
       arith,
-      term-words (s .pre .0) (left-form ((at-begun .begun) .ensures) ((at-left .left) .given .1) ((at-read-into .read-into) .ensures)),
+      run-words (s .pre .0) (left-run ((at-begun .begun) .ensures) ((at-left .left) .given .1) ((at-read-into .read-into) .ensures)),
       (at-read-into .read-into) .kept .1 .1 .1 .1 .1 .0,
-      s .pre .1 .1,
+      s .pre .1 .fourth,
     )
 
 part-read-into-start : tie.Need-part-read-into-start
@@ -59,9 +54,9 @@ part-read-into-start c =
     let s = start at-read-into in
     omega (
       arith,
-      term-words (s .pre .0) (left-form ((at-begun .begun) .ensures) ((at-left .left) .given .1) ((at-read-into .read-into) .ensures)),
+      run-words (s .pre .0) (left-run ((at-begun .begun) .ensures) ((at-left .left) .given .1) ((at-read-into .read-into) .ensures)),
       (at-read-into .read-into) .kept .1 .1 .1 .1 .1 .0,
-      s .pre .1 .1,
+      s .pre .1 .fourth,
     )
 
 read-into-requires-2 : tie.Need-read-into-requires-2
@@ -71,7 +66,7 @@ read-into-requires-2 c κs =
     let at-read-into = after-read-into at-begun in
     let s = start at-read-into in
     let f = (at-read-into .read-into) in
-    let T = left-form ((at-begun .begun) .ensures) ((at-left .left) .given .1) (f .ensures) in (
+    let T = left-run ((at-begun .begun) .ensures) ((at-left .left) .given .1) (f .ensures) in (
       s .pre .0,
       omega (
         arith,
@@ -79,9 +74,11 @@ read-into-requires-2 c κs =
         f .kept .1 .1 .1 .0,
         f .kept .1 .1 .1 .1 .0,
         f .kept .1 .1 .1 .1 .1 .0,
-        s .pre .1 .0,
-        s .pre .1 .1,
-        term-words (s .pre .0) T,
+        s .pre .1 .first,
+        s .pre .1 .second,
+        s .pre .1 .third,
+        s .pre .1 .fourth,
+        run-words (s .pre .0) T,
         length-tail-part ((at-left .left) .given .0 .0) (f .last .1 .1 .1 .1 .1 .0),
       ),
     )
@@ -92,7 +89,7 @@ returns-2 c =
     let at-left = after-left (at-read-into2 .before .before) in
     let at-begun = at-left .before .before in
     let read-into = after-read-into at-begun .read-into in
-    let T = left-form ((at-begun .begun) .ensures) ((at-left .left) .given .1) (read-into .ensures) in
+    let T = left-run ((at-begun .begun) .ensures) ((at-left .left) .given .1) (read-into .ensures) in
     rw (c .ended .ensures) (right-read (read-into .last .1 .1 .1 .1 .1 .0) ((at-read-into2 .read-into2) .last .1 .1 .1 .1 .1 .0) T
     ((at-read-into2 .read-into2) .ensures))
 

@@ -1,4 +1,4 @@
--- Two forms side by side.
+-- Two runs side by side.
 use mathlib.Core.List.{List, _++_}
 use mathlib.Core.Path.{_≡_, refl, sym, ap, _∙_, subst}
 use Prim.Native.Nat.{ℕ, _+_, _-_}
@@ -11,60 +11,54 @@ use Rattle.text.specs.definitions.Bytes.{Reading}
 use Rattle.text.specs.definitions.Limits.{acceptTerm}
 use Rattle.reply.specs.definitions.Reply.{Reply, refuses, readAs}
 use Rattle.text.specs.definitions.Tree.{Tree}
-use Rattle.term_read.specs.Read.{IsTerm, TermRead, refusal, form}
+use Rattle.term_read.specs.Read.{IsRun, RunRead, refusal, words}
 use Rattle.term_read.specs.declared.TermReading.{TermReading}
 use Rattle.term_read.specs.declared.TermReading.the-variants as R
 use Rattle.refusal.specs.Refusal.{onSide}
-use Rattle.refusal.specs.declared.Fault.{Fault}
 use Rattle.refusal.specs.declared.Refusal.{Refusal}
 use Rattle.refusal.specs.declared.Side.the-variants.{Left, Right}
-use Rattle.term_read.specs.laws.Reading.{read-form, read-refusal}
-use Rattle.door_terms.specs.Terms.{begun, ended, IsPair, PairRead, left-refusal, right-refusal, forms}
+use Rattle.term_read.specs.laws.Reading.{read-words}
+use Rattle.door_terms.specs.Terms.{begun, ended, IsPair, PairRead, left-refusal, right-refusal, runs}
 use Rattle.door_terms.specs.declared.TermPair.{TermPair}
-use Rattle.door_terms.specs.declared.TermPair.the-variants.{Forms, Refused}
+use Rattle.door_terms.specs.declared.TermPair.the-variants.{Runs, Refused}
 
--- ---- one form, copied to the front of another table
--- a refusal says nothing of the tables
-pub refused-any :
-    {row s l : List ℕ} {r : TermReading} {bad : Fault} (k : List ℕ) → r ≡ R.Refused bad → TermRead row s r l → TermRead row s r k
-refused-any {bad = bad} k h t = refusal bad (read-refusal h t) h
-
+-- ---- one run, copied to the front of another table
 pub copied :
-    {row s l d′ : List ℕ} {r : TermReading} {n : ℕ} (d : List ℕ) → r ≡ R.Form n → TermRead row s r l → d′ ≡ take n l ++ d →
-    TermRead row s (R.Form n) d′
+    {row s l d′ : List ℕ} {r : TermReading} {n : ℕ} (d : List ℕ) → r ≡ R.Words n → RunRead row s r l → d′ ≡ take n l ++ d →
+    RunRead row s (R.Words n) d′
 copied {n = n} d h t e =
-    let T = read-form h t in
-    form n (record { t = T .t; accepted = T .accepted; made = copied-front d (T .made) e }) refl
+    let T = read-words h t in
+    words n (record { t = T .t; accepted = T .accepted; made = copied-front d (T .made) e }) refl
 
 -- ---- the pair
-no-forms : {P : Type 0} {k m : ℕ} {bad : Refusal} → _≡_ {A = TermPair} (Forms k m) (Refused bad) → P
-no-forms h = absurd (let z : _≡_ {A = ℕ} 0 1 = cc in omega arith)
+no-runs : {P : Type 0} {k m : ℕ} {bad : Refusal} → _≡_ {A = TermPair} (Runs k m) (Refused bad) → P
+no-runs h = absurd (let z : _≡_ {A = ℕ} 0 1 = cc in omega arith)
 
-begun-form : (q : TermReading) {n z : ℕ} → begun q ≡ Forms n z → q ≡ R.Form n
-begun-form (R.Refused bad) h = no-forms (sym h)
-begun-form (R.Form k) {n} h = let e : k ≡ n = cc in ap R.Form e
+begun-words : (q : TermReading) {n z : ℕ} → begun q ≡ Runs n z → q ≡ R.Words n
+begun-words (R.Refused bad) h = no-runs (sym h)
+begun-words (R.Words k) {n} h = let e : k ≡ n = cc in ap R.Words e
 
--- the left text was read, and is a form
-pub left-form :
-    {row s l : List ℕ} {q : TermReading} {n z : ℕ} {x : TermPair} → x ≡ begun q → x ≡ Forms n z → TermRead row s q l → IsTerm row s n l
-left-form {q = q} h i = read-form (begun-form q (sym h ∙ i))
+-- the left text was read, and is a run
+pub left-run :
+    {row s l : List ℕ} {q : TermReading} {n z : ℕ} {x : TermPair} → x ≡ begun q → x ≡ Runs n z → RunRead row s q l → IsRun row s n l
+left-run {q = q} h i = read-words (begun-words q (sym h ∙ i))
 
 -- the left text is refused, and the right one not read
 pub left-refused :
     {row s t l : List ℕ} (k : List ℕ) {q : TermReading} {x : TermPair} {bad : Refusal} → x ≡ begun q → x ≡ Refused bad →
-    TermRead row s q l → PairRead row s t x k
+    RunRead row s q l → PairRead row s t x k
 left-refused k h i (refusal worse a j) = left-refusal worse a (h ∙ ap begun j)
-left-refused k h i (form n t j) = no-forms (ap begun (sym j) ∙ sym h ∙ i)
+left-refused k h i (words n t j) = no-runs (ap begun (sym j) ∙ sym h ∙ i)
 
--- the right text was read into the part behind the left form
+-- the right text was read into the part behind the left run
 pub right-read :
-    {row s t : List ℕ} (l m : List ℕ) {n : ℕ} {r : TermReading} → IsTerm row s n l → TermRead row t r m →
+    {row s t : List ℕ} (l m : List ℕ) {n : ℕ} {r : TermReading} → IsRun row s n l → RunRead row t r m →
     PairRead row s t (ended n r) (putMid n (length l - n) l m)
 right-read l m {n} F (refusal bad a j) = right-refusal (F .t) bad (F .accepted) a (ap (ended n) j)
-right-read l m {n} F (form k G j) =
+right-read l m {n} F (words k G j) =
     let a = begins-le (F .made) in
     let z : n + 0 ≡ n = omega arith in
-    forms n k
+    runs n k
     (record {
       f = F .t;
       g = G .t;
@@ -83,10 +77,10 @@ right-read l m {n} F (form k G j) =
 
 -- ---- by the enum
 
-pub pair-forms : {row s t l : List ℕ} {q : TermPair} {k m : ℕ} → q ≡ Forms k m → PairRead row s t q l → IsPair row s t k m l
-pair-forms h (left-refusal bad a i) = no-forms (sym h ∙ i)
-pair-forms h (right-refusal f bad a b i) = no-forms (sym h ∙ i)
-pair-forms {row} {s} {t} {l} {k = k} {m} h (forms k′ m′ Q i) =
+pub pair-runs : {row s t l : List ℕ} {q : TermPair} {k m : ℕ} → q ≡ Runs k m → PairRead row s t q l → IsPair row s t k m l
+pair-runs h (left-refusal bad a i) = no-runs (sym h ∙ i)
+pair-runs h (right-refusal f bad a b i) = no-runs (sym h ∙ i)
+pair-runs {row} {s} {t} {l} {k = k} {m} h (runs k′ m′ Q i) =
     let a : k′ ≡ k = cc in
     let b : m′ ≡ m = cc in
     subst (λ z. IsPair row s t z m l) a (subst (λ z. IsPair row s t k′ z l) b Q)
@@ -103,4 +97,4 @@ pair-refused {row = row} {s} {t} {bad = bad} k h (right-refusal f worse a b i) =
     ap (λ (x : Reading Tree). readAs Left x (λ f. readAs Right (acceptTerm row t) (k f))) a
     ∙ ap (λ (x : Reading Tree). readAs Right x (k f)) b
     ∙ ap refuses same
-pair-refused k h (forms n m Q i) = no-forms (sym i ∙ h)
+pair-refused k h (runs n m Q i) = no-runs (sym i ∙ h)

@@ -17,7 +17,7 @@ use Rattle.horner.specs.laws.Degree.{length-degrees}
 use Rattle.text.specs.definitions.Bytes.{onward, Reading, read, fine, all}
 use Rattle.text.specs.definitions.FormReading.{nodes, overLimit, formMeasured, formJudged, acceptForm, text}
 use Rattle.text.specs.definitions.FormMeaning.{IsFormText}
-use Rattle.text_laws.specs.laws.Descent.{judgedAt}
+use Rattle.text_laws.specs.laws.FormDescent.{judgedAt}
 use Rattle.text_laws.specs.laws.FormAccepted.{Fits, Measure, within, degree, heavy, many, measure, Judged as Verdict, upright, fallen}
 use Rattle.text_laws.specs.laws.FormAccepted.{judged}
 use Rattle.text_laws.specs.laws.FormNormal.{stand-normal}

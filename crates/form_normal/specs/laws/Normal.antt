@@ -12,7 +12,7 @@ use Rattle.horner.specs.definitions.Form.{Form, int, pop, pow, isZero, isPow, l
 use Rattle.horner.specs.definitions.Rings.{ℤ-ring, isZeroℤ}
 use Rattle.text.specs.definitions.Bytes.{Reading, read, refused, refusedAt}
 use Rattle.text.specs.definitions.FormReading.{stands, text, powHead}
-use Rattle.text_laws.specs.laws.Descent.{andThen, judgedAt, judged-pop, judged-pow}
+use Rattle.text_laws.specs.laws.FormDescent.{andThen, judgedAt, judged-pop, judged-pow}
 use Rattle.text_laws.specs.laws.Picks.{pick}
 use Rattle.form_head.specs.Heads.{Stands, Headed, Ends}
 use Rattle.form_head.specs.laws.Parts.{pop-part, pow-left, pow-right, ends-pop, ends-pow}

@@ -116,7 +116,8 @@ tl-sums : (ds es : List ℕ) → tl (sums ds es) ≡ sums (tl ds) (tl es)
 tl-sums ds [] = refl
 tl-sums ds (e ∷ es) = refl
 
-after-sums : (i : ℕ) (ds es : List ℕ) → after i (sums ds es) ≡ sums (after i ds) (after i es)
+-- behind the first i
+pub after-sums : (i : ℕ) (ds es : List ℕ) → after i (sums ds es) ≡ sums (after i ds) (after i es)
 after-sums zero ds es = refl
 after-sums (suc i) ds es = ap (after i) (tl-sums ds es) ∙ after-sums i (tl ds) (tl es)
 
@@ -125,11 +126,13 @@ length-sums ds [] h = h
 length-sums [] (e ∷ es) h = absurd (omega arith)
 length-sums (d ∷ ds) (e ∷ es) h = ap suc (length-sums ds es (omega arith))
 
-sums-multiples : (k : ℕ) (ds : List ℕ) → sums ds (multiples k ds) ≡ multiples (suc k) ds
+-- once and k times
+pub sums-multiples : (k : ℕ) (ds : List ℕ) → sums ds (multiples k ds) ≡ multiples (suc k) ds
 sums-multiples k [] = refl
 sums-multiples k (d ∷ ds) = ap₂ _∷_ (omega (arith, NatL.suc-mul k d)) (sums-multiples k ds)
 
-sums-right : (ds es : List ℕ) → Below es (sums ds es)
+-- neither is lower than its part
+pub sums-right : (ds es : List ℕ) → Below es (sums ds es)
 sums-right ds [] = tt
 sums-right ds (e ∷ es) = (omega arith, sums-right (tl ds) es)
 

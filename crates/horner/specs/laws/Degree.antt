@@ -110,12 +110,14 @@ module _ {A : Type 0} (R : Ring A) where
       )
 
 -- ---- no bounds are lower
-below-zeros : (n : ℕ) (ds : List ℕ) → length ds ≡ n → Below (zeros n []) ds
+-- 0 for each variable
+pub below-zeros : (n : ℕ) (ds : List ℕ) → length ds ≡ n → Below (zeros n []) ds
 below-zeros zero ds l = tt
 below-zeros (suc n) [] l = absurd (omega arith)
 below-zeros (suc n) (d ∷ ds) l = (omega arith, below-zeros n ds (omega arith))
 
-below-behind : (i : ℕ) (es ds : List ℕ) → 1 ≤ length es → length es ≡ length ds - i → Below es (after i ds) → Below (zeros i es) ds
+-- 0 for i of them, and bounds behind these
+pub below-behind : (i : ℕ) (es ds : List ℕ) → 1 ≤ length es → length es ≡ length ds - i → Below es (after i ds) → Below (zeros i es) ds
 below-behind zero es ds p l h = h
 below-behind (suc i) es [] p l h = absurd (omega arith)
 below-behind (suc i) es (d ∷ ds) p l h = (omega arith, below-behind i es ds p (omega arith) h)
@@ -130,7 +132,8 @@ below-parts : (es : List ℕ) (f : ℕ) (fs : List ℕ) → Below es (f ∷ fs) 
 below-parts [] f fs h = (omega arith, tt)
 below-parts (e ∷ es) f fs h = h
 
-length-after : (i : ℕ) (ds : List ℕ) → length (after i ds) ≡ length ds - i
+-- those behind the first i
+pub length-after : (i : ℕ) (ds : List ℕ) → length (after i ds) ≡ length ds - i
 length-after zero ds = omega arith
 length-after (suc i) [] = length-after i [] ∙ omega arith
 length-after (suc i) (d ∷ ds) = length-after i ds ∙ omega arith

@@ -98,9 +98,6 @@ module _ {A : Type 0} (R : Ring A) where
   pub words-count : (n : ℕ) (x : Form A) → Normal R n x → size x ≤ 3 * (n * count R x) + 1
   words-count n x h = omega (arith, size-pows n x h, pows-count n x h)
 
-  pub words-box : (n : ℕ) (ds : List ℕ) (x : Form A) → Normal R n x → Bounded ds x → size x + 2 ≤ 3 * box ds
-  words-box n ds x h b = omega (arith, size-pows n x h, pows-box n ds x h b)
-
   -- 3,073 words in at most 4 variables, with at most 256 coefficients that are not 0
   pub words-3073 : (n : ℕ) (x : Form A) → n ≤ 4 → Normal R n x → count R x ≤ 256 → size x ≤ 3073
   words-3073 n x l h c = omega (arith, words-count n x h, NatL.mul-le-mul l c)

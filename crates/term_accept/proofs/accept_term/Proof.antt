@@ -1,76 +1,77 @@
--- `term_accept::accept_term` meets its contract, case by case.
-use borrow.Author.Needs.{needs}
-use mathlib.Core.Path.{sym, ap, _∙_, subst}
+-- `term_accept::accept_term` meets its contract: the reading, and then the measures.
+use native.Mathlib.Omega.{arith}
 use denote.Ref.{now}
-use Rattle.term_accept.specs.Found.{MeasuredAt}
-use Rattle.term_accept.specs.Accepting.{verdictOf, accept-refused, accept-term, term-refused}
+use Rattle.term_accept.specs.Accepted.{refused-first, inside, parsed, codes, fits, over}
+use borrow.Author.Needs.{needs}
 use Rattle.term_accept.proofs.accept_term.Statement.{statement}
 use Rattle.term_accept.proofs.accept_term.Tie as tie
+use Rattle.term_accept.proofs.accept_term.Reads as reads
+use Rattle.term_accept.proofs.accept_term.Lts as lts
+use Rattle.term_parse.proofs.parse.Reads as parse-reads
+use Rattle.term_measure.proofs.measure_tree.Reads as measure-tree-reads
 
-judge-term-requires : tie.Need-judge-term-requires
-judge-term-requires c κs = search needs
+-- the places that are looked at, each seen from a later one
+abbrev start : tie.After-parse → tie.Start
+start c = c .before .before .before .before .before
 
-enum-told : tie.Need-enum-told
-enum-told c = search needs
-
-enum-told-2 : tie.Need-enum-told-2
-enum-told-2 c = search needs
+abbrev after-parse : tie.After-tree → tie.After-parse
+after-parse c = c .before .before .before .before
 
 returns : tie.Need-returns
 returns c =
-    let start = c .before .before .before .before .before in
-    accept-refused (now (start .args .row)) (now (start .args .s)) _ (c .before .before .judge-term .ensures) (λ h. term-refused (now (start .args .row)) (now (start .args .s)) (sym h ∙ c .enum-told2 .given .1))
+    let at-parse : tie.After-parse = c .before .before .before .before in
+    let s : tie.Start = start at-parse in
+    refused-first (s .args .d) (s .args .row .now) (s .args .s .now) (at-parse .parse .last .1 .1 .1 .0)
+    (at-parse .parse .result) (at-parse .parse .ensures) _ _ _ (c .enum-told .given .1)
 
-new-requires : tie.Need-new-requires
-new-requires c κs = search needs
+part-measure-tree-end : tie.Need-part-measure-tree-end
+part-measure-tree-end c =
+    let at-tree : tie.After-tree = c .before .before in
+    let at-parse : tie.After-parse = after-parse at-tree in
+    let s : tie.Start = start at-parse in
+    omega (
+      arith,
+      inside (s .args .d) (s .args .row .now) (s .args .s .now) (at-parse .parse .last .1 .1 .1 .0)
+          (at-parse .parse .result) (at-parse .parse .ensures) (at-tree .tree .given .0 .0) (at-tree .tree .given .1),
+    )
 
-measure-requires : tie.Need-measure-requires
-measure-requires c κs = search needs
-
-enum-known-found : tie.Need-enum-known-found
-enum-known-found c = search needs
-
-enum-told-3 : tie.Need-enum-told-3
-enum-told-3 c = search needs
-
-enum-told-4 : tie.Need-enum-told-4
-enum-told-4 c = search needs
+measure-tree-requires : tie.Need-measure-tree-requires
+measure-tree-requires c κs =
+    let at-tree : tie.After-tree = c .before .before .before in
+    let at-parse : tie.After-parse = after-parse at-tree in
+    let s : tie.Start = start at-parse in
+    record {
+      row = s .args .row .now;
+      tree = parsed (s .args .d) (s .args .row .now) (s .args .s .now)
+          (at-parse .parse .last .1 .1 .1 .0) (at-parse .parse .result) (at-parse .parse .ensures) (at-tree .tree .given .0 .0)
+          (at-tree .tree .given .1) .tree;
+      codes = codes (s .args .d) (s .args .row .now) (s .args .s .now)
+          (at-parse .parse .last .1 .1 .1 .0) (at-parse .parse .result) (at-parse .parse .ensures) (at-tree .tree .given .0 .0)
+          (at-tree .tree .given .1) (s .pre .four);
+    }
 
 returns-2 : tie.Need-returns-2
 returns-2 c =
-    let new = c .before .before .before .before .new in
-    let at-enum-told = c .before .before .before .before .before .enum-told in
-    let judge-term = c .before .before .before .before .before .before .before .judge-term in
-    let start = c .before .before .before .before .before .before .before .before .before .before in
-    sym (ap verdictOf (c .before .found .given .1)) ∙ accept-term (now (start .args .row)) (now (start .args .s)) (sym (at-enum-told .given .1) ∙ judge-term .ensures) (c .before .before .before .measure .result) (subst (λ i. MeasuredAt (now (start .args .row)) (now (start .args .s)) i (c .before .before .before .measure .result)) (new .ensures) (c .before .before .before .measure .ensures))
+    let at-measure-tree : tie.After-measure-tree = c .before .before in
+    let at-tree : tie.After-tree = at-measure-tree .before .before .before .before in
+    let at-parse : tie.After-parse = after-parse at-tree in
+    let s : tie.Start = start at-parse in
+    fits (s .args .d) (s .args .row .now) (s .args .s .now) (at-parse .parse .last .1 .1 .1 .0) (at-parse .parse .result)
+    (at-parse .parse .ensures) (at-tree .tree .given .0 .0) (at-tree .tree .given .1) (s .pre .four) _
+    (at-measure-tree .measure-tree .ensures) _ (c .enum-told2 .given .1)
 
 returns-3 : tie.Need-returns-3
 returns-3 c =
-    let at-enum-told = c .before .before .before .before .enum-told in
-    let judge-term = c .before .before .before .before .before .before .judge-term in
-    let start = c .before .before .before .before .before .before .before .before .before in
-    sym (ap verdictOf (c .enum-told3 .given .1)) ∙ accept-term (now (start .args .row)) (now (start .args .s)) (sym (at-enum-told .given .1) ∙ judge-term .ensures) (c .before .before .measure .result) (subst (λ i. MeasuredAt (now (start .args .row)) (now (start .args .s)) i (c .before .before .measure .result)) (c .before .before .before .new .ensures) (c .before .before .measure .ensures))
-
-returns-4 : tie.Need-returns-4
-returns-4 c =
-    let at-enum-told = c .before .before .before .before .enum-told in
-    let judge-term = c .before .before .before .before .before .before .judge-term in
-    let start = c .before .before .before .before .before .before .before .before .before in
-    sym (ap verdictOf (c .enum-told4 .given .1)) ∙ accept-term (now (start .args .row)) (now (start .args .s)) (sym (at-enum-told .given .1) ∙ judge-term .ensures) (c .before .before .measure .result) (subst (λ i. MeasuredAt (now (start .args .row)) (now (start .args .s)) i (c .before .before .measure .result)) (c .before .before .before .new .ensures) (c .before .before .measure .ensures))
+    let at-measure-tree : tie.After-measure-tree = c .before .before .before in
+    let at-tree : tie.After-tree = at-measure-tree .before .before .before .before in
+    let at-parse : tie.After-parse = after-parse at-tree in
+    let s : tie.Start = start at-parse in
+    over (s .args .d) (s .args .row .now) (s .args .s .now) (at-parse .parse .last .1 .1 .1 .0) (at-parse .parse .result)
+    (at-parse .parse .ensures) (at-tree .tree .given .0 .0) (at-tree .tree .given .1) (s .pre .four) _
+    (at-measure-tree .measure-tree .ensures) _ _ _ (c .before .found .given .1)
 
 pub accept-term-spec : {M : Type 1} → statement M
 accept-term-spec =
-    tie.close
-    (tie.spec
-    judge-term-requires
-    enum-told
-    enum-told-2
-    returns
-    new-requires
-    measure-requires
-    enum-known-found
-    enum-told-3
-    enum-told-4
-    returns-2
-    returns-3
-    returns-4)
+    tie.close (tie.spec (λ c κs. search needs) (λ c. search needs) (λ c. search needs) (λ c. search needs) returns (λ c. search needs)
+    (λ c. search needs) part-measure-tree-end measure-tree-requires (λ c. search needs) (λ c. search needs) (λ c. search needs) returns-2
+    (λ c. search needs) returns-3)

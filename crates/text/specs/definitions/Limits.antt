@@ -4,21 +4,26 @@ use mathlib.Core.List.{List, [], _∷_, _++_}
 use Prim.Native.Nat.{ℕ}
 use lib.Dec.{leb}
 use lib.ListN.{length}
+use Rattle.dialect.specs.Dialects.{ordinary}
+use Rattle.dialect.specs.declared.Dialect.{Dialect}
 use Rattle.horner.specs.definitions.Measures.{weightOf, degreesOf, termsOf}
-use Rattle.text.specs.definitions.Bytes.{Reading, read, onward, fine, all}
+use Rattle.text.specs.definitions.Answer.{Reading, read, onward, fine, told}
+use Rattle.text.specs.definitions.Bytes as B
+use Rattle.text.specs.definitions.Bytes.{all}
 use Rattle.text.specs.definitions.Reading.{readTerm}
-use Rattle.text.specs.definitions.Tree.{Tree, num, letter, neg, two, power, startOf, termOf}
+use Rattle.text.specs.definitions.Tree.{Tree, num, letter, neg, two, power, startOf, endOf, termOf}
 
 -- the subterms in order of finishing: a subterm is finished behind its parts
 abbrev pub finishing : Tree → List Tree
-finishing (num p z) = num p z ∷ []
+finishing (num p w z) = num p w z ∷ []
 finishing (letter p b) = letter p b ∷ []
 finishing (neg p o c x) = finishing x ++ (neg p o c x ∷ [])
 finishing (two p o c g x y) = finishing x ++ (finishing y ++ (two p o c g x y ∷ []))
 finishing (power p o c x q n) = finishing x ++ (power p o c x q n ∷ [])
 
+-- the exponent of a power, which no degree need show
 abbrev pub exponentFits : Tree → Bool
-exponentFits (num p z) = true
+exponentFits (num p w z) = true
 exponentFits (letter p b) = true
 exponentFits (neg p o c x) = true
 exponentFits (two p o c g x y) = true
@@ -45,15 +50,22 @@ overLimit row t =
       | false ↦ 8
     ]
 
--- "for 8 to 10 together in terms, the first offending node in order of finishing decides"; its place is where the subterm begins
+-- "for 8 to 10 together in terms, the first offending node in order of finishing decides"; its place is where the subterm begins, its end
+-- "after the subterm"
 abbrev pub firstPast : List ℕ → Reading Tree → List Tree → Reading Tree
 firstPast row r [] = r
-firstPast row r (t ∷ ts) = fine (overLimit row t) (startOf t) (λ u. firstPast row r ts)
+firstPast row r (t ∷ ts) = fine (overLimit row t) (startOf t) (endOf t) (λ u. firstPast row r ts)
 
+-- a term, once it is read
 unfoldable pub measured : List ℕ → Tree → Reading Tree
 measured row t = firstPast row (read t) (finishing t)
 
 -- a term's text, with all its refusals: "then 3; then 4, 5, 6 at the earliest place; .. then 8, 9, 10"
-unfoldable pub acceptTerm : List ℕ → List ℕ → Reading Tree
+unfoldable pub accept : Dialect → List ℕ → List ℕ → Reading Tree
 unfolding readTerm measured
-acceptTerm row s = onward (readTerm row s) (measured row)
+accept D row s = onward (readTerm D row s) (measured row)
+
+-- document 01's own terms, by number and place
+unfoldable pub acceptTerm : List ℕ → List ℕ → B.Reading Tree
+unfolding accept
+acceptTerm row s = told (accept ordinary row s)

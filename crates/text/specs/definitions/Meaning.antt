@@ -1,28 +1,16 @@
--- What the readings are for, said without reading: a text is the text of a term when its tokens are the term's tokens at their places.
-use mathlib.Core.Bool.{true, false, _&&_}
+-- What the readings are for, said without reading: a text is the text of a term of the dialect when its tokens are the term's tokens at
+-- their places.
+use mathlib.Core.Bool.{true, false}
 use mathlib.Core.List.{List, [], _∷_, _++_}
 use mathlib.Core.Path.{_≡_}
 use Prim.Native.Nat.{ℕ, suc, pred, _≤_, _<_}
 use lib.ListN.{length}
+use Rattle.dialect.specs.declared.Dialect.{Dialect}
 use Rattle.horner.specs.definitions.Measures.{weightOf, degreesOf, termsOf, AllLe}
+use Rattle.text.specs.definitions.Answer.{pastOf}
 use Rattle.text.specs.definitions.Bytes.{capital, inRow, Token, opening, closing, word, placeOf, tokens}
 use Rattle.text.specs.definitions.Limits.{exponentFits, finishing, overLimit}
-use Rattle.text.specs.definitions.Tree.{Tree, placed, letters, nesting, Sign, neg, two, power, startOf, termOf}
-
--- s is the text of the term t over the row (text_laws/Reading, reads: exactly then it is read as t)
-pub record IsTerm (row s : List ℕ) (t : Tree) : Type 0 where
-  pub short : length s ≤ 4096
-  pub tokens-are : tokens 0 s ≡ placed t
-  pub in-row : letters (λ b. capital b && inRow row b) t ≡ true
-  pub shallow : nesting t ≤ 16
-
--- "a term of any size begins with the tokens so far (an unknown capital counts as a letter here)": the tokens, some tokens behind them,
--- are a term's; the places in a tree are any numbers
-pub record Begun (ks : List Token) : Type 0 where
-  pub term : Tree
-  pub rest : List Token
-  pub capitals : letters capital term ≡ true
-  pub is : placed term ≡ ks ++ rest
+use Rattle.text.specs.definitions.Tree.{Tree, placed, Proper, letters, nesting, Sign, neg, two, power, startOf, endOf, termOf}
 
 -- how many parentheses are open behind the tokens, d being open before them
 abbrev pub openAfter : ℕ → List Token → ℕ
@@ -44,50 +32,72 @@ abbrev pub Clean : List ℕ → ℕ → ℕ → List Token → Type 0
 Clean row limit d [] = Unit {0}
 Clean row limit d (k ∷ ks) = Allowed row limit d k × Clean row limit (openAfter d (k ∷ [])) ks
 
--- "place 4 is the first token such that no term of any size begins with the tokens so far"
-pub record FirstBad (row : List ℕ) (limit : ℕ) (ts : List Token) (p : ℕ) : Type 0 where
-  pub before : List Token
-  pub token : Token
-  pub behind : List Token
-  pub parts : ts ≡ before ++ (token ∷ behind)
-  pub place : p ≡ placeOf token
-  pub clean : Clean row limit 0 before
-  pub begun : Begun before
-  pub ends : Begun (before ++ (token ∷ [])) → ⊥
+module _ (D : Dialect) where
+  -- s is the text of the term t over the row (text_laws/Reading, reads: exactly then it is read as t)
+  pub record IsTerm (row s : List ℕ) (t : Tree) : Type 0 where
+    pub short : length s ≤ D .bytes
+    pub tokens-are : tokens 0 s ≡ placed t
+    pub proper : Proper D t
+    pub in-row : letters (inRow row) t ≡ true
+    pub shallow : nesting t ≤ D .depth
 
--- "or the text's length if it ends early"
-pub record EndsEarly (row : List ℕ) (limit : ℕ) (ts : List Token) : Type 0 where
-  pub clean : Clean row limit 0 ts
-  pub begun : Begun ts
-  pub no-term : (t : Tree) → letters capital t ≡ true → placed t ≡ ts → ⊥
+  -- "a term of any size begins with the tokens so far (an unknown capital counts as a letter here)": the tokens, some tokens behind them,
+  -- are a term's; the places in a tree are any numbers
+  pub record Begun (ks : List Token) : Type 0 where
+    pub term : Tree
+    pub rest : List Token
+    pub proper : Proper D term
+    pub is : placed term ≡ ks ++ rest
 
--- "5: a capital letter not in the row, where a letter may stand", at "its token"
-pub record Unknown (row : List ℕ) (limit : ℕ) (ts : List Token) (p : ℕ) : Type 0 where
-  pub before : List Token
-  pub letter : ℕ
-  pub behind : List Token
-  pub parts : ts ≡ before ++ (word p (letter ∷ []) ∷ behind)
-  pub clean : Clean row limit 0 before
-  pub is-capital : capital letter ≡ true
-  pub not-in-row : inRow row letter ≡ false
-  pub begun : Begun (before ++ (word p (letter ∷ []) ∷ []))
+  -- "place 4 is the first token such that no term of any size begins with the tokens so far"; the end is "the byte after the offending
+  -- token"
+  pub record FirstBad (row : List ℕ) (ts : List Token) (p e : ℕ) : Type 0 where
+    pub before : List Token
+    pub token : Token
+    pub behind : List Token
+    pub parts : ts ≡ before ++ (token ∷ behind)
+    pub place : p ≡ placeOf token
+    pub end : e ≡ pastOf token
+    pub clean : Clean row (D .depth) 0 before
+    pub begun : Begun before
+    pub ends : Begun (before ++ (token ∷ [])) → ⊥
 
--- "6: a parenthesis opened beyond the limit", at "that byte"
-pub record TooDeep (row : List ℕ) (limit : ℕ) (ts : List Token) (p : ℕ) : Type 0 where
-  pub before : List Token
-  pub behind : List Token
-  pub parts : ts ≡ before ++ (opening p ∷ behind)
-  pub clean : Clean row limit 0 before
-  pub open-before : limit ≤ openAfter 0 before
-  pub begun : Begun (before ++ (opening p ∷ []))
+  -- "or the text's length if it ends early"
+  pub record EndsEarly (row : List ℕ) (ts : List Token) : Type 0 where
+    pub clean : Clean row (D .depth) 0 ts
+    pub begun : Begun ts
+    pub no-term : (t : Tree) → Proper D t → placed t ≡ ts → ⊥
 
--- The refusals of a term's text before it is measured, "3; then 4, 5, 6 at the earliest place": exactly these (text_laws/Exactly)
-pub data RefusedAs (row s : List ℕ) (e p : ℕ) : Type 0 where
-  too-long : e ≡ 3 → p ≡ 0 → 4096 < length s → RefusedAs row s e p
-  no-term-so : e ≡ 4 → length s ≤ 4096 → FirstBad row 16 (tokens 0 s) p → RefusedAs row s e p
-  ended : e ≡ 4 → length s ≤ 4096 → EndsEarly row 16 (tokens 0 s) → p ≡ length s → RefusedAs row s e p
-  unknown-letter : e ≡ 5 → length s ≤ 4096 → Unknown row 16 (tokens 0 s) p → RefusedAs row s e p
-  too-deep : e ≡ 6 → length s ≤ 4096 → TooDeep row 16 (tokens 0 s) p → RefusedAs row s e p
+  -- "5: a capital letter not in the row, where a letter may stand", at "its token"
+  pub record Unknown (row : List ℕ) (ts : List Token) (p e : ℕ) : Type 0 where
+    pub before : List Token
+    pub letter : ℕ
+    pub behind : List Token
+    pub parts : ts ≡ before ++ (word p (letter ∷ []) ∷ behind)
+    pub end : e ≡ suc p
+    pub clean : Clean row (D .depth) 0 before
+    pub is-capital : capital letter ≡ true
+    pub not-in-row : inRow row letter ≡ false
+    pub begun : Begun (before ++ (word p (letter ∷ []) ∷ []))
+
+  -- "6: a parenthesis opened beyond the limit", at "that byte"
+  pub record TooDeep (row : List ℕ) (ts : List Token) (p e : ℕ) : Type 0 where
+    pub before : List Token
+    pub behind : List Token
+    pub parts : ts ≡ before ++ (opening p ∷ behind)
+    pub end : e ≡ suc p
+    pub clean : Clean row (D .depth) 0 before
+    pub open-before : D .depth ≤ openAfter 0 before
+    pub begun : Begun (before ++ (opening p ∷ []))
+
+  -- The refusals of a term's text before it is measured, "3; then 4, 5, 6 at the earliest place": exactly these (text_laws/Exactly). The
+  -- end of 3, and of 4 where the text ended early, is "the place itself"
+  pub data RefusedAs (row s : List ℕ) (c p e : ℕ) : Type 0 where
+    too-long : c ≡ 3 → p ≡ 0 → e ≡ 0 → D .bytes < length s → RefusedAs row s c p e
+    no-term-so : c ≡ D .wrong → length s ≤ D .bytes → FirstBad row (tokens 0 s) p e → RefusedAs row s c p e
+    ended : c ≡ D .wrong → length s ≤ D .bytes → EndsEarly row (tokens 0 s) → p ≡ length s → e ≡ length s → RefusedAs row s c p e
+    unknown-letter : c ≡ 5 → length s ≤ D .bytes → Unknown row (tokens 0 s) p e → RefusedAs row s c p e
+    too-deep : c ≡ 6 → length s ≤ D .bytes → TooDeep row (tokens 0 s) p e → RefusedAs row s c p e
 
 -- ---- the subterms of a term, and what it is for one to be over a limit
 -- x is a subterm of the other
@@ -110,13 +120,19 @@ abbrev pub AllWithin : List ℕ → List Tree → Type 0
 AllWithin row [] = Unit {0}
 AllWithin row (t ∷ ts) = (overLimit row t ≡ 0) × AllWithin row ts
 
--- "the first offending node in order of finishing decides", with the number e, at the place p where it begins
-pub record FirstOver (row : List ℕ) (t : Tree) (e p : ℕ) : Type 0 where
+-- "the first offending node in order of finishing decides", with the number c, at the place p where it begins and the end e behind it
+pub record FirstOver (row : List ℕ) (t : Tree) (c p e : ℕ) : Type 0 where
   pub before : List Tree
   pub node : Tree
   pub behind : List Tree
   pub parts : finishing t ≡ before ++ (node ∷ behind)
   pub within : AllWithin row before
-  pub number : overLimit row node ≡ e
-  pub over : e ≡ 0 → ⊥
+  pub number : overLimit row node ≡ c
+  pub over : c ≡ 0 → ⊥
   pub place : p ≡ startOf node
+  pub end : e ≡ endOf node
+
+-- All the refusals of a term's text: "3; then 4, 5, 6 at the earliest place; .. then 8, 9, 10": exactly these (text_laws/Accepted)
+pub data TermRefused (D : Dialect) (row s : List ℕ) (c p e : ℕ) : Type 0 where
+  no-term : RefusedAs D row s c p e → TermRefused D row s c p e
+  over-limit : (t : Tree) → IsTerm D row s t → FirstOver row t c p e → TermRefused D row s c p e

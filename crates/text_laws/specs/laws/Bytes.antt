@@ -1,12 +1,15 @@
--- Tests on bytes and texts, as facts.
+-- Tests on bytes and texts, as facts; and what two refusals have in common.
 use mathlib.Core.Bool.{Bool, true, false, _&&_, _||_, true≢false}
 use mathlib.Core.List.{List, [], _∷_, _++_}
-use mathlib.Core.Path.{_≡_, refl, sym, ap₂, _∙_}
+use mathlib.Core.Path.{_≡_, refl, sym, ap, ap₂, _∙_}
 use Prim.Native.Nat.{ℕ, _≤_}
+use native.Mathlib.Omega.{arith}
 use Rattle.horner.specs.definitions.Measures.{AllLe}
 use borrow.Author.Tests.{eqb-true, leb-true, eq-eqb, le-leb}
 use lib.Dec.{eqb, leb}
-use Rattle.text.specs.definitions.Bytes.{same, all, digit}
+use Rattle.refusal.specs.Refusal.{fault}
+use Rattle.refusal.specs.declared.Fault.{Fault}
+use Rattle.text.specs.definitions.Bytes.{same, all, digit, Reading, read, refusedAt}
 
 -- ---- Booleans
 pub not-both : {b : Bool} → b ≡ true → b ≡ false → ⊥
@@ -57,3 +60,12 @@ all-le (d ∷ ds) e = (leb-true d 63 (and-l (leb d 63) (all (λ d. leb d 63) ds)
 pub le-all : (ds : List ℕ) → AllLe 63 ds → all (λ d. leb d 63) ds ≡ true
 le-all [] h = refl
 le-all (d ∷ ds) h = and-i (le-leb d 63 (h .0)) (le-all ds (h .1))
+
+-- ---- answers
+pub no-refusal : {A : Type 0} {e p : ℕ} {a : A} {P : Type 0} → refusedAt e p ≡ read a → P
+no-refusal h = let z : _≡_ {A = ℕ} 0 1 = cc in absurd (omega arith)
+
+pub refusal-parts : {A : Type 0} (e p e′ p′ : ℕ) → _≡_ {A = Reading A} (refusedAt e p) (refusedAt e′ p′) → (e′ ≡ e) × (p′ ≡ p)
+refusal-parts e p e′ p′ h =
+    let same : fault e′ p′ ≡ fault e p = cc in
+    (ap (λ (f : Fault). f .number) same, ap (λ (f : Fault). f .place) same)

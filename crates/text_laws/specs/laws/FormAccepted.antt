@@ -15,10 +15,9 @@ use Rattle.horner.specs.definitions.Measures.{AllLe, degrees, weight, terms}
 use Rattle.text.specs.definitions.Bytes.{onward, Reading, read, refused, refusedAt, fine, all}
 use Rattle.text.specs.definitions.FormReading.{Node, nodes, stands, firstWrong, overLimit, formMeasured, formJudged, acceptForm, readForm}
 use Rattle.text.specs.definitions.FormMeaning.{IsFormText, IsForm, AllStand, WrongNode}
-use Rattle.text_laws.specs.laws.Bytes.{all-le, le-all}
+use Rattle.text_laws.specs.laws.Bytes.{all-le, le-all, no-refusal}
 use Rattle.text_laws.specs.laws.FormNormal.{stand-normal, normal-stand}
 use Rattle.text_laws.specs.laws.FormReading.{reads}
-use Rattle.text_laws.specs.laws.Sofar.{no-refusal}
 
 -- ---- the limits
 pub record Fits (m : ℕ) (f : Form ℤ) : Type 0 where

@@ -16,8 +16,7 @@ use Rattle.text.specs.definitions.FormReading.{Frame, Spot, before, number, hea
 use Rattle.text.specs.definitions.FormReading.{wholeOr, check, run}
 use Rattle.text_laws.specs.laws.FormOpen.{Checks, checks-before}
 use Rattle.text_laws.specs.laws.FormSofar.{soFar, SpotOk, StackOk, Held, held-step}
-use Rattle.text_laws.specs.laws.Places.{refusal-parts}
-use Rattle.text_laws.specs.laws.Sofar.{no-refusal}
+use Rattle.text_laws.specs.laws.Bytes.{refusal-parts, no-refusal}
 
 abbrev pub yes′ : ℕ → Bool
 yes′ d = true

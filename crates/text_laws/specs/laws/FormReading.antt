@@ -15,10 +15,9 @@ use Rattle.horner.specs.definitions.Measures.{nest}
 use Rattle.text.specs.definitions.Bytes.{read}
 use Rattle.text.specs.definitions.FormMeaning.{IsFormText}
 use Rattle.text.specs.definitions.FormReading.{before, run, readForm, text}
-use Rattle.text_laws.specs.laws.Bytes.{and-l, and-r, and-i}
+use Rattle.text_laws.specs.laws.Bytes.{and-l, and-r, and-i, no-refusal}
 use Rattle.text_laws.specs.laws.FormSofar.{roomy, run-sound}
 use Rattle.text_laws.specs.laws.FormThrough.{through-all}
-use Rattle.text_laws.specs.laws.Sofar.{no-refusal}
 
 module _ (L : ℕ) where
   abbrev room : ℕ → Bool

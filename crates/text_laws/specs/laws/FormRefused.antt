@@ -22,8 +22,7 @@ use Rattle.text_laws.specs.laws.FormPlaces.{yes′, check-yes, Reached, 
 use Rattle.text_laws.specs.laws.FormReading.{roomy-yes}
 use Rattle.text_laws.specs.laws.FormSofar.{stackBytes, soFar, Held, held-step}
 use Rattle.text_laws.specs.laws.FormThrough.{through-all}
-use Rattle.text_laws.specs.laws.Places.{refusal-parts}
-use Rattle.text_laws.specs.laws.Sofar.{no-refusal}
+use Rattle.text_laws.specs.laws.Bytes.{refusal-parts, no-refusal}
 
 -- a form whose text begins with bytes that lead nowhere
 no-form :

@@ -14,9 +14,8 @@ use Rattle.text.specs.definitions.Bytes.{Reading, read, refusedAt, fine, bytes,
 use Rattle.text.specs.definitions.FormReading.{Frame, inPop, inPow, inRest, Kind, popKind, powKind, Spot, before, number, head, index}
 use Rattle.text.specs.definitions.FormReading.{behind, Next, on, off, intBegun, headBegun, headWord, follow, followInt, indexed, step}
 use Rattle.text.specs.definitions.FormReading.{caseNext, intForm, wholeForm, wholeOr, check, run, text, popHead, powHead}
-use Rattle.text_laws.specs.laws.Bytes.{and-i, same-eq}
+use Rattle.text_laws.specs.laws.Bytes.{and-i, same-eq, no-refusal}
 use Rattle.text_laws.specs.laws.Numerals.{no-none, int-read, decimal-read}
-use Rattle.text_laws.specs.laws.Sofar.{no-refusal}
 
 -- ---- the bytes that a state stands for
 abbrev pub frameBytes : Frame → List ℕ

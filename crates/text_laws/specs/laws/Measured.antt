@@ -8,10 +8,11 @@ use borrow.Author.Tests.{leb-true, leb-false, le-leb}
 use lib.Dec.{leb}
 use lib.ListN.{length}
 use Rattle.horner.specs.definitions.Measures.{weightOf, degreesOf, termsOf, AllLe}
-use Rattle.text.specs.definitions.Bytes.{Reading, read, refusedAt, fine, all}
+use Rattle.text.specs.definitions.Answer.{Reading, read, refused, fine}
+use Rattle.text.specs.definitions.Bytes.{all}
 use Rattle.text.specs.definitions.Limits.{finishing, exponentFits, powersFit, weightFits, termsFit, overLimit, firstPast}
 use Rattle.text.specs.definitions.Meaning.{Part, itself, in-neg, in-left, in-right, in-base, Fits, AllWithin}
-use Rattle.text.specs.definitions.Tree.{Tree, num, letter, neg, two, power, startOf, termOf}
+use Rattle.text.specs.definitions.Tree.{Tree, num, letter, neg, two, power, startOf, endOf, termOf}
 use Rattle.text_laws.specs.laws.Bytes.{and-l, and-r, and-i, all-le, le-all}
 
 -- ---- one node: 0 within the limits, else the lowest number
@@ -19,6 +20,7 @@ module _ (row : List ℕ) (t : Tree) where
   abbrev degs : List ℕ
   degs = degreesOf (length row) (termOf row t)
 
+  -- what a number of the limits says of a node
   pub data Measure (e : ℕ) : Type 0 where
     within : e ≡ 0 → Fits row t → Measure e
     power-over : e ≡ 8 → ((exponentFits t ≡ true) × AllLe 63 degs → ⊥) → Measure e
@@ -27,11 +29,13 @@ module _ (row : List ℕ) (t : Tree) where
         e ≡ 10 → exponentFits t ≡ true → AllLe 63 degs → weightOf (termOf row t) ≤ 1073741823 →
         256 < termsOf (length row) (termOf row t) → Measure e
 
+  -- 0 where it fits
   pub fits-within : Fits row t → overLimit row t ≡ 0
   fits-within h =
       rw (and-i (h .exponent) (le-all degs (h .degrees)), overLimit)
       (rw (le-leb (weightOf (termOf row t)) 1073741823 (h .weight), le-leb (termsOf (length row) (termOf row t)) 256 (h .terms)))
 
+  -- each number says so
   pub measure : Measure (overLimit row t)
   measure = go₁ (powersFit row t) refl
     where
@@ -66,6 +70,7 @@ module _ (row : List ℕ) (t : Tree) where
   fits-of e (weight-over i h k l) z = absurd (omega arith)
   fits-of e (terms-over i h k l m) z = absurd (omega arith)
 
+  -- it fits where the number is 0
   pub within-fits : overLimit row t ≡ 0 → Fits row t
   within-fits e = fits-of (overLimit row t) measure e
 
@@ -84,7 +89,7 @@ module _ (row : List ℕ) where
   within-both (t ∷ ts) us h k = (h .0, within-both ts us (h .1) k)
 
   last-within : (t : Tree) → AllWithin row (finishing t) → overLimit row t ≡ 0
-  last-within (num p z) h = h .0
+  last-within (num p w z) h = h .0
   last-within (letter p b) h = h .0
   last-within (neg p o c x) h = within-right (finishing x) _ h .0
   last-within (two p o c g x y) h = within-right (finishing y) _ (within-right (finishing x) _ h) .0
@@ -98,8 +103,9 @@ module _ (row : List ℕ) where
   parts-fit (in-right p o c g y z q) h = parts-fit q (within-left (finishing z) _ (within-right (finishing y) _ h))
   parts-fit (in-base p o c y q n r) h = parts-fit r (within-left (finishing y) _ h)
 
+  -- and the other way round
   pub fit-parts : (t : Tree) → ((x : Tree) → Part x t → Fits row x) → AllWithin row (finishing t)
-  fit-parts (num p z) h = (fits-within row (num p z) (h (num p z) (itself refl)), tt)
+  fit-parts (num p w z) h = (fits-within row (num p w z) (h (num p w z) (itself refl)), tt)
   fit-parts (letter p b) h = (fits-within row (letter p b) (h (letter p b) (itself refl)), tt)
   fit-parts (neg p o c x) h =
       within-both (finishing x) _ (fit-parts x (λ y q. h y (in-neg p o c x q)))
@@ -117,11 +123,12 @@ module _ (row : List ℕ) where
   all-within r [] h = refl
   all-within r (t ∷ ts) h = rw (h .0) (all-within r ts (h .1))
 
+  -- what the first over a limit says
   pub data Past (t : Tree) (ts : List Tree) (x : Reading Tree) : Type 0 where
     none-over : AllWithin row ts → x ≡ read t → Past t ts x
     one-over :
         (us : List Tree) (u : Tree) (vs : List Tree) (e : ℕ) → ts ≡ us ++ (u ∷ vs) → AllWithin row us → overLimit row u ≡ suc e →
-        x ≡ refusedAt (suc e) (startOf u) → Past t ts x
+        x ≡ refused (suc e) (startOf u) (endOf u) → Past t ts x
 
   past-later : (t u : Tree) (ts : List Tree) (x : Reading Tree) → overLimit row u ≡ 0 → Past t ts x → Past t (u ∷ ts) x
   past-later t u ts x h (none-over a e) = none-over (h, a) e
@@ -129,10 +136,11 @@ module _ (row : List ℕ) where
 
   past-first :
       (t u : Tree) (ts : List Tree) (c : ℕ) → overLimit row u ≡ c → Past t ts (firstPast row (read t) ts) →
-      Past t (u ∷ ts) (fine c (startOf u) (λ v. firstPast row (read t) ts))
+      Past t (u ∷ ts) (fine c (startOf u) (endOf u) (λ v. firstPast row (read t) ts))
   past-first t u ts zero e h = past-later t u ts (firstPast row (read t) ts) e h
   past-first t u ts (suc c) e h = one-over [] u ts c refl tt e refl
 
+  -- each answer says so
   pub past : (t : Tree) (ts : List Tree) → Past t ts (firstPast row (read t) ts)
   past t [] = none-over tt refl
   past t (u ∷ ts) = past-first t u ts (overLimit row u) refl (past t ts)

@@ -2,177 +2,155 @@
 use mathlib.Core.Bool.{Bool, true, false, cond, _&&_, not}
 use mathlib.Core.List.{List, [], _∷_, _++_, append-assoc, append-nil}
 use mathlib.Core.Path.{_≡_, refl, sym, ap, subst, _∙_}
-use Prim.Native.Nat.{ℕ, _≤_, _<_}
+use Prim.Native.Nat.{ℕ, suc, _≤_}
 use native.Mathlib.Omega.{arith}
-use borrow.Author.Tests.{leb-true, leb-false, ltb-true, ltb-false, lt-leb}
-use lib.Dec.{leb, ltb}
+use borrow.Author.Tests.{leb-true, leb-false, ltb-true, ltb-false}
+use lib.Dec.{leb}
 use lib.ListN.{length}
-use Rattle.text.specs.definitions.Bytes.{refusedAt, capital, inRow, Token, opening, closing, word, placeOf, tokens}
-use Rattle.text.specs.definitions.Meaning.{Begun, FirstBad, EndsEarly, Unknown, TooDeep, openAfter, Allowed, Clean, RefusedAs}
-use Rattle.text.specs.definitions.Meaning.{too-long as too-long′, no-term-so, ended, unknown-letter, too-deep}
-use Rattle.text.specs.definitions.Reading.{Frame, Spot, operand, Next, on, step, check, run, readTerm}
-use Rattle.text.specs.definitions.Tree.{Tree, placed, letters}
-use Rattle.text_laws.specs.laws.Begun.{yes′, check-yes, capitals-admits, Live, begun-next}
+use Rattle.dialect.specs.declared.Dialect.{Dialect}
+use Rattle.text.specs.definitions.Answer.{refused, pastOf}
+use Rattle.text.specs.definitions.Bytes.{capital, inRow, Token, opening, closing, word, placeOf, tokens}
+use Rattle.text.specs.definitions.Meaning.{Begun, FirstBad, EndsEarly, openAfter, Allowed, Clean, RefusedAs, too-long}
+use Rattle.text.specs.definitions.Meaning.{no-term-so, ended, unknown-letter, too-deep}
+use Rattle.text.specs.definitions.Reading.{Frame, Spot, operand, Next, on, step, check, wrongAt, run, roomIn, readTerm}
+use Rattle.text.specs.definitions.Tree.{Tree, placed, Proper}
+use Rattle.text_laws.specs.laws.Answer.{no-refusal, refusal-parts}
+use Rattle.text_laws.specs.laws.Begun.{yes′, check-yes, proper-admits, Live, begun-next}
 use Rattle.text_laws.specs.laws.Open.{open-depth, Checks}
-use Rattle.text_laws.specs.laws.Places.{Reached, Refusal, early, bad, past, trace, refusal-parts}
-use Rattle.text_laws.specs.laws.Sofar.{Held, room-check, held-step, no-refusal}
-use Rattle.text_laws.specs.laws.Words.{letter-check}
+use Rattle.text_laws.specs.laws.Places.{Reached, Refusal, early, bad, past, trace}
+use Rattle.text_laws.specs.laws.Sofar.{Held, room-check, held-step}
 use Rattle.text_laws.specs.laws.Through.{goOn, through-all}
+use Rattle.text_laws.specs.laws.Words.{letter-check}
 
 -- ---- the numbers of the checks
 module _ (known room : ℕ → Bool) where
-  check-room : (d e : ℕ) (b : Bool) → room d ≡ b → (e ≡ 0 → ⊥) → e ≡ cond b 0 6 → (e ≡ 6) × (room d ≡ false)
-  check-room d e true k m i = absurd (m i)
-  check-room d e false k m i = (i, k)
+  check-room : (d c : ℕ) (b : Bool) → room d ≡ b → (c ≡ 0 → ⊥) → c ≡ cond b 0 6 → (c ≡ 6) × (room d ≡ false)
+  check-room d c true k m i = absurd (m i)
+  check-room d c false k m i = (i, k)
 
   check-known :
-      (x e : ℕ) (b c : Bool) → capital x ≡ b → known x ≡ c → (e ≡ 0 → ⊥) → e ≡ cond (b && not c) 5 0 →
-      (e ≡ 5) × ((capital x ≡ true) × (known x ≡ false))
-  check-known x e true true k l m i = absurd (m i)
-  check-known x e true false k l m i = (i, (k, l))
-  check-known x e false c k l m i = absurd (m i)
+      (x c : ℕ) (a b : Bool) → capital x ≡ a → known x ≡ b → (c ≡ 0 → ⊥) → c ≡ cond (a && not b) 5 0 →
+      (c ≡ 5) × ((capital x ≡ true) × (known x ≡ false))
+  check-known x c true true k l m i = absurd (m i)
+  check-known x c true false k l m i = (i, (k, l))
+  check-known x c false b k l m i = absurd (m i)
 
   -- what a check refuses
-  data Checked (d e : ℕ) : Token → Type 0 where
-    deep : (p : ℕ) → e ≡ 6 → room d ≡ false → Checked d e (opening p)
-    unknown : (p b : ℕ) → e ≡ 5 → capital b ≡ true → known b ≡ false → Checked d e (word p (b ∷ []))
+  data Checked (d c : ℕ) : Token → Type 0 where
+    deep : (p : ℕ) → c ≡ 6 → room d ≡ false → Checked d c (opening p)
+    unknown : (p b : ℕ) → c ≡ 5 → capital b ≡ true → known b ≡ false → Checked d c (word p (b ∷ []))
 
-  checked : (d e : ℕ) (k : Token) → (e ≡ 0 → ⊥) → e ≡ check known room d k → Checked d e k
-  checked d e (opening p) m i = let r = check-room d e (room d) refl m i in deep p (r .0) (r .1)
-  checked d e (closing p) m i = absurd (m i)
-  checked d e (word p []) m i = absurd (m i)
-  checked d e (word p (b ∷ [])) m i = let r = check-known b e (capital b) (known b) refl refl m i in unknown p b (r .0) (r .1 .0) (r .1 .1)
-  checked d e (word p (b ∷ c ∷ w)) m i = absurd (m i)
+  checked : (d c : ℕ) (k : Token) → (c ≡ 0 → ⊥) → c ≡ check known room d k → Checked d c k
+  checked d c (opening p) m i = let r = check-room d c (room d) refl m i in deep p (r .0) (r .1)
+  checked d c (closing p) m i = absurd (m i)
+  checked d c (word p []) m i = absurd (m i)
+  checked d c (word p (b ∷ [])) m i = let r = check-known b c (capital b) (known b) refl refl m i in unknown p b (r .0) (r .1 .0) (r .1 .1)
+  checked d c (word p (b ∷ b′ ∷ w)) m i = absurd (m i)
 
-module _ (n : ℕ) where
+module _ (D : Dialect) (n : ℕ) where
   -- a term that begins with tokens that lead nowhere
   no-term :
-      (ks ys : List Token) (x : Next) (t : Tree) (e p : ℕ) → Reached n operand [] ks x → letters capital t ≡ true → placed t ≡ ks ++ ys →
-      goOn yes′ yes′ n x ys ≡ refusedAt e p → ⊥
-  no-term ks ys x t e p r c i g =
+      (ks ys : List Token) (x : Next) (t : Tree) (c p e : ℕ) → Reached D n operand [] ks x → Proper D t → placed t ≡ ks ++ ys →
+      goOn D yes′ yes′ n x ys ≡ refused c p e → ⊥
+  no-term ks ys x t c p e r a i g =
       no-refusal {a = t}
-      (sym g ∙ sym (r .goes ys) ∙ ap (run yes′ yes′ n operand []) (sym i) ∙ through-all yes′ yes′ n t (capitals-admits t 0 c))
+      (sym g ∙ sym (r .goes ys) ∙ ap (run D yes′ yes′ n operand []) (sym i) ∙ through-all D yes′ yes′ n t (proper-admits D t 0 a))
 
-  pub ends-early :
-      (row : List ℕ) (ts : List Token) (s : Spot) (fs : List Frame) → Reached n operand [] ts (on s fs) → Clean row 16 0 ts →
-      EndsEarly row 16 ts
+  ends-early :
+      (row : List ℕ) (ts : List Token) (s : Spot) (fs : List Frame) → Reached D n operand [] ts (on s fs) → Clean row (D .depth) 0 ts →
+      EndsEarly D row ts
   ends-early row ts s fs r c =
       record {
         clean = c;
-        begun = begun-next (on s fs) ts tt (r .held);
-        no-term = λ t c i. no-term ts [] (on s fs) t 4 n r c
-            (i ∙ sym (append-nil ts)) refl;
+        begun = begun-next D (on s fs) ts tt (r .held);
+        no-term = λ t a i. no-term ts [] (on s fs) t (D .wrong) n n r a (i ∙ sym (append-nil ts)) refl;
       }
 
-  pub first-bad :
-      (row : List ℕ) (ts ks : List Token) (k : Token) (zs : List Token) (x : Next) (p : ℕ) → ts ≡ ks ++ (k ∷ zs) →
-      Reached n operand [] ks x → Clean row 16 0 ks
-      → ((ys : List Token) → goOn yes′ yes′ n x (k ∷ ys) ≡ refusedAt 4 (placeOf k)) → p ≡ placeOf k → FirstBad row 16 ts p
-  first-bad row ts ks k zs x p f r h g j =
+  first-bad :
+      (row : List ℕ) (ts ks : List Token) (k : Token) (zs : List Token) (x : Next) (p e : ℕ) → ts ≡ ks ++ (k ∷ zs) →
+      Reached D n operand [] ks x → Clean row (D .depth) 0 ks → ((ys : List Token) → goOn D yes′ yes′ n x (k ∷ ys) ≡ wrongAt D k) →
+      p ≡ placeOf k → e ≡ pastOf k → FirstBad D row ts p e
+  first-bad row ts ks k zs x p e f r h g j o =
       record {
         before = ks;
         token = k;
         behind = zs;
         parts = f;
         place = j;
+        end = o;
         clean = h;
-        begun = begun-next x ks (r .live) (r .held);
+        begun = begun-next D x ks (r .live) (r .held);
         ends =
-            λ b. no-term ks (k ∷ b .rest) x (b .term) 4 (placeOf k) r (b .capitals) (b .is ∙ append-assoc ks (k ∷ []) (b .rest))
-            (g (b .rest));
+            λ b. no-term ks (k ∷ b .rest) x (b .term) (D .wrong) (placeOf k) (pastOf k) r (b .proper)
+            (b .is ∙ append-assoc ks (k ∷ []) (b .rest)) (g (b .rest));
       }
 
   -- the token that leads on from where the tokens ks lead
   begun-with :
-      (ks : List Token) (k : Token) (s : Spot) (fs : List Frame) (x : Next) → Reached n operand [] ks (on s fs) → step s fs k ≡ x →
-      Live x → Begun (ks ++ (k ∷ []))
+      (ks : List Token) (k : Token) (s : Spot) (fs : List Frame) (x : Next) → Reached D n operand [] ks (on s fs) → step D s fs k ≡ x →
+      Live x → Begun D (ks ++ (k ∷ []))
   begun-with ks k s fs x r g l =
-      begun-next x (ks ++ (k ∷ [])) l
-      (subst (λ (y : Next). Held yes′ yes′ y (ks ++ (k ∷ []))) g
-      (rw (r .held .0) at (held-step yes′ yes′ s fs k (r .held .1 .0) (r .held .1 .1) (check-yes (length fs) k))))
+      begun-next D x (ks ++ (k ∷ [])) l
+      (subst (λ (y : Next). Held D yes′ yes′ y (ks ++ (k ∷ []))) g
+      (rw (r .held .0) at (held-step D yes′ yes′ s fs k (r .held .1 .0) (r .held .1 .1) (check-yes (length fs) k))))
 
-module _ (row s : List ℕ) where
-  allowed : (d : ℕ) (k : Token) → check (inRow row) (λ d. ltb d 16) d k ≡ 0 → Allowed row 16 d k
-  allowed d (opening q) c = ltb-true d 16 (room-check (inRow row) (λ d. ltb d 16) d c)
+module _ (D : Dialect) (row s : List ℕ) where
+  allowed : (d : ℕ) (k : Token) → check (inRow row) (roomIn D) d k ≡ 0 → Allowed row (D .depth) d k
+  allowed d (opening q) c = ltb-true d (D .depth) (room-check (roomIn D) d c)
   allowed d (closing q) c = tt
   allowed d (word q []) c = tt
-  allowed d (word q (b ∷ [])) c = λ h. letter-check (inRow row) (λ d. ltb d 16) b h c
+  allowed d (word q (b ∷ [])) c = λ h. letter-check (inRow row) b h c
   allowed d (word q (b ∷ b′ ∷ w)) c = tt
 
-  clean : (d : ℕ) (ks : List Token) → Checks (inRow row) (λ d. ltb d 16) d ks → Clean row 16 d ks
+  clean : (d : ℕ) (ks : List Token) → Checks (inRow row) (roomIn D) d ks → Clean row (D .depth) d ks
   clean d [] h = tt
   clean d (k ∷ ks) h = (allowed d k (h .0), clean (openAfter d (k ∷ [])) ks (h .1))
 
-  -- "term over 4,096 bytes", place 0
-  pub too-long : 4096 < length s → readTerm row s ≡ refusedAt 3 0
-  unfolding readTerm
-  too-long h = rw (lt-leb (length s) 4096 h, readTerm)
-
-  place-5-of : (p : ℕ) → Refusal (length s) (inRow row) (λ d. ltb d 16) operand [] (tokens 0 s) 5 p → Unknown row 16 (tokens 0 s) p
-  place-5-of p (early s′ fs′ q h i j) = absurd (omega arith)
-  place-5-of p (bad ks k zs x f q h g i j) = absurd (omega arith)
-  place-5-of p (past ks k zs s′ fs′ x f q h g l i m j) =
-      go k f (begun-with (length s) ks k s′ fs′ x q g l) (checked (inRow row) (λ d. ltb d 16) (length fs′) 5 k m i) j
+  why-of :
+      (c p e : ℕ) → length s ≤ D .bytes → Refusal D (length s) (inRow row) (roomIn D) operand [] (tokens 0 s) c p e →
+      RefusedAs D row s c p e
+  why-of c p e h (early s′ fs′ q v i j o) = ended i h (ends-early D (length s) row (tokens 0 s) s′ fs′ q (clean 0 (tokens 0 s) v)) j o
+  why-of c p e h (bad ks k zs x f q v g i j o) =
+      no-term-so i h (first-bad D (length s) row (tokens 0 s) ks k zs x p e f q (clean 0 ks v) g j o)
+  why-of c p e h (past ks k zs s′ fs′ x f q v g l i m j o) =
+      go k f g (begun-with D (length s) ks k s′ fs′ x q g l) j o (checked (inRow row) (roomIn D) (length fs′) c k m i)
     where
       go :
-          (k : Token) → tokens 0 s ≡ ks ++ (k ∷ zs) → Begun (ks ++ (k ∷ [])) → Checked (inRow row) (λ d. ltb d 16) (length fs′) 5 k →
-          p ≡ placeOf k → Unknown row 16 (tokens 0 s) p
-      go k f b (deep r e o) j = absurd (omega arith)
-      go k f b (unknown r c e v o) j =
-          record {
-            before = ks;
-            letter = c;
-            behind = zs;
-            parts = f ∙ ap (λ (z : ℕ). ks ++ (word z (c ∷ []) ∷ zs)) (sym j);
-            clean = clean 0 ks h;
-            is-capital = v;
-            not-in-row = o;
-            begun = rw j b;
-          }
-
-  place-6-of : (p : ℕ) → Refusal (length s) (inRow row) (λ d. ltb d 16) operand [] (tokens 0 s) 6 p → TooDeep row 16 (tokens 0 s) p
-  place-6-of p (early s′ fs′ q h i j) = absurd (omega arith)
-  place-6-of p (bad ks k zs x f q h g i j) = absurd (omega arith)
-  place-6-of p (past ks k zs s′ fs′ x f q h g l i m j) =
-      go k f g (begun-with (length s) ks k s′ fs′ x q g l) (checked (inRow row) (λ d. ltb d 16) (length fs′) 6 k m i) j
-    where
-      go :
-          (k : Token) → tokens 0 s ≡ ks ++ (k ∷ zs) → step s′ fs′ k ≡ x → Begun (ks ++ (k ∷ [])) →
-          Checked (inRow row) (λ d. ltb d 16) (length fs′) 6 k → p ≡ placeOf k → TooDeep row 16 (tokens 0 s) p
-      go k f g b (deep r e o) j =
-          let d : openAfter 0 ks ≡ length fs′ = ap (openAfter 0) (sym (q .held .0)) ∙ open-depth r s′ fs′ x g l in
-          record {
+          (k : Token) → tokens 0 s ≡ ks ++ (k ∷ zs) → step D s′ fs′ k ≡ x → Begun D (ks ++ (k ∷ [])) → p ≡ placeOf k → e ≡ pastOf k →
+          Checked (inRow row) (roomIn D) (length fs′) c k → RefusedAs D row s c p e
+      go k f g b j o (deep r w u) =
+          let d : openAfter 0 ks ≡ length fs′ = ap (openAfter 0) (sym (q .held .0)) ∙ open-depth D r s′ fs′ x g l in
+          too-deep w h (record {
             before = ks;
             behind = zs;
             parts = f ∙ ap (λ (z : ℕ). ks ++ (opening z ∷ zs)) (sym j);
-            clean = clean 0 ks h;
-            open-before = omega (arith, ltb-false (length fs′) 16 o);
+            end = o ∙ ap suc (sym j);
+            clean = clean 0 ks v;
+            open-before = omega (arith, d, ltb-false (length fs′) (D .depth) u);
             begun = rw j b;
-          }
-      go k f g b (unknown r c e v o) j = absurd (omega arith)
+          })
+      go k f g b j o (unknown r y w u t) =
+          unknown-letter w h (record {
+            before = ks;
+            letter = y;
+            behind = zs;
+            parts = f ∙ ap (λ (z : ℕ). ks ++ (word z (y ∷ []) ∷ zs)) (sym j);
+            end = omega (arith, o, j);
+            clean = clean 0 ks v;
+            is-capital = u;
+            not-in-row = t;
+            begun = rw j b;
+          })
 
-  why-of : (e p : ℕ) → length s ≤ 4096 → Refusal (length s) (inRow row) (λ d. ltb d 16) operand [] (tokens 0 s) e p → RefusedAs row s e p
-  why-of e p h (early s′ fs′ q c i j) = ended i h (ends-early (length s) row (tokens 0 s) s′ fs′ q (clean 0 (tokens 0 s) c)) j
-  why-of e p h (bad ks k zs x f q c g i j) = no-term-so i h (first-bad (length s) row (tokens 0 s) ks k zs x p f q (clean 0 ks c) g j)
-  why-of e p h (past ks k zs s′ fs′ x f q c g l i m j) = go k f q c g l i m j (checked (inRow row) (λ d. ltb d 16) (length fs′) e k m i)
-    where
-      go :
-          (k : Token) → tokens 0 s ≡ ks ++ (k ∷ zs) → Reached (length s) operand [] ks (on s′ fs′) →
-          Checks (inRow row) (λ d. ltb d 16) 0 ks → step s′ fs′ k ≡ x → Live x
-          → e ≡ check (inRow row) (λ d. ltb d 16) (length fs′) k → (e ≡ 0 → ⊥) → p ≡ placeOf k → Checked (inRow row) (λ d. ltb d 16)
-          (length fs′) e k → RefusedAs row s e p
-      go k f q c g l i m j (deep r o v) =
-          too-deep o h (place-6-of p (past ks (opening r) zs s′ fs′ x f q c g l (sym o ∙ i) (omega arith) j))
-      go k f q c g l i m j (unknown r b o u v) =
-          unknown-letter o h (place-5-of p (past ks (word r (b ∷ [])) zs s′ fs′ x f q c g l (sym o ∙ i) (omega arith) j))
-
-  -- each refusal is one that document 01 describes
-  pub why : (e p : ℕ) → readTerm row s ≡ refusedAt e p → RefusedAs row s e p
+  -- each refusal is one that is described
+  pub why : (c p e : ℕ) → readTerm D row s ≡ refused c p e → RefusedAs D row s c p e
   unfolding readTerm
-  why e p r = go (leb (length s) 4096) refl
+  why c p e r = go (leb (length s) (D .bytes)) refl
     where
-      go : (b : Bool) → leb (length s) 4096 ≡ b → RefusedAs row s e p
+      go : (b : Bool) → leb (length s) (D .bytes) ≡ b → RefusedAs D row s c p e
       go true k =
-          why-of e p (leb-true (length s) 4096 k)
-          (trace (inRow row) (λ d. ltb d 16) (length s) (tokens 0 s) operand [] e p tt tt (rw (k, readTerm) at r))
-      go false k = let q = refusal-parts 3 0 e p (rw (k, readTerm) at r) in too-long′ (q .0) (q .1) (leb-false (length s) 4096 k)
+          why-of c p e (leb-true (length s) (D .bytes) k)
+          (trace D (inRow row) (roomIn D) (length s) (tokens 0 s) operand [] c p e (tt, tt) (rw (k, readTerm) at r))
+      go false k =
+          let q = refusal-parts 3 0 0 c p e (rw (k, readTerm) at r) in
+          too-long (q .0) (q .1) (q .2) (leb-false (length s) (D .bytes) k)

@@ -6,6 +6,8 @@ use native.Mathlib.Omega.{arith}
 use mathlib.Core.Bool.{true}
 use lib.IntN.{ℤ}
 use lib.ListN.{length}
+use Rattle.dialect.specs.Dialects.{ordinary}
+use Rattle.dialect.specs.declared.Dialect.{Dialect}
 use Rattle.horner.specs.definitions.Form.{Form, int, pop, pow, size, Normal, tl, after}
 use Rattle.horner.specs.definitions.Rings.{ℤ-ring}
 use Rattle.horner.specs.laws.Degree.{Bounded, total}
@@ -14,15 +16,17 @@ use Rattle.horner.specs.definitions.Term.{normℤ}
 use Rattle.horner.specs.laws.Room.{words-3073, nest-total}
 use Rattle.horner.specs.laws.Limits.{weight-norm, length-degreesOf, bounded-norm, count-norm}
 use Rattle.horner.specs.laws.Term.{normal-norm}
+use Rattle.text.specs.definitions.Answer as A
 use Rattle.text.specs.definitions.Bytes.{read, isRow}
 use Rattle.text.specs.definitions.FormReading.{acceptForm, text}
 use Rattle.text.specs.definitions.FormMeaning.{IsForm}
-use Rattle.text.specs.definitions.Limits.{acceptTerm}
+use Rattle.text.specs.definitions.Limits.{accept, acceptTerm}
 use Rattle.text.specs.definitions.Meaning.{itself}
 use Rattle.text.specs.definitions.Tree.{Tree, termOf}
 use Rattle.text_laws.specs.laws.Accepted.{accepts as term-accepts}
 use Rattle.text_laws.specs.laws.FormAccepted.{accepts}
 use Rattle.text_laws.specs.laws.Length.{text-length}
+use Rattle.text_laws.specs.laws.Ordinary.{accepted}
 use Rattle.text_laws.specs.laws.Rows.{row-length, letters-over}
 
 -- ---- the degrees of a form are below every bound; a missing one counts as 0
@@ -79,16 +83,17 @@ total-le [] h = omega arith
 total-le (d ∷ ds) h = omega (arith, h .0, total-le ds (h .1))
 
 -- ---- the form of an accepted term
-module _ (row s : List ℕ) (t : Tree) (r : isRow row ≡ true) (e : acceptTerm row s ≡ read t) where
+module _ (D : Dialect) (row s : List ℕ) (t : Tree) (r : isRow row ≡ true) (e : accept D row s ≡ A.read t) where
   abbrev n : ℕ
   n = length row
 
   abbrev f : Form ℤ
   f = normℤ (termOf row t)
 
-  pub result-form : (length (text f) ≤ 33803) × IsForm n (text f) f
-  result-form =
-      let a = term-accepts row s t .0 e in
+  -- its text is short, and the text of a form within the limits
+  pub dialect-form : (length (text f) ≤ 33803) × IsForm n (text f) f
+  dialect-form =
+      let a = term-accepts D row s t .0 e in
       let k = a .1 t (itself refl) in
       let o = letters-over row t (a .0 .in-row) in
       let m : n ≤ 4 = row-length row r .1 in
@@ -111,5 +116,12 @@ module _ (row s : List ℕ) (t : Tree) (r : isRow row ≡ true) (e : acceptTerm 
         },
       )
 
-  pub result-accepted : acceptForm n (text f) ≡ read f
-  result-accepted = accepts n (text f) f .1 (result-form .1)
+-- document 01's own terms
+module _ (row s : List ℕ) (t : Tree) (r : isRow row ≡ true) (e : acceptTerm row s ≡ read t) where
+  pub result-form :
+      (length (text (normℤ (termOf row t))) ≤ 33803) × IsForm (length row) (text (normℤ (termOf row t))) (normℤ (termOf row t))
+  result-form = dialect-form ordinary row s t r (accepted row s t e)
+
+  -- read back it is that form
+  pub result-accepted : acceptForm (length row) (text (normℤ (termOf row t))) ≡ read (normℤ (termOf row t))
+  result-accepted = accepts (length row) (text (normℤ (termOf row t))) (normℤ (termOf row t)) .1 (result-form .1)

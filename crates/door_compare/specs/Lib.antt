@@ -1,0 +1,3 @@
+-- The call `compare`. Its reply is defined in crates/reply.
+pub mod Compare
+pub mod laws

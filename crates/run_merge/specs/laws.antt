@@ -1,0 +1,4 @@
+pub mod Steps
+pub mod Coding
+pub mod Products
+pub mod Room

@@ -1,3 +1,0 @@
--- The first tokens of a term.
-pub mod Standing
-pub mod laws

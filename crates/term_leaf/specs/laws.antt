@@ -1,0 +1,4 @@
+pub mod Tokens
+pub mod Integers
+pub mod Words
+pub mod Answers

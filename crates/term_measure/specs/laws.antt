@@ -1,0 +1,4 @@
+pub mod Judged
+pub mod One
+pub mod Packed
+pub mod Two

@@ -1,0 +1,6 @@
+pub mod Steps
+pub mod Parts
+pub mod Operands
+pub mod Seconds
+pub mod Powers
+pub mod Whole
