@@ -11,7 +11,6 @@ import collections, pathlib, re, sys
 
 # Statements that stand for their own sake, and why.
 ALLOWED = {
-    ("crates/book/specs/laws/Lines.antt", "sided"): "a refused comparison in a book speaks of one of the two bodies: its line says E or C",
     ("crates/term_tree/specs/Codes.antt", "dec-enc"): "the words of a tree show what they are said to show",
     ("crates/text_laws/specs/laws/FormNodes.antt", "wrong-stands"): "`nodes` counts bytes: at the place of a node stands its text",
 }

@@ -1,11 +1,14 @@
 //! What every call has to answer, and what every lent buffer has to hold afterwards, on tables and buffers one short, exact and longer: the output of crate `trials`.
 
-use crate::desk;
+use crate::{book, desk};
 
 const FIXED: usize = 16_384;
 const BEYOND: usize = 7;
 const RESULT: usize = 64;
 const TRIES: usize = 12;
+
+/// The row X and one entry, `X` twice.
+const BOOK: &[u8] = b"\x01X\x01\x0b\x00\x01\x00\x0c\x00\x01\x00XX";
 
 /// A call's fields as in a request line of the desk, without word and row; the first text is cut in try 10, the second in try 11.
 fn requests() -> Vec<(&'static str, Vec<&'static str>)> {
@@ -19,12 +22,17 @@ fn requests() -> Vec<(&'static str, Vec<&'static str>)> {
         ("form_remainder", vec!["(POW 3 1 (POW 1 1 0))"]),
         ("compare", vec!["(* X Y)", "0"]),
         ("counters", vec!["(* 256 X)", "0"]),
+        ("print_book", vec![]),
         ("judge", vec!["(POW 2 1 (POW 2 -1 0))"]),
     ]
 }
 
 /// The answer of a call to which nothing short was lent, by the desk.
 fn served(call: &str, fields: &[&str], k: usize) -> String {
+    // a text is answered as the desk answers one
+    if call == "print_book" {
+        return format!("FORM {}", book::print(&BOOK[..BOOK.len() - usize::from(k == 10)]));
+    }
     let left = cut(fields[0], k == 10);
     let mut line = vec![call.replace('_', ""), "XY".to_string()];
     if call == "counters" {
@@ -57,7 +65,7 @@ fn point_length(k: usize) -> usize {
 fn trial(call: &str, fields: &[&str], k: usize) -> String {
     let tables = call != "judge";
     let buffer_short = call == "compare" && k == 8;
-    let (mut answer, touched) = if k == 6 || k == 7 {
+    let (mut answer, touched) = if call != "print_book" && (k == 6 || k == 7) {
         ("REFUSED 1 neither 0".to_string(), false)
     } else if tables && ((1..=4).contains(&k) || buffer_short) {
         ("REFUSED 2 neither 0".to_string(), false)
@@ -95,7 +103,7 @@ fn trial(call: &str, fields: &[&str], k: usize) -> String {
 /// All lines: try by try those of the calls with tables, then those of `judge`.
 pub fn lines() -> String {
     let calls = requests();
-    let (judge, others) = calls.split_last().expect("ten calls");
+    let (judge, others) = calls.split_last().expect("eleven calls");
     let line = |k: usize, call: &(&str, Vec<&str>)| trial(call.0, &call.1, k);
     let with_tables = (0..TRIES).flat_map(|k| others.iter().map(move |call| line(k, call)));
     with_tables.chain((0..TRIES).map(|k| line(k, judge))).collect()

@@ -1,2 +1,3 @@
 -- Read in this order.
+pub mod Meaning
 pub mod Book

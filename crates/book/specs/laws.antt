@@ -1,1 +1,4 @@
+pub mod Fields
+pub mod Checked
+pub mod Meaning
 pub mod Lines

@@ -1,7 +1,7 @@
 -- A number put for the first variable, in the ring of a width, under short names.
 use Prim.Native.Nat.{ℕ, _-_}
 use Rattle.horner.specs.definitions.Form.{Form, lower}
-use Rattle.horner.specs.definitions.Points.{atFirst}
+use Rattle.horner.specs.laws.First.{atFirst}
 use Rattle.code.specs.Widths.{Leaf, ringOf, leaf}
 
 -- what (POP i p) is without its first variable

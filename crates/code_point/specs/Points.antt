@@ -4,7 +4,7 @@ use mathlib.Core.List.{List}
 use mathlib.Core.Path.{_≡_}
 use Prim.Native.Nat.{ℕ, _≤_, _<_}
 use Rattle.horner.specs.definitions.Form.{Form, isZero, Normal}
-use Rattle.horner.specs.definitions.Points.{firstPoint}
+use Rattle.horner.specs.laws.First.{firstPoint}
 use Rattle.code.specs.Coding.{limits}
 use Rattle.code.specs.Widths.{Leaf, ringOf}
 use Rattle.code_first.specs.First.{atFirstOf}

@@ -9,31 +9,32 @@ use lib.Dec.{T}
 use lib.IntN.{ℤ, natAbs}
 use lib.ListN.{length}
 use Rattle.horner.specs.definitions.Measures.{coefAt, maxs, sums, multiples, box, AllLe, weightOf, degreesOf, termsOf, weight}
-use Rattle.horner.specs.definitions.Measures.{one-if, count, terms, degrees, nest}
+use Rattle.horner.specs.definitions.Measures.{one-if, count, terms, degrees, nest, sumBox, monomial}
 use Rattle.horner.specs.definitions.Form.{Form, pop, pow, size, isZero, mkpop, mkpow, sum, negate, prod, raise, Normal, evalh, nats}
 use Rattle.horner.specs.definitions.Rings.{ℤ-ring, Res, redℤ, prime, prime-pos, P-ring, Ring, power}
 use Rattle.horner.specs.laws.Within.{Within, Over}
 use Rattle.horner.specs.laws.Degree.{Bounded}
-use Rattle.horner.specs.definitions.Points.{InBox, Before, firstPoint, gap, sides, IsPoint}
+use Rattle.horner.specs.definitions.Points.{InBox, Before, leaves, IsPoint, pointOf}
 use Rattle.horner.specs.laws.Residues.{lift}
-use Rattle.horner.specs.definitions.Term.{Term, evalp, norm, normℤ, evalℤ, normP, evalP}
-use Rattle.horner.specs.laws.Answer.{same-iff, gap-zero, degrees-normP, point-is, point-unique, point-before}
+use Rattle.horner.specs.definitions.Term.{Term, evalp, norm, normℤ, evalℤ, normP}
+use Rattle.horner.specs.laws.Answer.{gap, same-iff, gap-zero, degrees-normP, point-is}
 use Rattle.horner.specs.laws.Cancel.{cancel}
 use Rattle.horner.specs.laws.Canonical.{canon-ℤ}
 use Rattle.horner.specs.laws.Carry.{carry, carry-sum, carry-negate, carry-prod, carry-raise, lift-carry}
-use Rattle.horner.specs.laws.Coefficients.{val-sumBox, weight-sumBox, count-sumBox, sumBox, monomial}
+use Rattle.horner.specs.laws.Coefficients.{val-sumBox, weight-sumBox, count-sumBox}
 use Rattle.horner.specs.laws.Decide.{equal-ℤ, equal-res, isNormal-is, eqForm, eqℤ, eqRes, isNormal}
 use Rattle.horner.specs.laws.Evalh.{evalh-val, evalh-mkpop, evalh-mkpow, evalh-sum, evalh-negate, evalh-prod, evalh-raise}
-use Rattle.horner.specs.laws.First.{first-is, IsFirst}
+use Rattle.horner.specs.laws.First.{firstPoint, first-is, IsFirst}
 use Rattle.horner.specs.laws.Grid.{grid}
 use Rattle.horner.specs.laws.Highest.{in-bounds, Reaches, reaches}
 use Rattle.horner.specs.laws.Hom.{mapForm}
 use Rattle.horner.specs.laws.Lifting.{residue, exact}
 use Rattle.horner.specs.laws.Normal.{normal-mkpop, normal-mkpow, normal-sum, normal-negate, normal-prod, normal-raise}
+use Rattle.horner.specs.laws.Points.{point-unique, point-before}
 use Rattle.horner.specs.laws.Roots.{Regular}
 use Rattle.horner.specs.laws.Room.{size-pows, pows-count, pows-box, words-3073, norm-words, nest-255, pows}
 use Rattle.horner.specs.laws.Table.{Fits, sum-fits, prod-fits, negate-fits, raise-fits, norm-fits}
-use Rattle.horner.specs.laws.Term.{evalh-norm, normal-norm, theorem-1}
+use Rattle.horner.specs.laws.Term.{evalh-norm, normal-norm, theorem-1, only-form}
 use Rattle.horner.specs.laws.Value.{Zero, val}
 
 module _ {A : Type 0} (R : Ring A) where
@@ -128,6 +129,11 @@ pub theorem-one : (n : ℕ) (f g : Term) → Over n f → Over n g
     → (normℤ f ≡ normℤ g) ↔ ((N : List ℤ) → length N ≡ n → evalℤ f N ≡ evalℤ g N)
 theorem-one = theorem-1
 
+-- of all normal forms only the term's own has its values, be it at the points of natural numbers alone
+pub one-normal-form : (n : ℕ) (t : Term) → Over n t → (x : Form ℤ) → Normal ℤ-ring n x
+    → ((N : List ℕ) → length N ≡ n → evalh ℤ-ring x (nats ℤ-ring N) ≡ evalℤ t (nats ℤ-ring N)) → x ≡ normℤ t
+one-normal-form = only-form
+
 -- equality of forms is decided by a test, over the integers and over the remainders by m
 pub equality-decided : (x y : Form ℤ) → T (eqForm eqℤ x y) ↔ (x ≡ y)
 equality-decided = equal-ℤ
@@ -149,22 +155,22 @@ module _ {A : Type 0} (R : Ring A) where
       → isZero R x ≡ false → IsFirst R ds x (firstPoint R ds x)
   first-point = first-is R
 
--- two terms that differ: it is demand 3's point
+-- two terms that differ: the search through the box finds demand 3's point
 pub point-of-demand : (n : ℕ) (f g : Term) → Within n f → Within n g → isZero P-ring (gap f g) ≡ false
-    → IsPoint n f g (firstPoint P-ring (sides n f g) (gap f g))
+    → IsPoint prime n f g (pointOf prime n f g)
 point-of-demand = point-is
 
--- its bounds, the degrees of the two forms over the remainders, are those of the forms over the integers
+-- the degrees of a form over the remainders are those of the form over the integers
 pub point-bounds : (n : ℕ) (t : Term) → Within n t → degrees n (normP t) ≡ degrees n (normℤ t)
 point-bounds = degrees-normP
 
--- there is no other such point
-pub point-only : (n : ℕ) (f g : Term) → length (sides n f g) ≡ n → (M N : List ℕ) → IsPoint n f g M → IsPoint n f g N → M ≡ N
+-- by every modulus: there is no other such point
+pub point-only : (m n : ℕ) (f g : Term) (M N : List ℕ) → IsPoint m n f g M → IsPoint m n f g N → M ≡ N
 point-only = point-unique
 
 -- and it comes before every other one at which the remainders differ
-pub point-first : (n : ℕ) (f g : Term) → length (sides n f g) ≡ n → (N : List ℕ) → IsPoint n f g N
-    → (M : List ℕ) → length M ≡ n → (evalP f M ≡ evalP g M → ⊥) → (M ≡ N) ⊎ Before N M
+pub point-first : (m n : ℕ) (f g : Term) (N : List ℕ) → IsPoint m n f g N
+    → (M : List ℕ) → length M ≡ n → (leaves m f M ≡ leaves m g M → ⊥) → (M ≡ N) ⊎ Before N M
 point-first = point-before
 
 -- ==== Remainders by P = 2,147,483,647

@@ -17,6 +17,7 @@ pub mod Degree
 pub mod Bounds
 pub mod Canonical
 pub mod First
+pub mod Points
 pub mod Domain
 pub mod Prime
 pub mod Hom

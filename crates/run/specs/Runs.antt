@@ -5,7 +5,7 @@ use mathlib.Core.List.{List, [], _∷_, map, _++_}
 use mathlib.Core.Path.{_≡_}
 use Prim.Native.Nat.{ℕ, zero, suc, _+_, _-_}
 use lib.ListN.{length}
-use Rattle.horner.specs.laws.Coefficients.{monomial}
+use Rattle.horner.specs.definitions.Measures.{monomial}
 use Rattle.horner.specs.definitions.Form.{Form, int, pop, pow, mkpop, mkpow, zeroForm, sum}
 use Rattle.horner.specs.definitions.Measures.{zeros, sums}
 use Rattle.horner.specs.definitions.Rings.{Ring}

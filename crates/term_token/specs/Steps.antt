@@ -1,16 +1,11 @@
 -- What the token reader hands on: the first of the tokens that stand from a place on, with the reader past it.
-use mathlib.Core.Bool.{Bool, true, false, not, _&&_}
+use mathlib.Core.Bool.{Bool, true, false}
 use mathlib.Core.List.{List, [], _∷_}
 use Prim.Native.Nat.{ℕ, suc, _+_}
-use lib.Dec.{eqb}
 use lib.ListN.{length}
-use Rattle.text.specs.definitions.Bytes.{blank, Token, opening, closing, word}
+use Rattle.text.specs.definitions.Bytes.{Token, opening, closing, word}
 use Rattle.term_token.specs.declared.Step.{Step}
 use Rattle.term_token.specs.declared.Step.the-variants.{Open, Close, Word, End}
-
--- neither blank nor parenthesis
-abbrev pub plain : ℕ → Bool
-plain x = not (blank x) && (not (eqb x 40) && not (eqb x 41))
 
 abbrev pub more : Bool → ℕ → ℕ
 more true n = suc n

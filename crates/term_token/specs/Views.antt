@@ -11,23 +11,15 @@ use lib.ListN.{length, take, drop, getD, drop-of-length-le, length-drop}
 use lib.Seq.{drop-cons, drop-drop, length-take-le, getD-drop}
 use borrow.Author.Tests.{ne-eqb, eqb-true, eqb-false}
 use Rattle.horner.specs.laws.Compare.{lt-or-ge}
-use Rattle.text.specs.definitions.Bytes.{blank, Token, opening, closing, word, tokens}
+use Rattle.text.specs.definitions.Bytes.{blank, Token, opening, closing, word, tokens, inWord}
+use Rattle.text_laws.specs.laws.Tokens.{tokens-gap, tokens-open, tokens-close}
 use Rattle.term_token.specs.declared.Reader.{Reader}
 use Rattle.term_token.specs.declared.Step.{Step}
 use Rattle.term_token.specs.declared.Step.the-variants.{Open, Close, Word, End}
-use Rattle.term_token.specs.Steps.{plain, more, lead, stepOf}
-use Rattle.term_token.specs.Tokens.{tokens-gap, tokens-open, tokens-close, tokens-word}
+use Rattle.term_token.specs.Steps.{more, lead, stepOf}
+use Rattle.term_token.specs.Tokens.{lead-le, tokens-run}
 
 -- ---- the bytes that pass a test
-pub lead-le : (t : ℕ → Bool) (xs : List ℕ) → lead t xs ≤ length xs
-unfolding lead
-lead-le t [] = omega arith
-lead-le t (x ∷ xs) = at (t x) (lead-le t xs)
-  where
-    at : (b : Bool) → lead t xs ≤ length xs → more b (lead t xs) ≤ suc (length xs)
-    at true h = omega arith
-    at false h = omega arith
-
 -- where they end, the test fails
 lead-stop : (t : ℕ → Bool) (xs : List ℕ) → lead t xs < length xs → t (getD xs (lead t xs) 0) ≡ false
 unfolding lead
@@ -73,9 +65,9 @@ module _ (s : List ℕ) where
     from-close : getD s b 0 ≡ 41 → from b ≡ closing b ∷ from (suc b)
     from-close e = from-cons ∙ tokens-close b (getD s b 0) (drop (suc b) s) e
 
-    from-word : (n : ℕ) → lead plain (drop b s) ≡ suc n → from b ≡ word b (take (suc n) (drop b s)) ∷ from (b + suc n)
+    from-word : (n : ℕ) → lead inWord (drop b s) ≡ suc n → from b ≡ word b (take (suc n) (drop b s)) ∷ from (b + suc n)
     from-word n e =
-        tokens-word b (drop b s) n e ∙ ap (λ ys. word b (take (suc n) (drop b s)) ∷ tokens (b + suc n) ys) (drop-drop (suc n) b s)
+        tokens-run b (drop b s) n e ∙ ap (λ ys. word b (take (suc n) (drop b s)) ∷ tokens (b + suc n) ys) (drop-drop (suc n) b s)
 
   from-end : (b : ℕ) → length s ≤ b → from b ≡ []
   unfolding tokens
@@ -88,11 +80,11 @@ module _ (s : List ℕ) where
 
   -- a byte that is neither blank nor parenthesis begins a word
   lead-some : (b : ℕ) → b < length s → blank (getD s b 0) ≡ false → (getD s b 0 ≡ 40 → ⊥) → (getD s b 0 ≡ 41 → ⊥)
-      → lead plain (drop b s) ≡ suc (lead plain (drop (suc b) s))
+      → lead inWord (drop b s) ≡ suc (lead inWord (drop (suc b) s))
   unfolding lead
   lead-some b h g l r =
-      ap (lead plain) (drop-cons s b 0 h)
-      ∙ ap (λ c. more c (lead plain (drop (suc b) s))) (three (blank x) (eqb x 40) (eqb x 41) g (ne-eqb x 40 l) (ne-eqb x 41 r))
+      ap (lead inWord) (drop-cons s b 0 h)
+      ∙ ap (λ c. more c (lead inWord (drop (suc b) s))) (three (blank x) (eqb x 40) (eqb x 41) g (ne-eqb x 40 l) (ne-eqb x 41 r))
     where
       x : ℕ
       x = getD s b 0
@@ -155,20 +147,20 @@ module _ (s : List ℕ) (at : ℕ) (l : at ≤ length s) where
 
   -- the run from the first place that has no blank
   abbrev pub width : ℕ
-  width = lead plain (drop (begin s at) s)
+  width = lead inWord (drop (begin s at) s)
 
   width-le : begin s at + width ≤ length s
-  width-le = omega (arith, lead-le plain (drop (begin s at) s), length-drop (begin s at) s, begin-le)
+  width-le = omega (arith, lead-le inWord (drop (begin s at) s), length-drop (begin s at) s, begin-le)
 
   pub says-word : begin s at < length s → (getD s (begin s at) 0 ≡ 40 → ⊥) → (getD s (begin s at) 0 ≡ 41 → ⊥)
       → Worded s at (begin s at) (record { at = begin s at + width })
   says-word h n m =
-      let e : width ≡ suc (lead plain (drop (suc (begin s at)) s)) = lead-some s (begin s at) h (begin-no-blank s at l h) n m in
-      let f : begin s at + width - begin s at ≡ suc (lead plain (drop (suc (begin s at)) s)) = omega arith in
+      let e : width ≡ suc (lead inWord (drop (suc (begin s at)) s)) = lead-some s (begin s at) h (begin-no-blank s at l h) n m in
+      let f : begin s at + width - begin s at ≡ suc (lead inWord (drop (suc (begin s at)) s)) = omega arith in
       record {
         first =
-            from-begin s at ∙ from-word s (begin s at) h (lead plain (drop (suc (begin s at)) s)) e
-            ∙ ap (λ q. word (begin s at) (take (suc (lead plain (drop (suc (begin s at)) s))) (drop (begin s at) s)) ∷ from s
+            from-begin s at ∙ from-word s (begin s at) h (lead inWord (drop (suc (begin s at)) s)) e
+            ∙ ap (λ q. word (begin s at) (take (suc (lead inWord (drop (suc (begin s at)) s))) (drop (begin s at) s)) ∷ from s
             (begin s at + q)) (sym e)
             ∙ ap (λ q. word (begin s at) (take q (drop (begin s at) s)) ∷ from s (begin s at + width)) (sym f);
         past = record { later = omega arith; more = omega arith; inside = width-le };

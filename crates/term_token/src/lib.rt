@@ -2,8 +2,8 @@
 ghost use mathlib.Core.Path.{_≡_};
 ghost use Prim.Native.Nat.{_≤_, _<_};
 ghost use lib.ListN.{length, drop};
-ghost use Rattle.text.specs.definitions.Bytes.{blank, tokens};
-ghost use Rattle.term_token.specs.Steps.{plain, lead, stepOf};
+ghost use Rattle.text.specs.definitions.Bytes.{blank, tokens, inWord};
+ghost use Rattle.term_token.specs.Steps.{lead, stepOf};
 
 // How far a text has been read. Each method consumes it, and hands on the token together with the advanced reader.
 pub struct Reader {
@@ -28,7 +28,7 @@ fn is_blank(b: u8) -> bool
 }
 
 fn is_plain(b: u8) -> bool
-    ensures { λ r. ⌜ r ≡ plain b ⌝ }
+    ensures { λ r. ⌜ r ≡ inWord b ⌝ }
 {
     if is_blank(b) {
         return false;
@@ -58,7 +58,7 @@ fn skip(s: &[u8], at: usize) -> usize
 // The end of the run of bytes that are neither blank nor parenthesis.
 fn run(s: &[u8], at: usize) -> usize
     requires { ⌜ at ≤ length (now s) ⌝ }
-    ensures { λ r. ⌜ r ≡ Prim.Native.Nat._+_ at (lead plain (drop at (now (s .entry)))) ⌝ }
+    ensures { λ r. ⌜ r ≡ Prim.Native.Nat._+_ at (lead inWord (drop at (now (s .entry)))) ⌝ }
     ensures { λ r. ⌜ r ≤ length (now (s .entry)) ⌝ }
 {
     let mut i = at;

@@ -7,9 +7,9 @@ use lib.Dec.{T, eqb}
 use lib.ListN.{length}
 use Rattle.dialect.specs.Dialects.{ordinary, withHex, panelTerms}
 use Rattle.dialect.specs.declared.Dialect.{Dialect}
-use Rattle.horner.specs.definitions.Points.{firstPoint, gap, sides}
-use Rattle.horner.specs.definitions.Rings.{P-ring}
-use Rattle.horner.specs.definitions.Term.{Term, normℤ, evalP}
+use Rattle.horner.specs.definitions.Points.{pointOf, leaves}
+use Rattle.horner.specs.definitions.Rings.{prime}
+use Rattle.horner.specs.definitions.Term.{Term, normℤ}
 use Rattle.text.specs.definitions.Answer.{Reading, read, refused}
 use Rattle.text.specs.definitions.Bytes.{bytes, same, decimal}
 use Rattle.text.specs.definitions.FormReading.{text}
@@ -32,7 +32,7 @@ isRefused (read t) c p e = false
 isRefused (refused c′ p′ e′) c p e = eqb c′ c && (eqb p′ p && eqb e′ e)
 
 abbrev pub isPoint : ℕ → Term → Term → List ℕ → ℕ → ℕ → Bool
-isPoint n f g N l r = same (firstPoint P-ring (sides n f g) (gap f g)) N && (eqb (evalP f N .0) l && eqb (evalP g N .0) r)
+isPoint n f g N l r = same (pointOf prime n f g) N && (eqb (leaves prime f N) l && eqb (leaves prime g N) r)
 
 abbrev pub areDifferent : List ℕ → Reading Tree → Reading Tree → List ℕ → ℕ → ℕ → Bool
 areDifferent row (read t) (read u) N l r = isPoint (length row) (termOf row t) (termOf row u) N l r

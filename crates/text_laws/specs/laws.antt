@@ -5,6 +5,8 @@ pub mod Numerals
 pub mod Prefixes
 pub mod Answer
 pub mod Words
+-- the tokens are those that the text is parted into
+pub mod Tokens
 -- a text reads as a term of a dialect exactly when its tokens are the term's (Reading); where and why it is refused (Refused, Exactly)
 pub mod Sofar
 pub mod Through

@@ -1,6 +1,6 @@
 // Every call on tables and buffers of every telling length: one short, exact, longer, full of ones beforehand; on an empty and an
 // over-long row. For each try one line: the call, the try's number, the answer, what the result and the point buffer then hold, and how
-// many words of each table are not 0.
+// many words of each table are not 0. (A printed book has lines of its own.)
 mod lent;
 mod saying;
 mod telling_tries;
@@ -14,6 +14,7 @@ use crate::saying::end;
 use crate::saying::say_judged;
 use crate::saying::say_written;
 use crate::telling_tries::try_telling;
+use crate::writing_tries::try_print;
 use crate::writing_tries::try_writing;
 
 const TRIES: u32 = 12;
@@ -33,6 +34,9 @@ fn try_lent(
 ) {
     if call < 5 {
         return say_written(try_writing(call, k, row, result, a, b, c, d));
+    }
+    if call == 9 {
+        return say_written(try_print(k, result, a, b, c, d));
     }
     try_telling(call, k, row, at, point, a, b, c, d);
 }
@@ -96,7 +100,7 @@ fn try_call(call: u32, k: u32, row: &[u8], at: &[i32]) {
 // `judge`, which takes no tables.
 fn try_judge(k: u32, row: &[u8]) {
     let m = letters(k, row.len());
-    begin(9, k);
+    begin(10, k);
     say_judged(call_judge::judge(&row[..m], given(k, 10, b"(POW 2 1 (POW 2 -1 0))")));
     io::write_all(1, b"\n");
 }
@@ -110,11 +114,11 @@ fn try_judges(row: &[u8]) {
     }
 }
 
-// Every other call in every try: nine calls to a try.
+// Every other call in every try: ten calls to a try.
 fn try_calls(row: &[u8], at: &[i32]) {
     let mut turn = 0;
-    while turn < 9 * TRIES {
-        try_call(turn % 9, turn / 9, row, at);
+    while turn < 10 * TRIES {
+        try_call(turn % 10, turn / 10, row, at);
         turn += 1;
     }
 }

@@ -92,7 +92,7 @@ pub fn say_judged(answer: Judged) {
     }
 }
 
-// The call's name, by its number; 9 is `judge`.
+// The call's name, by its number; 10 is `judge`.
 fn say_call(call: u32) {
     if call == 0 {
         io::write_all(1, b"form");
@@ -122,6 +122,9 @@ fn say_call(call: u32) {
         io::write_all(1, b"counters");
     }
     if call == 9 {
+        io::write_all(1, b"print_book");
+    }
+    if call == 10 {
         io::write_all(1, b"judge");
     }
 }

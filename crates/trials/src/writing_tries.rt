@@ -111,6 +111,26 @@ fn try_raise(
     )
 }
 
+// The book has the row X and one entry, `X` twice. It has no row and no second text from outside: tries 6, 7 and 11 are as 0 here.
+pub fn try_print(
+    k: u32,
+    result: &mut [u8],
+    a: &mut [u32],
+    b: &mut [u32],
+    c: &mut [u32],
+    d: &mut [u32],
+) -> Written {
+    let n = room(k, 16, result.len());
+    book_print::print_book(
+        given(k, 10, b"\x01X\x01\x0b\x00\x01\x00\x0c\x00\x01\x00XX"),
+        &mut result[..n],
+        a,
+        b,
+        c,
+        d,
+    )
+}
+
 // A call with a result text: 0 to 4.
 pub fn try_writing(
     call: u32,

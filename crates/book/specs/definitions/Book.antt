@@ -1,9 +1,10 @@
--- Reading a book, its row and its entries, or the refusal; and what the printer writes.
+-- Reading a book, field after field (laws/Meaning: it is read and refused exactly as Meaning says), and what the printer writes.
 use mathlib.Core.Bool.{Bool, true, false, _&&_}
 use mathlib.Core.List.{List, [], _∷_, _++_, map}
 use Prim.Native.Nat.{ℕ, zero, suc, _+_, _*_}
 use lib.Dec.{eqb, leb}
 use lib.ListN.{length, take, drop, getD}
+pub use Rattle.book.specs.definitions.Meaning.{Entry, Book, number16, part}
 use Rattle.refusal.specs.declared.Side.{Side}
 use Rattle.refusal.specs.declared.Side.the-variants.{Left, Right, Neither}
 use Rattle.reply.specs.declared.Written.{Written}
@@ -25,10 +26,6 @@ abbrev pub letters : List ℕ → ℕ → ℕ → Reading (Unit {0})
 letters book i zero = read tt
 letters book i (suc k) = whole book (1 + i) 1 (λ u. must (isRow (take (1 + i) (drop 1 book))) (1 + i) (λ v. letters book (1 + i) k))
 
--- "little-endian 16-bit numbers": the one at the place p
-abbrev pub number16 : List ℕ → ℕ → ℕ
-number16 book p = getD book p 0 + 256 * getD book (p + 1) 0
-
 -- the length of a body, from the two fields at p: its offset has to be at, since "bodies follow without gaps in that order", and
 -- "a length is wrong if its body passes the end"
 abbrev pub body : List ℕ → ℕ → ℕ → Reading ℕ
@@ -36,15 +33,6 @@ body book p at =
     whole book p 2
     (λ u. must (eqb (number16 book p) at) p
     (λ v. whole book (p + 2) 2 (λ w. must (leb (at + number16 book (p + 2)) (length book)) (p + 2) (λ x. read (number16 book (p + 2))))))
-
--- "panel offset, panel length, cloud offset, cloud length"
-pub record Entry : Type 0 where
-  pub panel : List ℕ
-  pub cloud : List ℕ
-
--- n bytes from the place p on
-abbrev pub part : List ℕ → ℕ → ℕ → List ℕ
-part book p n = take n (drop p book)
 
 -- k entries whose fields stand from p on and whose bodies from at on, "to the book's end"; after them "the first byte too many"
 abbrev pub entries : List ℕ → ℕ → ℕ → ℕ → Reading (List Entry)
@@ -54,10 +42,6 @@ entries book p at (suc k) =
     (λ m. onward (body book (p + 4) (at + m))
     (λ n. onward (entries book (p + 8) (at + m + n) k)
     (λ es. read (record { panel = part book at m; cloud = part book (at + m) n } ∷ es))))
-
-pub record Book : Type 0 where
-  pub row : List ℕ
-  pub all : List Entry
 
 -- "one byte with the number of entries, 1 to 64", behind n letters, and the entries
 abbrev pub contents : List ℕ → ℕ → Reading Book
@@ -88,7 +72,7 @@ line (f ∷ g ∷ fs) = f ++ (32 ∷ line (g ∷ fs))
 abbrev pub numbers : List ℕ → List (List ℕ)
 numbers ns = map decimal ns
 
--- "E for panel or C for cloud"; no comparison of two bodies is refused on neither side (laws/Lines, sided)
+-- "E for panel or C for cloud"; no comparison of two bodies is refused on neither side (demands/Books, entry-says)
 abbrev pub bodyName : Side → List ℕ
 bodyName Left = bytes "E"
 bodyName Right = bytes "C"

@@ -1,48 +1,30 @@
--- Each entry's line is its own.
-use mathlib.Core.List.{List, [], _∷_, _++_, append-assoc}
-use mathlib.Core.Path.{_≡_, sym, ap, _∙_}
-use Prim.Native.Nat.{ℕ, suc, _+_}
-use lib.ListN.{length}
+-- The lines of a book's entries, each made of its own two bodies.
+use mathlib.Core.List.{List, [], _++_, append-assoc}
+use mathlib.Core.Path.{_≡_, refl, sym, ap, _∙_}
+use Prim.Native.Nat.{ℕ, zero, suc, _+_}
 use native.Mathlib.Omega.{arith}
-use Rattle.refusal.specs.declared.Side.the-variants.{Left, Right}
-use Rattle.refusal.specs.Refusal.{onSide}
-use Rattle.refusal.specs.declared.Fault.{Fault}
-use Rattle.text.specs.definitions.Bytes.{Reading, read, refused}
-use Rattle.text.specs.definitions.Limits.{acceptTerm}
-use Rattle.text.specs.definitions.Tree.{termOf}
-use Rattle.reply.specs.definitions.Calls.{compareOf, verdictOf}
-use Rattle.reply.specs.definitions.Reply.{Reply, gives, refuses, readAs}
-use Rattle.book.specs.definitions.Book.{Entry, entryLine, entryLines}
+use lib.ListN.{length}
+use Rattle.book.specs.definitions.Book.{entryLine, entryLines}
+use Rattle.book.specs.definitions.Meaning.{each, entryOf, panelOf, cloudOf}
 
--- a reply with a value, or a refusal of the left or the right text
-pub data Sided {A : Type 0} : Reply A → Type 0 where
-  given : {a : A} → Sided (gives a)
-  on-left : {bad : Fault} → Sided (refuses (onSide Left bad))
-  on-right : {bad : Fault} → Sided (refuses (onSide Right bad))
+-- entry n, i entries behind entry j, and the k behind it
+pub each-parts :
+    {A : Type 0} (f : ℕ → List A) (j i n k : ℕ) → j + i ≡ n → each f j (i + suc k) ≡ each f j i ++ (f n ++ each f (suc n) k)
+each-parts f j zero n k h =
+    let e : 0 + suc k ≡ suc k = omega arith in
+    let d : j ≡ n = omega arith in
+    ap (each f j) e ∙ ap (λ m. f m ++ each f (suc m) k) d
+each-parts f j (suc i) n k h =
+    let e : suc i + suc k ≡ suc (i + suc k) = omega arith in
+    ap (each f j) e ∙ ap (λ w. f j ++ w) (each-parts f (suc j) i n k (omega arith))
+    ∙ sym (append-assoc (f j) (each f (suc j) i) (f n ++ each f (suc n) k))
 
--- no comparison of two bodies is refused on neither side
-pub sided : (row s t : List ℕ) → Sided (compareOf row s t)
-sided row s t = first (acceptTerm row s)
-  where
-    second : (x : Reading _) (n : ℕ) (f : _) → Sided (readAs Right x (λ g. gives (verdictOf n f (termOf row g))))
-    second (read g) n f = given
-    second (refused bad) n f = on-right
+pub lines-each :
+    (row s : List ℕ) (i k : ℕ) →
+    entryLines row i (each (entryOf s) i k) ≡ each (λ j. entryLine row j (panelOf s j) (cloudOf s j)) i k
+lines-each row s i zero = refl
+lines-each row s i (suc k) = ap (λ w. entryLine row i (panelOf s i) (cloudOf s i) ++ w) (lines-each row s (suc i) k)
 
-    first :
-        (x : Reading _) →
-        Sided (readAs Left x (λ f. readAs Right (acceptTerm row t) (λ g. gives (verdictOf (length row) (termOf row f) (termOf row g)))))
-    first (read f) = second (acceptTerm row t) (length row) (termOf row f)
-    first (refused bad) = on-left
-
--- the lines of the entries before another and of those behind it are the same, whatever its bodies are
-pub lines-apart :
-    (row : List ℕ) (i : ℕ) (es : List Entry) (e : Entry) (fs : List Entry) →
-    entryLines row i (es ++ (e ∷ fs)) ≡ entryLines row i es ++
-    (entryLine row (i + length es) (e .panel) (e .cloud) ++ entryLines row (suc (i + length es)) fs)
-lines-apart row i [] e fs =
-    ap (λ k. entryLine row k (e .panel) (e .cloud) ++ entryLines row (suc k) fs) (let h : i ≡ i + 0 = omega arith in h)
-lines-apart row i (d ∷ es) e fs =
-    ap (λ w. entryLine row i (d .panel) (d .cloud) ++ w) (lines-apart row (suc i) es e fs
-    ∙ ap (λ k. entryLines row (suc i) es ++ (entryLine row k (e .panel) (e .cloud) ++ entryLines row (suc k) fs))
-    (let h : suc i + length es ≡ i + suc (length es) = omega arith in h))
-    ∙ sym (append-assoc (entryLine row i (d .panel) (d .cloud)) (entryLines row (suc i) es) _)
+pub entries-counted : (s : List ℕ) (i k : ℕ) → length (each (entryOf s) i k) ≡ k
+entries-counted s i zero = refl
+entries-counted s i (suc k) = ap suc (entries-counted s (suc i) k)

@@ -5,7 +5,7 @@ use Prim.Native.Nat.{ℕ, zero, suc, _+_, _-_, _%_, _≤_, _<_}
 use native.Mathlib.Omega.{arith}
 use lib.ListN.{length, getD}
 use Rattle.horner.specs.definitions.Form.{Form, int, pop, pow, size, lower, sum, scale}
-use Rattle.horner.specs.definitions.Points.{atFirst}
+use Rattle.horner.specs.laws.First.{atFirst}
 use Rattle.code.specs.Widths.{powBy, modulus, Leaf, ringOf, leaf}
 use Rattle.horner.specs.definitions.Rings.{Ring, power}
 use Rattle.horner.specs.laws.First.{normal-atFirst, bounded-atFirst}

@@ -6,7 +6,7 @@ use native.Mathlib.Nat as NatL
 use native.Mathlib.Omega.{arith}
 use lib.Dec.{eqb, ltb}
 use borrow.Author.Tests.{ltb-true, ltb-false, eqb-true, eqb-false}
-use Rattle.horner.specs.definitions.Points.{least}
+use Rattle.horner.specs.laws.First.{least}
 use Rattle.code_point.specs.Points.{IsLeast, Fails}
 
 -- a test that passes at a passes at b, if it does where b is above a

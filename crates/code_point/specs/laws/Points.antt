@@ -8,7 +8,7 @@ use lib.ListN.{length}
 use Rattle.horner.specs.definitions.Form.{Form, isZero, Normal, nats}
 use Rattle.horner.specs.laws.Degree.{Bounded}
 use Rattle.horner.specs.definitions.Measures.{AllLe}
-use Rattle.horner.specs.definitions.Points.{least, atFirst, firstPoint}
+use Rattle.horner.specs.laws.First.{least, atFirst, firstPoint}
 use Rattle.horner.specs.definitions.Rings.{Ring, nat}
 use Rattle.horner.specs.laws.First.{first-is, val-atFirst, normal-atFirst}
 use Rattle.horner.specs.laws.Prime.{P-regular}

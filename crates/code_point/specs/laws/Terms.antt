@@ -2,18 +2,20 @@
 use mathlib.Core.Bool.{false}
 use mathlib.Core.List.{List}
 use mathlib.Core.Logic.{_⊎_, inl, inr}
-use mathlib.Core.Path.{_≡_, refl, sym, ap, subst, _∙_}
+use mathlib.Core.Path.{_≡_, refl, sym, subst, _∙_}
 use Prim.Native.Nat.{ℕ, _≤_}
 use lib.ListN.{length}
 use Rattle.horner.specs.definitions.Form.{isZero, negate, Normal}
 use Rattle.horner.specs.laws.Within.{Within}
-use Rattle.horner.specs.definitions.Points.{Before, firstPoint, gap, sides, IsPoint}
+use Rattle.horner.specs.definitions.Points as H
+use Rattle.horner.specs.definitions.Points.{Before, IsPoint}
 use Rattle.horner.specs.definitions.Rings.{redℤ, prime, prime-pos, P-ring}
-use Rattle.horner.specs.definitions.Term.{Term, normP, evalP}
-use Rattle.horner.specs.laws.Answer.{length-sides, point-is, point-before, val-gap, level}
+use Rattle.horner.specs.definitions.Term.{Term, normP}
+use Rattle.horner.specs.laws.Answer.{gap, gap-nil, point-is}
 use Rattle.horner.specs.laws.Canonical.{length-box}
 use Rattle.horner.specs.laws.First.{first-is, IsFirst}
 use Rattle.horner.specs.laws.Normal.{normal-sum, normal-negate}
+use Rattle.horner.specs.laws.Points.{point-before}
 use Rattle.horner.specs.laws.Prime.{P-regular}
 use Rattle.horner.specs.laws.Term.{normal-norm}
 use Rattle.code.specs.Coding.{limits, Good}
@@ -45,27 +47,21 @@ module _ (n : ℕ) (f g : Term) (few : n ≤ 4) (F : Within n f) (G : Within n g
         (bounded-good n (gap f g) few good (terms-ready .normal)) nz
 
     -- document 01's point is the one that is found
-    pub terms-point : IsPoint n f g (pointOf n (gap f g))
-    terms-point = subst (IsPoint n f g) (sym (at (point-before n f g (length-sides n f g F G) M P N l differs))) P
+    pub terms-point : H.pointOf prime n f g ≡ pointOf n (gap f g)
+    terms-point = sym (at (point-before prime n f g M P N l (λ e. first-of .counts (gap-nil n f g F G N .1 e))))
       where
         M : List ℕ
-        M = firstPoint P-ring (sides n f g) (gap f g)
+        M = H.pointOf prime n f g
 
         N : List ℕ
         N = pointOf n (gap f g)
 
-        P : IsPoint n f g M
+        P : IsPoint prime n f g M
         P = point-is n f g F G nz
 
         l : length N ≡ n
         l = length-box (limits n) N (first-of .inside) ∙ length-limits n
 
-        differs : evalP f N ≡ evalP g N → ⊥
-        differs e =
-            first-of .counts (val-gap n f g F G N ∙ ap (λ z. P-ring ._⊞_ z (P-ring .neg (evalP g N))) e ∙ P-ring .add-neg (evalP g N))
-
         at : (N ≡ M) ⊎ Before M N → N ≡ M
         at (inl e) = e
-        at (inr b) =
-            absurd (P .differs (level (evalP f M) (evalP g M) (sym (val-gap n f g F G M)
-            ∙ first-of .earlier M b (length-box (sides n f g) M (P .inside) ∙ length-sides n f g F G ∙ sym (length-limits n)))))
+        at (inr b) = absurd (P .differs (gap-nil n f g F G M .0 (first-of .earlier M b (P .long ∙ sym (length-limits n)))))

@@ -8,7 +8,7 @@ use lib.ListN.{length, take, drop, getD, length-drop}
 use lib.Seq.{length-take-le, take-append-seam}
 use Rattle.code.proofs.Lists.{begins-le, length-tail-part}
 use Rattle.horner.specs.definitions.Form.{Form, isZero}
-use Rattle.horner.specs.definitions.Points.{least, firstPoint, atFirst}
+use Rattle.horner.specs.laws.First.{least, firstPoint, atFirst}
 use Rattle.horner.specs.definitions.Rings.{nat}
 use Rattle.code.specs.Coding.{Good, Codes, Coded, Made, RoomUnder, limits, dec}
 use Rattle.code.specs.Operations.{sumOf, negateOf}

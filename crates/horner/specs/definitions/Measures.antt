@@ -6,8 +6,8 @@ use Prim.Native.Nat.{ℕ, zero, suc, _+_, _-_, _≤_, _*_, _^_, max, min, _%_}
 use lib.Dec.{eqb}
 use lib.IntN.{ℤ, natAbs}
 use lib.ListN.{getD}
-use Rattle.horner.specs.definitions.Form.{Form, int, pop, pow, lower, zeroForm, tl}
-use Rattle.horner.specs.definitions.Rings.{Ring}
+use Rattle.horner.specs.definitions.Form.{Form, int, pop, pow, lower, zeroForm, tl, hd}
+use Rattle.horner.specs.definitions.Rings.{Ring, power}
 use Rattle.horner.specs.definitions.Term.{Term, num, var, minus, plus, diff, times, expt}
 
 -- ---- lists of degrees, one for each variable of the row
@@ -146,6 +146,24 @@ module _ {A : Type 0} (R : Ring A) where
   abbrev pub coefAt : List ℕ → Form A → A
   coefAt [] x = constant x
   coefAt (k ∷ ks) x = coefAt ks (coefOf k x)
+
+-- f added up over 0 .. d, and over all lists of exponents within the bounds ds
+module _ {B : Type 0} (join : B → B → B) where
+  abbrev pub sumTo : ℕ → (ℕ → B) → B
+  sumTo zero f = f 0
+  sumTo (suc d) f = join (f 0) (sumTo d (λ k. f (suc k)))
+
+  abbrev pub sumBox : List ℕ → (List ℕ → B) → B
+  sumBox [] f = f []
+  sumBox (d ∷ ds) f = sumTo d (λ k. sumBox ds (λ ks. f (k ∷ ks)))
+
+-- v_0^k_0 v_1^k_1 .. at a point
+module _ {A : Type 0} (R : Ring A) where
+  open Ring R using (_·_, unit)
+
+  abbrev pub monomial : List ℕ → List A → A
+  monomial [] N = unit
+  monomial (k ∷ ks) N = power R (hd R N) k · monomial ks (tl N)
 
 -- each coefficient of the form is a multiple of m
 abbrev pub multiplesOf : ℕ → Form ℤ → Bool

@@ -1,14 +1,15 @@
--- Points of natural numbers, their order, and the first one at which a form is not 0.
-use mathlib.Core.Bool.{Bool, true, false}
-use mathlib.Core.List.{List, [], _∷_}
+-- Points of whole numbers from zero up, their order, and the first one at which the values of two terms leave different remainders.
+use mathlib.Core.Bool.{Bool, true, false, not}
+use mathlib.Core.List.{List, [], _∷_, _++_, map}
 use mathlib.Core.Logic.{_⊎_}
 use mathlib.Core.Path.{_≡_}
 use Prim.Native.Nat.{ℕ, zero, suc, _≤_, _<_}
+use lib.Dec.{eqb}
+use lib.IntN.{pos}
 use lib.ListN.{length}
-use Rattle.horner.specs.definitions.Form.{Form, int, pop, pow, lower, isZero, sum, negate, scale}
 use Rattle.horner.specs.definitions.Measures.{maxs, degrees}
-use Rattle.horner.specs.definitions.Rings.{Res, prime, P-ring, Ring, power, nat}
-use Rattle.horner.specs.definitions.Term.{Term, normP, evalP}
+use Rattle.horner.specs.definitions.Rings.{remainderBy}
+use Rattle.horner.specs.definitions.Term.{Term, normℤ, evalℤ}
 
 -- no coordinate above the bounds
 abbrev pub InBox : List ℕ → List ℕ → Type 0
@@ -23,36 +24,35 @@ Before [] N = ⊥
 Before (a ∷ M) [] = ⊥
 Before (a ∷ M) (b ∷ N) = (a < b) ⊎ ((a ≡ b) × Before M N)
 
--- the least number from a up that fails a test, in at most f tries
-abbrev pub least : ℕ → (ℕ → Bool) → ℕ → ℕ
-least zero t a = a
-least (suc f) t a = elim (t a) [ true ↦ least f t (suc a) | false ↦ a ]
+-- the remainder by m that the term's value leaves at the point
+abbrev pub leaves : ℕ → Term → List ℕ → ℕ
+leaves m t N = remainderBy m (evalℤ t (map pos N))
 
-module _ {A : Type 0} (R : Ring A) where
-  -- the form with a put for its first variable
-  abbrev pub atFirst : Form A → A → Form A
-  atFirst (int c) a = int c
-  atFirst (pop zero p) a = p
-  atFirst (pop (suc i) p) a = lower i p
-  atFirst (pow i p q) a = sum R (scale R (power R a i) (atFirst p a)) q
+-- in each of n variables the "highest power in the two forms"
+abbrev pub highest : ℕ → Term → Term → List ℕ
+highest n f g = maxs (degrees n (normℤ f)) (degrees n (normℤ g))
 
-  -- in each variable, within its bound, the least number that leaves a form that is not 0
-  abbrev pub firstPoint : List ℕ → Form A → List ℕ
-  firstPoint [] x = []
-  firstPoint (d ∷ ds) x =
-      let a = least (suc d) (λ b. isZero R (atFirst x (nat R b))) 0 in
-      a ∷ firstPoint ds (atFirst x (nat R a))
+-- Demand 3: "the first, in row order, among all assignments of whole numbers from zero up where the values leave different remainders by"
+-- m; "no coordinate exceeds that variable's highest power in the two forms." Over a row of n
+pub record IsPoint (m n : ℕ) (f g : Term) (N : List ℕ) : Type 0 where
+  pub long : length N ≡ n
+  pub differs : leaves m f N ≡ leaves m g N → ⊥
+  pub earlier : (M : List ℕ) → length M ≡ n → Before M N → leaves m f M ≡ leaves m g M
+  pub inside : InBox (highest n f g) N
 
--- ---- of two terms
--- their difference over the remainders by P, and in each variable the "highest power in the two forms"
-abbrev pub gap : Term → Term → Form (Res prime)
-gap f g = sum P-ring (normP f) (negate P-ring (normP g))
+-- ---- it is looked for among the points of a box, in row order
+-- k numbers from a up, each before every point of the other variables
+abbrev pub under : ℕ → ℕ → List (List ℕ) → List (List ℕ)
+under zero a Ns = []
+under (suc k) a Ns = map (λ N. a ∷ N) Ns ++ under k (suc a) Ns
 
-abbrev pub sides : ℕ → Term → Term → List ℕ
-sides n f g = maxs (degrees n (normP f)) (degrees n (normP g))
+abbrev pub points : List ℕ → List (List ℕ)
+points [] = [] ∷ []
+points (d ∷ ds) = under (suc d) 0 (points ds)
 
--- "the first, in row order, among all assignments of whole numbers from zero up where the values leave different remainders"
-pub record IsPoint (n : ℕ) (f g : Term) (N : List ℕ) : Type 0 where
-  pub inside : InBox (sides n f g) N
-  pub differs : evalP f N ≡ evalP g N → ⊥
-  pub earlier : (M : List ℕ) → Before M N → length M ≡ n → evalP f M ≡ evalP g M
+abbrev pub firstOf : (List ℕ → Bool) → List (List ℕ) → List ℕ
+firstOf t [] = []
+firstOf t (N ∷ Ns) = elim (t N) [ true ↦ N | false ↦ firstOf t Ns ]
+
+abbrev pub pointOf : ℕ → ℕ → Term → Term → List ℕ
+pointOf m n f g = firstOf (λ N. not (eqb (leaves m f N) (leaves m g N))) (points (highest n f g))

@@ -79,8 +79,12 @@ abbrev pub ℤ-ring : Ring ℤ
 abbrev pub Res : ℕ → Type 0
 Res m = (n : ℕ) × T (ltb n m)
 
+-- "A remainder is from 0 to P - 1, also for negative values": of an integer, by m
+abbrev pub remainderBy : ℕ → ℤ → ℕ
+remainderBy m (pos n) = n % m
+remainderBy m (negsuc n) = (m - suc n % m) % m
+
 module _ (m : ℕ) (m-pos : 0 < m) where
-  -- "A remainder is from 0 to P - 1, also for negative values."
   abbrev pub red : ℕ → Res m
   red n = (n % m, lt→ltb (n % m) m (mod-lt n m-pos))
 
@@ -93,9 +97,12 @@ module _ (m : ℕ) (m-pos : 0 < m) where
   abbrev pub negᵐ : Res m → Res m
   negᵐ a = red (m - a .0)
 
+  abbrev remainder-below : (z : ℤ) → remainderBy m z < m
+  remainder-below (pos n) = mod-lt n m-pos
+  remainder-below (negsuc n) = mod-lt (m - suc n % m) m-pos
+
   abbrev pub redℤ : ℤ → Res m
-  redℤ (pos n) = red n
-  redℤ (negsuc n) = negᵐ (red (suc n))
+  redℤ z = (remainderBy m z, lt→ltb (remainderBy m z) m (remainder-below z))
 
   -- ---- the ring
   pub res-ext : (a b : Res m) → a .0 ≡ b .0 → a ≡ b

@@ -4,7 +4,7 @@
 use mathlib.Core.List.{List}
 use Prim.Native.Nat.{ℕ}
 use lib.IntN.{ℤ}
-use Rattle.horner.specs.definitions.Form.{Form, int, sum, negate, prod, raise, letter, after, hd, nats}
+use Rattle.horner.specs.definitions.Form.{Form, int, sum, negate, prod, raise, letter, after, hd}
 use Rattle.horner.specs.definitions.Rings.{ℤ-ring, Res, redℤ, prime, prime-pos, P-ring, Ring, power}
 
 -- Definition 1: "(a) An integer; (b) A member of V; (c) A list (- x); (d) A list (op x y), op one of +, -, *; (e) A list (EXPT x n)"
@@ -51,7 +51,3 @@ evalℤ t N = evalp ℤ-ring (λ z. z) t N
 -- over the remainders by P
 abbrev pub normP : Term → Form (Res prime)
 normP t = norm P-ring (redℤ prime prime-pos) t
-
--- the value's remainder at a point of natural numbers
-abbrev pub evalP : Term → List ℕ → Res prime
-evalP t N = evalp P-ring (redℤ prime prime-pos) t (nats P-ring N)

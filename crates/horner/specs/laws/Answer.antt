@@ -2,35 +2,66 @@
 -- the terms have one value at every point of the integers; else the first point of natural numbers at which the remainders of the two
 -- values differ.
 use mathlib.Core.Bool.{false}
-use mathlib.Core.List.{List, [], _∷_}
-use mathlib.Core.Logic.{_⊎_, inl, inr, _↔_}
+use mathlib.Core.List.{List, [], _∷_, map}
+use mathlib.Core.Logic.{_↔_}
 use mathlib.Core.Path.{_≡_, refl, sym, _∙_, ap, ap₂, subst, _≡⟨_⟩_, _∎}
-use Prim.Native.Nat.{ℕ, zero, suc, _+_, _-_, _<_}
+use Prim.Native.Nat.{ℕ, _+_, _-_}
 use native.Mathlib.Omega.{arith}
-use lib.IntN.{ℤ}
+use lib.IntN.{ℤ, pos}
 use lib.ListN.{length}
-use Rattle.horner.specs.definitions.Form.{Form, int, pop, pow, isZero, negate, Normal, tl, nats}
+use Rattle.horner.specs.definitions.Form.{Form, int, pop, pow, isZero, sum, negate, Normal, tl, nats}
 use Rattle.horner.specs.laws.Within.{Within}
 use Rattle.horner.specs.laws.Degree.{Bounded, bounded-mono, length-maxs, maxs-left, maxs-right, length-degrees, bounded-degrees}
 use Rattle.horner.specs.laws.Degree.{degrees-least, all-le-below}
 use Rattle.horner.specs.definitions.Measures.{zeros, firstOr0, maxs, AllLe, degreesOf, weight, degrees}
-use Rattle.horner.specs.definitions.Points.{Before, firstPoint, gap, sides, IsPoint}
-use Rattle.horner.specs.laws.Residues.{lift}
-use Rattle.horner.specs.definitions.Rings.{Res, redℤ, prime, prime-pos, P-ring}
-use Rattle.horner.specs.definitions.Term.{Term, diff, normℤ, evalℤ, normP, evalP}
+use Rattle.horner.specs.definitions.Points.{InBox, leaves, highest, IsPoint, pointOf}
+use Rattle.horner.specs.definitions.Rings.{Res, redℤ, res-ext, prime, prime-pos, P-ring}
+use Rattle.horner.specs.definitions.Term.{Term, diff, normℤ, evalℤ, evalp, normP}
 use Rattle.horner.specs.laws.Bounds.{bounded-sum, bounded-negate}
 use Rattle.horner.specs.laws.Cancel.{difference}
 use Rattle.horner.specs.laws.Canonical.{length-box, val-difference}
-use Rattle.horner.specs.laws.First.{first-is, IsFirst}
+use Rattle.horner.specs.laws.First.{firstPoint, first-is, IsFirst}
 use Rattle.horner.specs.laws.Grid.{grid}
 use Rattle.horner.specs.laws.Hom.{mapForm}
-use Rattle.horner.specs.laws.Lifting.{residue, exact}
+use Rattle.horner.specs.laws.Lifting.{red-hom, residue, exact}
 use Rattle.horner.specs.laws.Limits.{length-degreesOf, bounded-norm}
 use Rattle.horner.specs.laws.Normal.{normal-sum, normal-negate}
+use Rattle.horner.specs.laws.Points.{point-found}
 use Rattle.horner.specs.laws.Prime.{P-regular}
 use Rattle.horner.specs.laws.Ring.{neg-unique, neg-neg}
-use Rattle.horner.specs.laws.Term.{val-norm, normal-norm, theorem-1}
+use Rattle.horner.specs.laws.Residues.{lift, nat-red}
+use Rattle.horner.specs.laws.Term.{val-norm, normal-norm, theorem-1, eval-map}
 use Rattle.horner.specs.laws.Value.{Zero, val}
+
+-- ---- over the remainders by P
+-- the difference of two terms' forms, and in each variable the higher of their degrees
+abbrev pub gap : Term → Term → Form (Res prime)
+gap f g = sum P-ring (normP f) (negate P-ring (normP g))
+
+abbrev pub sides : ℕ → Term → Term → List ℕ
+sides n f g = maxs (degrees n (normP f)) (degrees n (normP g))
+
+-- a term's value there, at a point of natural numbers: the remainder of its value
+abbrev pub evalP : Term → List ℕ → Res prime
+evalP t N = evalp P-ring (redℤ prime prime-pos) t (nats P-ring N)
+
+nats-P : (N : List ℕ) → nats P-ring N ≡ map (redℤ prime prime-pos) (map pos N)
+nats-P [] = refl
+nats-P (a ∷ N) = ap₂ _∷_ (nat-red prime prime-pos a) (nats-P N)
+
+pub eval-leaves : (t : Term) (N : List ℕ) → evalP t N .0 ≡ leaves prime t N
+eval-leaves t N =
+    let ρ = redℤ prime prime-pos in
+    evalP t N .0 ≡⟨ ap (λ M. evalp P-ring ρ t M .0) (nats-P N) ⟩
+    evalp P-ring ρ t (map ρ (map pos N)) .0 ≡⟨ ap (λ r. r .0) (eval-map P-ring ρ (red-hom prime prime-pos) t (map pos N)) ⟩
+    leaves prime t N ∎
+
+-- they leave one remainder exactly where they have one value there
+same-leaves : (f g : Term) (N : List ℕ) → (leaves prime f N ≡ leaves prime g N) ↔ (evalP f N ≡ evalP g N)
+same-leaves f g N = (
+  λ e. res-ext prime prime-pos (evalP f N) (evalP g N) (eval-leaves f N ∙ e ∙ sym (eval-leaves g N)),
+  λ e. sym (eval-leaves f N) ∙ ap (λ r. r .0) e ∙ eval-leaves g N,
+)
 
 all-le-maxs : (K : ℕ) (ds es : List ℕ) → AllLe K ds → AllLe K es → AllLe K (maxs ds es)
 all-le-maxs K [] es h g = tt
@@ -133,12 +164,28 @@ module _ (n : ℕ) (f g : Term) (F : Within n f) (G : Within n g) where
       bounded-G : Bounded ds (normP g)
       bounded-G = bounded-mono (normP g) gs ds (maxs-right fs gs one-length) (bounded-degrees P-ring n (normP g) normal-G)
 
-  pub point-is : isZero P-ring (gap f g) ≡ false → IsPoint n f g (firstPoint P-ring (sides n f g) (gap f g))
-  point-is nz =
+  sides-highest : sides n f g ≡ highest n f g
+  sides-highest = ap₂ maxs (degrees-normP n f F) (degrees-normP n g G)
+
+  -- where their difference is 0, two values there are one, and the other way round
+  pub gap-nil : (N : List ℕ) → (val P-ring (gap f g) (nats P-ring N) ≡ P-ring .nil) ↔ (leaves prime f N ≡ leaves prime g N)
+  gap-nil N = (λ e. same-leaves f g N .1 (level (evalP f N) (evalP g N) (sym (val-gap N) ∙ e)), λ e. nothing (same-leaves f g N .0 e))
+    where
+      nothing : evalP f N ≡ evalP g N → val P-ring (gap f g) (nats P-ring N) ≡ P-ring .nil
+      nothing e =
+          let minus = P-ring .neg (evalP g N) in
+          val P-ring (gap f g) (nats P-ring N) ≡⟨ val-gap N ⟩
+          P-ring ._⊞_ (evalP f N) minus ≡⟨ ap (λ z. P-ring ._⊞_ z minus) e ⟩
+          P-ring ._⊞_ (evalP g N) minus ≡⟨ P-ring .add-neg (evalP g N) ⟩
+          P-ring .nil ∎
+
+  first-of-two : isZero P-ring (gap f g) ≡ false → IsPoint prime n f g (firstPoint P-ring (sides n f g) (gap f g))
+  first-of-two nz =
       record {
-        inside = first .inside;
-        differs = λ e. first .counts (no-difference e);
-        earlier = λ M b l. level (evalP f M) (evalP g M) (sym (val-gap M) ∙ first .earlier M b (l ∙ sym length-sides));
+        long = length-box (sides n f g) N (first .inside) ∙ length-sides;
+        differs = λ e. first .counts (gap-nil N .1 e);
+        earlier = λ M l b. gap-nil M .0 (first .earlier M b (l ∙ sym length-sides));
+        inside = subst (λ ds. InBox ds N) sides-highest (first .inside);
       }
     where
       N : List ℕ
@@ -147,13 +194,11 @@ module _ (n : ℕ) (f g : Term) (F : Within n f) (G : Within n g) where
       first : IsFirst P-ring (sides n f g) (gap f g) N
       first = first-is P-ring 63 P-regular (sides n f g) sides-63 (gap f g) normal-gap bounded-gap nz
 
-      no-difference : evalP f N ≡ evalP g N → val P-ring (gap f g) (nats P-ring N) ≡ P-ring .nil
-      no-difference e =
-          let minus = P-ring .neg (evalP g N) in
-          val P-ring (gap f g) (nats P-ring N) ≡⟨ val-gap N ⟩
-          P-ring ._⊞_ (evalP f N) minus ≡⟨ ap (λ z. P-ring ._⊞_ z minus) e ⟩
-          P-ring ._⊞_ (evalP g N) minus ≡⟨ P-ring .add-neg (evalP g N) ⟩
-          P-ring .nil ∎
+  -- the point that the search through the box finds is demand 3's
+  pub point-is : isZero P-ring (gap f g) ≡ false → IsPoint prime n f g (pointOf prime n f g)
+  point-is nz =
+      subst (IsPoint prime n f g) (sym (point-found prime n f g (firstPoint P-ring (sides n f g) (gap f g)) (first-of-two nz)))
+      (first-of-two nz)
 
   -- and the difference is 0 exactly where the forms are one
   pub gap-zero : Zero P-ring (gap f g) ↔ (normP f ≡ normP g)
@@ -162,53 +207,3 @@ module _ (n : ℕ) (f g : Term) (F : Within n f) (G : Within n g) where
     λ e. grid P-ring 63 P-regular (sides n f g) sides-63 (gap f g) normal-gap bounded-gap
         (λ N m. val-difference P-ring (normP f) (normP g) (nats P-ring N) (ap (λ x. val P-ring x (nats P-ring N)) e)),
   )
-
--- ---- the point is the only one
-three : (a b : ℕ) → (a < b) ⊎ ((a ≡ b) ⊎ (b < a))
-three zero zero = inr (inl refl)
-three zero (suc b) = inl (omega arith)
-three (suc a) zero = inr (inr (omega arith))
-three (suc a) (suc b) = up (three a b)
-  where
-    up : (a < b) ⊎ ((a ≡ b) ⊎ (b < a)) → (suc a < suc b) ⊎ ((suc a ≡ suc b) ⊎ (suc b < suc a))
-    up (inl l) = inl (omega arith)
-    up (inr (inl e)) = inr (inl (ap suc e))
-    up (inr (inr l)) = inr (inr (omega arith))
-
-order : (M N : List ℕ) → length M ≡ length N → (M ≡ N) ⊎ (Before M N ⊎ Before N M)
-order [] [] e = inl refl
-order [] (b ∷ N) e = absurd (omega arith)
-order (a ∷ M) [] e = absurd (omega arith)
-order (a ∷ M) (b ∷ N) e = at (three a b) (order M N (omega arith))
-  where
-    at : (a < b) ⊎ ((a ≡ b) ⊎ (b < a)) → (M ≡ N) ⊎ (Before M N ⊎ Before N M)
-        → ((a ∷ M) ≡ (b ∷ N)) ⊎ (Before (a ∷ M) (b ∷ N) ⊎ Before (b ∷ N) (a ∷ M))
-    at (inl l) r = inr (inl (inl l))
-    at (inr (inr l)) r = inr (inr (inl l))
-    at (inr (inl p)) (inl q) = inl (ap₂ _∷_ p q)
-    at (inr (inl p)) (inr (inl q)) = inr (inl (inr (p, q)))
-    at (inr (inl p)) (inr (inr q)) = inr (inr (inr (sym p, q)))
-
-pub point-unique : (n : ℕ) (f g : Term) → length (sides n f g) ≡ n → (M N : List ℕ) → IsPoint n f g M → IsPoint n f g N → M ≡ N
-point-unique n f g l M N p q = at (order M N (lm ∙ sym ln))
-  where
-    lm : length M ≡ length (sides n f g)
-    lm = length-box (sides n f g) M (p .inside)
-
-    ln : length N ≡ length (sides n f g)
-    ln = length-box (sides n f g) N (q .inside)
-
-    at : (M ≡ N) ⊎ (Before M N ⊎ Before N M) → M ≡ N
-    at (inl e) = e
-    at (inr (inl b)) = absurd (p .differs (q .earlier M b (lm ∙ l)))
-    at (inr (inr b)) = absurd (q .differs (p .earlier N b (ln ∙ l)))
-
--- and it comes before every other point at which the remainders differ
-pub point-before : (n : ℕ) (f g : Term) → length (sides n f g) ≡ n → (N : List ℕ) → IsPoint n f g N
-    → (M : List ℕ) → length M ≡ n → (evalP f M ≡ evalP g M → ⊥) → (M ≡ N) ⊎ Before N M
-point-before n f g l N p M m d = at (order M N (m ∙ sym (length-box (sides n f g) N (p .inside) ∙ l)))
-  where
-    at : (M ≡ N) ⊎ (Before M N ⊎ Before N M) → (M ≡ N) ⊎ Before N M
-    at (inl e) = inl e
-    at (inr (inl b)) = absurd (d (p .earlier M b m))
-    at (inr (inr b)) = inr b

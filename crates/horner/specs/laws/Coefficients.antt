@@ -7,7 +7,7 @@ use Prim.Native.Nat.{ℕ, zero, suc, _+_, _-_, _≤_}
 use native.Mathlib.Omega.{arith}
 use lib.IntN.{ℤ, natAbs}
 use lib.ListN.{length, getD}
-use Rattle.horner.specs.definitions.Measures.{shift, coefs, coefOf, constant, coefAt, meas, weight, one-if, count}
+use Rattle.horner.specs.definitions.Measures.{shift, coefs, coefOf, constant, coefAt, sumTo, sumBox, monomial, meas, weight, one-if, count}
 use Rattle.horner.specs.definitions.Form.{Form, int, pop, pow, zeroForm, Normal, tl, hd}
 use Rattle.horner.specs.definitions.Rings.{ℤ-ring, Ring, power}
 use Rattle.horner.specs.laws.Degree.{Bounded}
@@ -19,31 +19,14 @@ use Rattle.horner.specs.laws.Roots.{horner}
 use Rattle.horner.specs.laws.Value.{val}
 
 -- ---- sums over an interval and over a box
--- f added up over 0 .. d, and over all exponents within the bounds ds
 module _ {B : Type 0} (join : B → B → B) where
-  abbrev pub sumTo : ℕ → (ℕ → B) → B
-  sumTo zero f = f 0
-  sumTo (suc d) f = join (f 0) (sumTo d (λ k. f (suc k)))
-
-  abbrev pub sumBox : List ℕ → (List ℕ → B) → B
-  sumBox [] f = f []
-  sumBox (d ∷ ds) f = sumTo d (λ k. sumBox ds (λ ks. f (k ∷ ks)))
-
-  pub sumTo-cong : (d : ℕ) (f g : ℕ → B) → ((k : ℕ) → f k ≡ g k) → sumTo d f ≡ sumTo d g
+  pub sumTo-cong : (d : ℕ) (f g : ℕ → B) → ((k : ℕ) → f k ≡ g k) → sumTo join d f ≡ sumTo join d g
   sumTo-cong zero f g e = e 0
   sumTo-cong (suc d) f g e = ap₂ join (e 0) (sumTo-cong d (λ k. f (suc k)) (λ k. g (suc k)) (λ k. e (suc k)))
 
-  pub sumBox-cong : (ds : List ℕ) (f g : List ℕ → B) → ((ks : List ℕ) → f ks ≡ g ks) → sumBox ds f ≡ sumBox ds g
+  pub sumBox-cong : (ds : List ℕ) (f g : List ℕ → B) → ((ks : List ℕ) → f ks ≡ g ks) → sumBox join ds f ≡ sumBox join ds g
   sumBox-cong [] f g e = e []
   sumBox-cong (d ∷ ds) f g e = sumTo-cong d _ _ (λ k. sumBox-cong ds (λ ks. f (k ∷ ks)) (λ ks. g (k ∷ ks)) (λ ks. e (k ∷ ks)))
-
--- v_0^k_0 v_1^k_1 .. at a point
-module _ {A : Type 0} (R : Ring A) where
-  open Ring R using (_·_, unit)
-
-  abbrev pub monomial : List ℕ → List A → A
-  monomial [] N = unit
-  monomial (k ∷ ks) N = power R (hd R N) k · monomial ks (tl N)
 
 -- a map that keeps the sum
 module _ {B C : Type 0} (join : B → B → B) (meet : C → C → C) (h : B → C) (keeps : (a b : B) → h (join a b) ≡ meet (h a) (h b)) where

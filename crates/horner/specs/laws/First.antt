@@ -8,10 +8,10 @@ use Prim.Native.Nat.{ℕ, zero, suc, _+_, _-_, _≤_, _<_}
 use native.Mathlib.Nat as NatL
 use native.Mathlib.Omega.{arith}
 use lib.ListN.{length}
-use Rattle.horner.specs.definitions.Form.{Form, int, pop, pow, isZero, sum, scale, Normal, nats}
+use Rattle.horner.specs.definitions.Form.{Form, int, pop, pow, lower, isZero, sum, scale, Normal, nats}
 use Rattle.horner.specs.laws.Degree.{Bounded}
 use Rattle.horner.specs.definitions.Measures.{AllLe}
-use Rattle.horner.specs.definitions.Points.{InBox, Before, least, atFirst, firstPoint}
+use Rattle.horner.specs.definitions.Points.{InBox, Before}
 use Rattle.horner.specs.definitions.Rings.{Ring, power, nat}
 use Rattle.horner.specs.laws.Bounds.{bounded-sum, bounded-scale}
 use Rattle.horner.specs.laws.Grid.{bounded-lower, number-zero, Vanishes, grid}
@@ -19,6 +19,27 @@ use Rattle.horner.specs.laws.Normal.{normal-lower, normal-sum, normal-sc
 use Rattle.horner.specs.laws.Roots.{Regular}
 use Rattle.horner.specs.laws.Product.{val-scale}
 use Rattle.horner.specs.laws.Value.{val-lower, isZero-val, val-sum, val}
+
+-- ---- the point, variable by variable
+-- the least number from a up that fails a test, in at most f tries
+abbrev pub least : ℕ → (ℕ → Bool) → ℕ → ℕ
+least zero t a = a
+least (suc f) t a = elim (t a) [ true ↦ least f t (suc a) | false ↦ a ]
+
+module _ {A : Type 0} (R : Ring A) where
+  -- the form with a put for its first variable
+  abbrev pub atFirst : Form A → A → Form A
+  atFirst (int c) a = int c
+  atFirst (pop zero p) a = p
+  atFirst (pop (suc i) p) a = lower i p
+  atFirst (pow i p q) a = sum R (scale R (power R a i) (atFirst p a)) q
+
+  -- in each variable, within its bound, the least number that leaves a form that is not 0
+  abbrev pub firstPoint : List ℕ → Form A → List ℕ
+  firstPoint [] x = []
+  firstPoint (d ∷ ds) x =
+      let a = least (suc d) (λ b. isZero R (atFirst x (nat R b))) 0 in
+      a ∷ firstPoint ds (atFirst x (nat R a))
 
 -- ---- the least number that fails a test
 -- what it finds: a number below the end, that fails, and before which all pass

@@ -1,5 +1,5 @@
 -- Room: how many words a coded form takes, and how deep it nests. A normal form has at most three nodes for each POW, and 1; its POWs are
--- at most n for each coefficient that is not 0, and fewer than the box.
+-- at most n for each coefficient that is not 0, and fewer than the box; its POPs at most n - 1 for each, or n - 2 and 1.
 use mathlib.Core.Bool.{false, cond}
 use mathlib.Core.List.{List, [], _∷_}
 use mathlib.Core.Path.{_≡_, ap}
@@ -25,6 +25,12 @@ module _ {A : Type 0} where
   pows (int c) = 0
   pows (pop i p) = pows p
   pows (pow i p q) = suc (pows p + pows q)
+
+  -- how many POP
+  abbrev pub pops : Form A → ℕ
+  pops (int c) = 0
+  pops (pop i p) = suc (pops p)
+  pops (pow i p q) = pops p + pops q
 
 module _ {A : Type 0} (R : Ring A) where
   -- ---- nodes by POWs: a leaf more than POWs, and at most one POP for each POW
@@ -76,6 +82,44 @@ module _ {A : Type 0} (R : Ring A) where
           pow-pows n i p q h (pows-count-lead n p (h .1) (h .2) (h .3)) (pows-count (n - 1) q (h .4)),
           count-pos R (n - 1) q (h .4) e,
         )
+
+  -- ---- POPs by coefficients: each stands above a POW further down, so there is none for the last variable
+  pub pops-count : (n : ℕ) (x : Form A) → Normal R n x → pops x ≤ (n - 1) * count R x
+  pops-count n (int c) h = omega arith
+  pops-count n (pop i p) h =
+      omega (
+        arith,
+        one-less (n - i - 1) (n - 1) (count R p) (deeper (h .0) (pow-level R (n - i) p (h .1) (h .2))),
+        count-pos R (n - i) p (h .2) (pow-not-zero R p (h .1)),
+        pops-count (n - i) p (h .2),
+      )
+    where
+      deeper : 1 ≤ i → 1 ≤ n - i → suc (n - i - 1) ≤ n - 1
+      deeper f g = omega arith
+  pops-count n (pow i p q) h =
+      omega (
+        arith,
+        pops-count n p (h .2),
+        pops-count (n - 1) q (h .4),
+        NatL.mul-le-mul-right (count R q) (let l : n - 1 - 1 ≤ n - 1 = omega arith in l),
+        NatL.mul-add (n - 1) (count R p) (count R q),
+      )
+
+  -- a POW has no POP of its own level but the one in which its p may end
+  pub pops-first : (n : ℕ) (x : Form A) → Normal R n x → pops x ≤ 1 + (n - 2) * count R x
+  pops-first n (int c) h = omega arith
+  pops-first n (pop i p) h = omega (arith, pops-count (n - i) p (h .2), NatL.mul-le-mul-right (count R p) (lower (h .0)))
+    where
+      lower : 1 ≤ i → n - i - 1 ≤ n - 2
+      lower f = omega arith
+  pops-first n (pow i p q) h =
+      omega (
+        arith,
+        pops-first n p (h .2),
+        pops-count (n - 1) q (h .4),
+        NatL.mul-le-mul-right (count R q) (let l : n - 1 - 1 ≤ n - 2 = omega arith in l),
+        NatL.mul-add (n - 2) (count R p) (count R q),
+      )
 
   -- ---- POWs by the box
   pub pows-box : (n : ℕ) (ds : List ℕ) (x : Form A) → Normal R n x → Bounded ds x → pows x + 1 ≤ box ds

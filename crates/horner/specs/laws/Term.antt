@@ -99,6 +99,20 @@ theorem-1 n f g hf hg = (one-value, one-form)
             evalℤ g M ≡⟨ sym (value g M) ⟩
             val ℤ-ring (normℤ g) M ∎
 
+-- of all normal forms in the variables only the term's own has its values, be it at the points of natural numbers alone
+pub only-form : (n : ℕ) (t : Term) → Over n t → (x : Form ℤ) → Normal ℤ-ring n x
+    → ((N : List ℕ) → length N ≡ n → evalh ℤ-ring x (nats ℤ-ring N) ≡ evalℤ t (nats ℤ-ring N)) → x ≡ normℤ t
+only-form n t o x h agree = canon-ℤ n x (normℤ t) h (normal-norm ℤ-ring (λ z. z) refl n t o) at
+  where
+    at : (N : List ℕ) → length N ≡ n → val ℤ-ring x (nats ℤ-ring N) ≡ val ℤ-ring (normℤ t) (nats ℤ-ring N)
+    at N l =
+        let M = nats ℤ-ring N in
+        let long : length M ≡ n = length-map N (nat ℤ-ring) ∙ l in
+        val ℤ-ring x M ≡⟨ sym (evalh-val ℤ-ring n x M h (omega (arith, long))) ⟩
+        evalh ℤ-ring x M ≡⟨ agree N l ⟩
+        evalℤ t M ≡⟨ sym (val-norm ℤ-ring (λ z. z) t M) ⟩
+        val ℤ-ring (normℤ t) M ∎
+
 -- ---- another ring: its normal form of a term is the integers' one, carried over, if that is normal there
 module _ {A : Type 0} (R : Ring A) (ι : ℤ → A) (h : Hom ℤ-ring R ι) where
   pub eval-map : (t : Term) (N : List ℤ) → evalp R ι t (map ι N) ≡ ι (evalℤ t N)

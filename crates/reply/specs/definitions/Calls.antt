@@ -9,9 +9,9 @@ use lib.IntN.{ℤ}
 use lib.ListN.{length}
 use Rattle.horner.specs.definitions.Measures.{multiplesOf, maxs, sums, multiples, box, degrees, weight, terms}
 use Rattle.horner.specs.definitions.Form.{Form, sum, negate, prod, raise, evalh}
-use Rattle.horner.specs.definitions.Rings.{ℤ-ring, redℤ, prime, prime-pos, P-ring}
-use Rattle.horner.specs.definitions.Points.{firstPoint, gap, sides}
-use Rattle.horner.specs.definitions.Term.{normℤ, evalℤ, Term, diff, evalP}
+use Rattle.horner.specs.definitions.Rings.{ℤ-ring, remainderBy, prime}
+use Rattle.horner.specs.definitions.Points.{pointOf, leaves}
+use Rattle.horner.specs.definitions.Term.{normℤ, evalℤ, Term, diff}
 use Rattle.refusal.specs.declared.Side.the-variants.{Left, Right}
 use Rattle.reply.specs.declared.Compared.{Compared}
 use Rattle.reply.specs.declared.Compared.the-variants as C
@@ -41,7 +41,7 @@ FormCall row s r b b′ w w′ = Writes (formReply row (lengths w) s (length b))
 
 -- "A remainder is from 0 to P - 1, also for negative values."
 abbrev pub remainder : ℤ → ℕ
-remainder z = redℤ prime prime-pos z .0
+remainder z = remainderBy prime z
 
 -- "gives the remainder of a term .. at a point"; "12: point to evaluate at has another length than the row"
 abbrev pub remainderOf : (row s : List ℕ) (N : List ℤ) → Reply ℕ
@@ -144,18 +144,15 @@ pub data Verdict : Type 0 where
   equal : Verdict
   different : (point : List ℕ) (leftThere rightThere : ℕ) → Verdict
 
--- the point of two terms over a row of n (horner/laws/Answer, point-is: it is demand 3's)
-abbrev pub pointOf : ℕ → Term → Term → List ℕ
-pointOf n f g = firstPoint P-ring (sides n f g) (gap f g)
+-- two terms at a point, with the remainders by m there
+abbrev pub differentAt : ℕ → Term → Term → List ℕ → Verdict
+differentAt m f g N = different N (leaves m f N) (leaves m g N)
 
 -- "The answer is 'same' exactly when the two forms are the same bytes, else 'different' with demand 3's point and the two terms'
--- remainders there, left term first."
+-- remainders there, left term first." Over a row of n (horner/laws/Answer, point-is: the point is demand 3's)
 abbrev pub verdictOf : ℕ → Term → Term → Verdict
 verdictOf n f g =
-    elim (same (text (normℤ f)) (text (normℤ g))) [
-      | true ↦ equal
-      | false ↦ different (pointOf n f g) (evalP f (pointOf n f g) .0) (evalP g (pointOf n f g) .0)
-    ]
+    elim (same (text (normℤ f)) (text (normℤ g))) [ true ↦ equal | false ↦ differentAt prime f g (pointOf prime n f g) ]
 
 abbrev pub compareOf : (row s t : List ℕ) → Reply Verdict
 compareOf row s t =

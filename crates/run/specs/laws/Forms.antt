@@ -9,7 +9,7 @@ use lib.ListN.{length}
 use Rattle.code_counters.specs.laws.Reading.{downAt, plain-zero, spread, coef, coef-sum, coef-negate, coef-is, vanish}
 use Rattle.code_counters.specs.laws.Spread.{ups, read-mkpop, read-mkpow}
 use Rattle.horner.specs.definitions.Measures.{zeros}
-use Rattle.horner.specs.laws.Coefficients.{monomial}
+use Rattle.horner.specs.definitions.Measures.{monomial}
 use Rattle.horner.specs.definitions.Form.{Form, int, pop, pow, mkpop, mkpow, zeroForm, sum, negate, Normal, isPow, tl, hd}
 use Rattle.horner.specs.definitions.Rings.{Ring, power}
 use Rattle.horner.specs.laws.Value.{val, val-mkpop, val-mkpow, val-sum}

@@ -8,7 +8,7 @@ use native.Mathlib.Nat as NatL
 use native.Mathlib.Omega.{arith}
 use lib.ListN.{length}
 use Rattle.code_counters.specs.laws.Reading.{coef-sum, coef-negate}
-use Rattle.horner.specs.laws.Coefficients.{monomial}
+use Rattle.horner.specs.definitions.Measures.{monomial}
 use Rattle.horner.specs.definitions.Form.{int, mkpop, zeroForm, sum, negate, prod, Normal, tl, hd, nats}
 use Rattle.horner.specs.definitions.Rings.{Res, prime, P-ring, Ring, power}
 use Rattle.horner.specs.definitions.Measures.{zeros, sums, AllLe}

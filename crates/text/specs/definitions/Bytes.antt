@@ -2,6 +2,7 @@
 use mathlib.Core.Bool.{Bool, true, false, _&&_, _||_, not, cond}
 use mathlib.Core.List.{List, [], _∷_, _++_}
 use mathlib.Core.Option.{Option, none, some}
+use mathlib.Core.Path.{_≡_}
 use Prim.Native.Char.{code}
 use Prim.Native.Nat.{ℕ, suc, zero, _+_, _-_, _*_, _/_, _%_}
 use Prim.Native.String.{String, [] as []ˢ, _∷_ as _∷ˢ_}
@@ -138,6 +139,28 @@ placeOf (opening p) = p
 placeOf (closing p) = p
 placeOf (word p w) = p
 
+-- ---- what the tokens of a text are, said without reading: how it is parted into blanks and tokens
+-- "neither blank nor parenthesis"
+abbrev pub inWord : ℕ → Bool
+inWord x = not (blank x) && (not (eqb x 40) && not (eqb x 41))
+
+-- what stands behind a "longest" run: nothing, or a byte that is none of it
+abbrev pub Ends : List ℕ → Type 0
+Ends [] = Unit {0}
+Ends (x ∷ s) = inWord x ≡ false
+
+-- "A token is `(`, `)`, or a longest run of bytes that are neither blank nor parenthesis. Blanks may stand round any token." The text
+-- stands from the place p on; 40 is `(` and 41 is `)` (text_laws/Tokens, tokens-are: exactly then `tokens` gives these tokens)
+pub data Parted : ℕ → List ℕ → List Token → Type 0 where
+  nothing : (p : ℕ) → Parted p [] []
+  a-blank : (p x : ℕ) (s : List ℕ) (ts : List Token) → blank x ≡ true → Parted (suc p) s ts → Parted p (x ∷ s) ts
+  an-opening : (p : ℕ) (s : List ℕ) (ts : List Token) → Parted (suc p) s ts → Parted p (40 ∷ s) (opening p ∷ ts)
+  a-closing : (p : ℕ) (s : List ℕ) (ts : List Token) → Parted (suc p) s ts → Parted p (41 ∷ s) (closing p ∷ ts)
+  a-word :
+      (p : ℕ) (w s : List ℕ) (ts : List Token) → (w ≡ [] → ⊥) → all inWord w ≡ true → Ends s → Parted (p + length w) s ts →
+      Parted p (w ++ s) (word p w ∷ ts)
+
+-- ---- reading them
 pub data Class : Type 0 where
   gap : Class
   left : Class

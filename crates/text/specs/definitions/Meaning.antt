@@ -5,6 +5,7 @@ use mathlib.Core.List.{List, [], _∷_, _++_}
 use mathlib.Core.Path.{_≡_}
 use Prim.Native.Nat.{ℕ, suc, pred, _≤_, _<_}
 use lib.ListN.{length}
+use Rattle.dialect.specs.Dialects.{ordinary}
 use Rattle.dialect.specs.declared.Dialect.{Dialect}
 use Rattle.horner.specs.definitions.Measures.{weightOf, degreesOf, termsOf, AllLe}
 use Rattle.text.specs.definitions.Answer.{pastOf}
@@ -136,3 +137,8 @@ pub record FirstOver (row : List ℕ) (t : Tree) (c p e : ℕ) : Type 0 where
 pub data TermRefused (D : Dialect) (row s : List ℕ) (c p e : ℕ) : Type 0 where
   no-term : RefusedAs D row s c p e → TermRefused D row s c p e
   over-limit : (t : Tree) → IsTerm D row s t → FirstOver row t c p e → TermRefused D row s c p e
+
+-- document 01's own terms are refused by number and place; some end goes with them
+pub record OrdinaryRefused (row s : List ℕ) (c p : ℕ) : Type 0 where
+  pub end : ℕ
+  pub why : TermRefused ordinary row s c p end

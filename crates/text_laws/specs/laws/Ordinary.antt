@@ -8,7 +8,7 @@ use Rattle.text.specs.definitions.Answer as A
 use Rattle.text.specs.definitions.Answer.{told}
 use Rattle.text.specs.definitions.Bytes.{read, refusedAt}
 use Rattle.text.specs.definitions.Limits.{accept, acceptTerm}
-use Rattle.text.specs.definitions.Meaning.{IsTerm, Part, Fits, TermRefused}
+use Rattle.text.specs.definitions.Meaning.{IsTerm, Part, Fits, OrdinaryRefused}
 use Rattle.text.specs.definitions.Tree.{Tree}
 use Rattle.text_laws.specs.laws.Accepted as D
 use Rattle.text_laws.specs.laws.Answer.{told-read, told-refused}
@@ -24,18 +24,13 @@ module _ (row s : List ℕ) where
   unfolding acceptTerm
   accepts t = (λ h. D.accepts ordinary row s t .0 (accepted t h), λ h. ap told (D.accepts ordinary row s t .1 h))
 
-  -- some end goes with the number and the place
-  pub record Refused (c p : ℕ) : Type 0 where
-    pub end : ℕ
-    pub why : TermRefused ordinary row s c p end
-
-  refused-so : (c p : ℕ) → acceptTerm row s ≡ refusedAt c p → Refused c p
+  refused-so : (c p : ℕ) → acceptTerm row s ≡ refusedAt c p → OrdinaryRefused row s c p
   unfolding acceptTerm
   refused-so c p h =
       let r = told-refused (accept ordinary row s) c p h in
       record { end = r .end; why = D.refuses ordinary row s c p (r .end) .0 (r .is) }
 
   -- no refusal but those described, each exactly when its line of the table says so
-  pub refuses : (c p : ℕ) → (acceptTerm row s ≡ refusedAt c p) ↔ Refused c p
+  pub refuses : (c p : ℕ) → (acceptTerm row s ≡ refusedAt c p) ↔ OrdinaryRefused row s c p
   unfolding acceptTerm
   refuses c p = (refused-so c p, λ r. ap told (D.refuses ordinary row s c p (r .end) .1 (r .why)))

@@ -1,4 +1,4 @@
--- `trials::try_calls` makes 108 calls.
+-- `trials::try_calls` makes 120 calls.
 use Prim.Native.Nat.{_≤_, _-_}
 use native.Mathlib.Omega.{arith}
 use borrow.Author.Needs.{needs}
@@ -9,10 +9,10 @@ use Rattle.trials.proofs.try_calls.Lts as lts
 use Rattle.trials.proofs.try_call.Reads as try-call-reads
 
 abbrev Inv-loop : tie.InvT-loop
-Inv-loop row at turn₀ turn = turn ≤ 108
+Inv-loop row at turn₀ turn = turn ≤ 120
 
 abbrev μ-loop : tie.MeasureT-loop
-μ-loop row at turn₀ turn = 108 - turn
+μ-loop row at turn₀ turn = 120 - turn
 
 loop-holds : tie.Need-loop-holds Inv-loop μ-loop
 loop-holds c = omega arith

@@ -5,8 +5,9 @@ use Prim.Native.Nat.{ℕ, _+_, _≤_, _<_}
 use lib.ListN.{length, drop, getD}
 use denote.Ref.{now}
 use borrow.Author.Needs.{needs}
+use Rattle.text.specs.definitions.Bytes.{inWord}
 use Rattle.term_token.specs.declared.Step.the-variants.{Open, Close, Word, End}
-use Rattle.term_token.specs.Steps.{plain, lead, stepOf}
+use Rattle.term_token.specs.Steps.{lead, stepOf}
 use Rattle.term_token.specs.Views.{from, begin, width, says-end, says-open, says-close, says-word, step-open, step-close, step-word}
 use Rattle.term_token.specs.Views.{step-end}
 use Rattle.term_token.proofs.Reader.next.Statement.{statement}
@@ -27,10 +28,10 @@ module _ (s : List ℕ) (at b : ℕ) (found : b ≡ begin s at) (l : at ≤ leng
       subst (λ z. z < length s → getD s z 0 ≡ 41 → Close z (record { at = z + 1 }) ≡ stepOf (from s at)) (sym found)
       (λ h e. sym (step-close s at (begin s at) (record { at = begin s at + 1 }) (says-close s at l h e) refl))
 
-  at-word : (e : ℕ) → e ≡ b + lead plain (drop b s) → b < length s → (getD s b 0 ≡ 40 → ⊥) → (getD s b 0 ≡ 41 → ⊥)
+  at-word : (e : ℕ) → e ≡ b + lead inWord (drop b s) → b < length s → (getD s b 0 ≡ 40 → ⊥) → (getD s b 0 ≡ 41 → ⊥)
       → Word b (record { at = e }) ≡ stepOf (from s at)
   at-word =
-      subst (λ z. (e : ℕ) → e ≡ z + lead plain (drop z s) → z < length s → (getD s z 0 ≡ 40 → ⊥) → (getD s z 0 ≡ 41 → ⊥) → Word z
+      subst (λ z. (e : ℕ) → e ≡ z + lead inWord (drop z s) → z < length s → (getD s z 0 ≡ 40 → ⊥) → (getD s z 0 ≡ 41 → ⊥) → Word z
       (record { at = e }) ≡ stepOf (from s at))
       (sym found)
       (λ e f h n m. ap (λ q. Word (begin s at) (record { at = q })) f
