@@ -139,6 +139,26 @@ static int bound(void) { /* as many entries as fit, as a book: row, their number
 static void repeated(const char *left, const char *right) {
     for (int i = 0; i < ENTRIES; i++) strcpy(book[i].left, left), strcpy(book[i].right, right);
 }
+static char *falling(char *out, int v, int from, int to) { /* the product of the variable less each of these numbers, halved */
+    if (to - from == 1) return from ? out + sprintf(out, "(- %c %d)", row[v], from) : out + sprintf(out, "%c", row[v]);
+    out += sprintf(out, "(* ");
+    out = falling(out, v, from, (from + to) / 2);
+    *out++ = ' ';
+    out = falling(out, v, (from + to) / 2, to);
+    *out++ = ')';
+    return *out = 0, out;
+}
+static void late(int variables, int until) { /* against 0: they part first where each variable is as great as that */
+    char text[TEXT * 2], *out = text;
+    for (int v = 0; v < variables; v++) {
+        if (v + 1 < variables) out += sprintf(out, "(* ");
+        out = falling(out, v, 0, until);
+        if (v + 1 < variables) *out++ = ' ';
+    }
+    for (int v = 1; v < variables; v++) *out++ = ')';
+    *out = 0;
+    repeated(text, "0");
+}
 static void slowest(char *out) { /* (+ U (+ U .. 0)), U = (* 0 (+ T (+ T T))), halved until it has 4,063 bytes or less */
     const char *t = "(EXPT (EXPT (* (+ 1 X) (+ 1 Y)) 7) 2)";
     char unit[256];
@@ -222,7 +242,7 @@ static void timed(const char *name, one call, const calls *p, int archives, int 
     }
     for (int k = 0; k < archives; k++) qsort(took[k], ROUNDS, sizeof(double), order), median[k] = took[k][ROUNDS / 2];
     printf("%-34s %10.1f", name, median[0]);
-    if (archives == 2) printf(" %10.1f %8.1f", median[1], median[0] / median[1]);
+    if (archives == 2) printf(" %10.1f %8.2f", median[1], median[0] / median[1]);
     printf("\n");
     fflush(stdout);
 }
@@ -271,6 +291,12 @@ int main(int argc, char **argv) {
     timed("compare: powers of sums", compared, p, n, 8, 1);
     repeated("(EXPT (+ (+ X Y) (+ Z 1)) 5)", "(+ (* (* X Y) Z) (EXPT (+ (+ 1 X) (+ Y Z)) 5))");
     timed("compare: powers of sums, differ", compared, p, n, 8, 1);
+    late(1, 12);
+    timed("compare: a late point, 12", compared, p, n, ENTRIES, 1);
+    late(3, 5);
+    timed("compare: a late point, 5 5 5", compared, p, n, ENTRIES, 1);
+    late(4, 3);
+    timed("compare: a late point, 3 3 3 3", compared, p, n, ENTRIES, 1);
     repeated("(EXPT X 63)", "(* (EXPT X 32) (EXPT X 31))");
     timed("compare: X to the 63rd", compared, p, n, ENTRIES, 1);
     made(6, 36, 3, 4, 0);

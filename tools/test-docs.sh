@@ -71,8 +71,14 @@ version=$(sed -n 's/^#define PANEL_VERSION "\(.*\)"$/\1/p' include/panel.h)
 [ "$(sed -n 's/^## \([0-9.]*\)$/\1/p' CHANGES.md | head -n 1)" = "$version" ] || fail "CHANGES.md does not begin with version $version"
 has tools/makebook/Cargo.toml "^version = \"$version\"$"
 
+for page in docs/landings/*.md; do
+    request=$(basename "$page" .md)
+    has docs/requests.md "^## $request: "
+    has CHANGES.md "^- Request $request: "
+done
+
 # ---- files that are named are there
-for page in README.md CHANGES.md docs/*.md; do
+for page in README.md CHANGES.md docs/*.md docs/landings/*.md; do
     for named in $(grep -oE '\b(docs|tools|include|c)/[A-Za-z_-]+\.(md|sh|py|h|c|cpp)\b' "$page" | sort -u); do
         [ -e "$named" ] || fail "$page names $named, which is not there"
     done

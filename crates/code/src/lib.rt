@@ -24,6 +24,19 @@ fn low8(a: u16) -> u16
     a % 256
 }
 
+// The leaf of a number: its remainder by the modulus of the width.
+pub fn leaf_of(width: u32, n: u64) -> u32
+    ensures { λ r. ⌜ (r ≡ n % modulus width) × (r < modulus width) ⌝ }
+{
+    if width == 16 {
+        return (n % 65536) as u32;
+    }
+    if width == 8 {
+        return (n % 256) as u32;
+    }
+    code_remainder::by_p(n)
+}
+
 // The sum of two leaves: counters wrap.
 pub fn leaf_sum(width: u32, a: u32, b: u32) -> u32
     requires { ⌜ (a < modulus width) × (b < modulus width) ⌝ }
@@ -35,7 +48,7 @@ pub fn leaf_sum(width: u32, a: u32, b: u32) -> u32
     if width == 8 {
         return low8(wrapping_add_u16(a as u16, b as u16)) as u32;
     }
-    (a + b) % 2147483647
+    code_remainder::by_p((a + b) as u64)
 }
 
 // The negative of a leaf.
@@ -49,7 +62,7 @@ pub fn leaf_negation(width: u32, a: u32) -> u32
     if width == 8 {
         return low8(wrapping_sub_u16(0, a as u16)) as u32;
     }
-    (2147483647 - a) % 2147483647
+    code_remainder::by_p((2147483647 - a) as u64)
 }
 
 // The product of two leaves.
@@ -57,14 +70,7 @@ pub fn leaf_product(width: u32, a: u32, b: u32) -> u32
     requires { ⌜ (a < modulus width) × (b < modulus width) ⌝ }
     ensures { λ r. ⌜ (r ≡ mulBy (modulus width) a b) × (r < modulus width) ⌝ }
 {
-    let c = (a as u64) * (b as u64);
-    if width == 16 {
-        return (c % 65536) as u32;
-    }
-    if width == 8 {
-        return (c % 256) as u32;
-    }
-    (c % 2147483647) as u32
+    leaf_of(width, (a as u64) * (b as u64))
 }
 
 // The i-th power of a leaf.

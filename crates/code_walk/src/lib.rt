@@ -90,11 +90,10 @@ fn leaf_carried(from: u32, width: u32, x: u32) -> u32
         return x;
     }
     let d = modulus_of(from) - x;
-    let m = modulus_of(width);
     if x < d {
-        return x % m;
+        return code::leaf_of(width, x as u64);
     }
-    code::leaf_negation(width, d % m)
+    code::leaf_negation(width, code::leaf_of(width, d as u64))
 }
 
 // The form y carried to the ring of another width, each leaf times a.

@@ -23,5 +23,5 @@ fn of_coordinate(x: i32) -> u32
     ensures { λ r. ⌜ r ≡ remainder x ⌝ }
 {
     let up = (x as i64) + 4294967294;
-    ((up as u64) % 2147483647) as u32
+    code_remainder::by_p(up as u64)
 }

@@ -1,6 +1,6 @@
 // The coded form of a run in words.
 ghost use mathlib.Core.Path.{_≡_};
-ghost use Prim.Native.Nat.{_+_, _^_, _≤_};
+ghost use Prim.Native.Nat.{_+_, _/_, _^_, _≤_};
 ghost use lib.ListN.{length};
 ghost use Rattle.code.specs.Coding.{Made, enc};
 ghost use Rattle.run_merge.specs.Words.{pairs};
@@ -22,6 +22,23 @@ pub fn unit_of(m: u32) -> u32
         return 4096;
     }
     262144
+}
+
+// The first of m + 1 exponents that a key has over its base: how many units are in it.
+fn first_exponent(m: u32, key: u32) -> u32
+    requires { ⌜ m ≤ 3 ⌝ }
+    ensures { λ r. ⌜ r ≡ key / 64 ^ m ⌝ }
+{
+    if m == 0 {
+        return key;
+    }
+    if m == 1 {
+        return key / 64;
+    }
+    if m == 2 {
+        return key / 4096;
+    }
+    key / 262144
 }
 
 // How many words of x have keys from limit on.
@@ -61,7 +78,7 @@ pub fn to_code(x: &[u32], base: u32, n: u32, out: &mut [u32]) -> usize
         let a = to_code(x, base, m, &mut out[1..]);
         return code::make_pop(0, out, 1, a);
     }
-    let i = (x[e - 2] - base) / unit;
+    let i = first_exponent(m, x[e - 2] - base);
     let a = to_code(&x[..e], base + i * unit, n, &mut out[1..]);
     let f = 1 + a;
     let b = to_code(&x[e..], base, m, &mut out[f..]);

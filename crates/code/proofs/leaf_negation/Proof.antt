@@ -34,8 +34,11 @@ leaf-negation-spec =
     rest-at (λ m. m - (s .args .a)) (s .args .width) 256 _ (modulus-8 (s .args .width) (if2 .taken))
     (c .low8 .ensures ∙ low-negative 8 8 (c .before .wrapping-sub-u162 .result) (s .args .a) (c .before .wrapping-sub-u162 .ensures) l))
     (λ c. omega (arith, modulus-prime (c .before .before .args .width) (c .before .if1 .left) (c .if2 .left)))
+    (λ c. search needs)
+    (λ c κs. search needs)
     -- returns-3
     (λ c.
-    let s = c .before .before in
-    rest-at (λ m. m - (s .args .a)) (s .args .width) 2147483647 _ (modulus-prime (s .args .width) (c .before .if1 .left) (c .if2 .left))
-    (search needs)))
+    let s : tie.Start = c .before .before .before in
+    rest-at (λ m. m - (s .args .a)) (s .args .width) 2147483647 _
+    (modulus-prime (s .args .width) (c .before .before .if1 .left) (c .before .if2 .left))
+    (c .by-p .ensures .0)))

@@ -33,9 +33,11 @@ leaf-sum-spec =
     rest-at (λ m. (s .args .a) + (s .args .b)) (s .args .width) 256 _ (modulus-8 (s .args .width) (c .before .before .if2 .taken))
     (c .low8 .ensures ∙ ap (λ n. n % 256) (c .before .wrapping-add-u162 .ensures) ∙ low-bits 8 8 ((s .args .a) + (s .args .b))))
     (λ c. omega (arith, modulus-prime (c .before .before .args .width) (c .before .if1 .left) (c .if2 .left)))
+    (λ c. search needs)
+    (λ c κs. search needs)
     -- returns-3
     (λ c.
-    let s = c .before .before in
+    let s : tie.Start = c .before .before .before in
     rest-at (λ m. (s .args .a) + (s .args .b)) (s .args .width) 2147483647 _
-    (modulus-prime (s .args .width) (c .before .if1 .left) (c .if2 .left))
-    (search needs)))
+    (modulus-prime (s .args .width) (c .before .before .if1 .left) (c .before .if2 .left))
+    (c .by-p .ensures .0)))

@@ -2,10 +2,9 @@
 -- negative.
 -- Assumes nothing.
 use mathlib.Core.Path.{_≡_, sym, ap, subst, _∙_}
-use Prim.Native.Nat.{ℕ, _-_, _%_, _<_, _≤_}
-use native.Mathlib.Nat.{mod-lt}
+use Prim.Native.Nat.{_-_, _%_, _<_, _≤_}
 use native.Mathlib.Omega.{arith}
-use Rattle.code.specs.Widths.{modulus, modulus-pos, leaf, negBy}
+use Rattle.code.specs.Widths.{modulus, leaf, negBy}
 use Rattle.code.specs.laws.Widths.{leaf-number}
 use Rattle.code_walk.specs.Carrying.{carried}
 use Rattle.code_walk.specs.laws.Carrying.{carried-small, carried-large, carried-back}
@@ -13,17 +12,14 @@ use borrow.Author.Needs.{needs}
 use Rattle.code_walk.proofs.leaf_carried.Statement.{statement}
 use Rattle.code_walk.proofs.leaf_carried.Tie as tie
 
--- the places that are looked at, each seen from a later one
-abbrev start : tie.After-modulus-of2 → tie.Start
-start c = c .before .before .before
+-- the place at the call, seen from a later one
+abbrev start : tie.After-modulus-of → tie.Start
+start c = c .before .before
 
-by : (c : tie.After-modulus-of2) → (n : ℕ) → n % (c .modulus-of2 .result) ≡ n % modulus (start c .args .width)
-by c = λ n. ap (λ z. n % z) (c .modulus-of2 .ensures)
-
-gap : (c : tie.After-modulus-of2) →
+gap : (c : tie.After-modulus-of) →
     let s = start c in
-    (c .before .modulus-of .result - (s .args .x)) ≡ modulus (s .args .from) - (s .args .x)
-gap c = ap (λ z. z - (start c .args .x)) (c .before .modulus-of .ensures)
+    (c .modulus-of .result - (s .args .x)) ≡ modulus (s .args .from) - (s .args .x)
+gap c = ap (λ z. z - (start c .args .x)) (c .modulus-of .ensures)
 
 pub leaf-carried-spec : {M : Type 1} → statement M
 leaf-carried-spec =
@@ -39,31 +35,25 @@ leaf-carried-spec =
     (λ c κs. search needs)
     (λ c. omega (arith, c .modulus-of .ensures, c .before .before .pre))
     (λ c κs. search needs)
-    (λ c. omega (arith, c .before .modulus-of2 .ensures, modulus-pos (start (c .before) .args .width)))
     -- returns-2
     (λ c.
-    let s = start (c .before) in
-    let h : (s .args .x) < modulus (s .args .from) - (s .args .x) = omega (arith, gap (c .before), c .if2 .taken) in (
-      by (c .before) (s .args .x) ∙ sym (carried-small (s .args .from) (s .args .width) (s .args .x) (s .pre) h),
-      subst (λ z. z < modulus (s .args .width)) (sym (by (c .before) (s .args .x)))
-          (mod-lt (s .args .x) (modulus-pos (s .args .width))),
+    let m : tie.After-modulus-of = c .before .before in
+    let s = start m in
+    let h : (s .args .x) < modulus (s .args .from) - (s .args .x) = omega (arith, gap m, c .before .if2 .taken) in (
+      (c .leaf-of .ensures .0) ∙ sym (carried-small (s .args .from) (s .args .width) (s .args .x) (s .pre) h),
+      c .leaf-of .ensures .1,
     ))
-    (λ c. omega (arith, c .before .modulus-of2 .ensures, modulus-pos (start (c .before) .args .width)))
-    -- leaf-negation-requires
-    (λ c κs.
-    let modulus-of = c .before .before .modulus-of in
-    let s = start (c .before) in
-    subst (λ z. z < modulus (s .args .width)) (sym (by (c .before) (modulus-of .result - (s .args .x))))
-    (mod-lt (modulus-of .result - (s .args .x)) (modulus-pos (s .args .width))))
+    (λ c. search needs)
+    (λ c κs. search needs)
+    (λ c κs. c .leaf-of2 .ensures .1)
     -- returns-3
     (λ c.
-    let at-modulus-of2 = c .before .before in
-    let s = start at-modulus-of2 in
-    let h : modulus (s .args .from) - (s .args .x) ≤ (s .args .x) = omega (arith, gap at-modulus-of2, c .before .if2 .left) in (
+    let m : tie.After-modulus-of = c .before .before .before in
+    let s = start m in
+    let h : modulus (s .args .from) - (s .args .x) ≤ (s .args .x) = omega (arith, gap m, c .before .before .if2 .left) in (
       (c .leaf-negation) .ensures .0
           ∙ ap (negBy (modulus (s .args .width)))
-          (by at-modulus-of2 (at-modulus-of2 .before .modulus-of .result - (s .args .x))
-          ∙ ap (λ z. z % modulus (s .args .width)) (gap at-modulus-of2))
+          (c .before .leaf-of2 .ensures .0 ∙ ap (λ z. z % modulus (s .args .width)) (gap m))
           ∙ sym (carried-large (s .args .from) (s .args .width) (s .args .x) (s .pre) h),
       (c .leaf-negation) .ensures .1,
     )))

@@ -1,4 +1,5 @@
 -- `door_point::of_coordinate` meets its contract, by the laws of Coordinate.antt.
+use mathlib.Core.Path.{_∙_}
 use Prim.Native.Nat.{_<_}
 use native.Mathlib.Omega.{arith}
 use borrow.Author.Needs.{needs}
@@ -12,8 +13,8 @@ cast-up c = wide (c .args .x) (c .fits .x)
 add-up : tie.Need-add-up
 add-up c = sum-fits (c .args .x) (c .fits .x)
 
-cast-result : tie.Need-cast-result
-cast-result c =
+cast-by-p : tie.Need-cast-by-p
+cast-by-p c =
     let x = c .args .x in
     let f = c .fits .x in
     let l : raised x < 9223372036854775808 = raised-small x (f .sfits) in
@@ -21,9 +22,9 @@ cast-result c =
 
 returns : tie.Need-returns
 returns c =
-    let x = c .args .x in
-    let f = c .fits .x in
-    rw (read-is x f) (raised-remainder x (f .sfits))
+    let x = c .before .args .x in
+    let f = c .before .fits .x in
+    c .by-p .ensures .0 ∙ rw (read-is x f) (raised-remainder x (f .sfits))
 
 pub of-coordinate-spec : {M : Type 1} → statement M
-of-coordinate-spec = tie.close (tie.spec cast-up add-up cast-result (λ c. search needs) returns)
+of-coordinate-spec = tie.close (tie.spec cast-up add-up cast-by-p (λ c κs. search needs) returns)

@@ -19,8 +19,9 @@ use Rattle.run_code.proofs.+to_code.Tie.{close}
 use Rattle.run_code.proofs.to_code.Reads as to-code
 use Rattle.run_code.proofs.+to_code.Lts-to_code as lts
 use Rattle.run_code.proofs.+to_code.Proof.Places.{μ-to-code, to-code-at, calls, At}
-use Rattle.run_code.proofs.+to_code.Proof.Places.{start, start-from-cut, then3, start-from-pop, else3, start-from-front, after-out3}
-use Rattle.run_code.proofs.+to_code.Proof.Places.{room, good, is-pop, is-pow, inner, front-room, both}
+use Rattle.run_code.proofs.+to_code.Proof.Places.{start, start-from-cut, then3, start-from-pop}
+use Rattle.run_code.proofs.+to_code.Proof.Places.{else3, start-from-exponent, exponent, start-from-front, after-out3}
+use Rattle.run_code.proofs.+to_code.Proof.Places.{room, good, is-pop, cut-pow, is-pow, inner, front-room, both}
 
 pub +to-code-spec : {M : Type 1} → statement M
 +to-code-spec = close μ-to-code λ t.
@@ -91,27 +92,30 @@ pub +to-code-spec : {M : Type 1} → statement M
     let made : At lts.After-make-pop t = c .before .before in
     let a : At lts.After-to-code t = made .before .before .before .before in
     pop-gives 1 (inner t a) (is-pop t (then3 a) .is) (made .make-pop .ensures))
-    (λ c. omega (arith, is-pow t c .two))
+    (λ c. omega (arith, cut-pow t c .two))
     (λ c. search needs)
     (λ c. search needs)
-    (λ c. omega (arith, is-pow t (c .before) .from))
-    (λ c. omega (arith, is-pow t (c .before) .unit))
+    (λ c. omega (arith, cut-pow t (c .before) .from))
+    -- first-exponent-requires
+    (λ c κs.
+    let at-else3 : At lts.Else3 t = c .before in
+    omega (arith, start-from-cut (at-else3 .before) .pre .1 .1 .0))
     -- slice-aggregate-to-code
     (λ c.
-    let at-else3 : At lts.Else3 t = c .before .before in
-    sym (length-take-le (at-else3 .before .cut .result) (start-from-cut (at-else3 .before) .args .x .now) (is-pow t at-else3 .inside)))
-    (λ c. omega (arith, is-pow t (c .before .before) .higher, is-pow t (c .before .before) .small))
-    (λ c. omega (arith, is-pow t (c .before .before) .higher, is-pow t (c .before .before) .small))
+    let i : At lts.After-first-exponent t = c .before in
+    sym (length-take-le (else3 i .before .cut .result) (start-from-exponent i .args .x .now) (is-pow t i .inside)))
+    (λ c. omega (arith, is-pow t (c .before) .higher, is-pow t (c .before) .small))
+    (λ c. omega (arith, is-pow t (c .before) .higher, is-pow t (c .before) .small))
     (λ c. search needs)
     (λ c. search needs)
     (λ c. search needs)
     -- to-code-requires-2
     (λ c κs.
-    let at-else3 : At lts.Else3 t = c .before .before .before in
-    let s = start-from-cut (at-else3 .before) in
+    let i : At lts.After-first-exponent t = c .before .before in
+    let s = start-from-exponent i in
     let x = s .args .x .now in
-    let e = at-else3 .before .cut .result in
-    let v = is-pow t at-else3 in (
+    let e = else3 i .before .cut .result in
+    let v = is-pow t i in (
       omega (arith, v .less-front),
       (
         (v .front, v .even-front),
@@ -147,7 +151,7 @@ pub +to-code-spec : {M : Type 1} → statement M
     let o : At lts.After-out3 t = c .before .before .before in
     let a = o .before in
     let s = start-from-front a in
-    let v = is-pow t (else3 a) in
+    let v = is-pow t (exponent a) in
     let l = length-tail-part (1 + a .to-code2 .result) (one-put (s .args .out .now) (a .to-code2 .last .1 .1 .1 .0)) in (
       omega (arith, v .less-back),
       (
@@ -168,7 +172,7 @@ pub +to-code-spec : {M : Type 1} → statement M
     let o = after-out3 b in
     let a = o .before in
     let s = start-from-front a in
-    let v = is-pow t (else3 a) in
+    let v = is-pow t (exponent a) in
     let m = both t b in (
       (
         omega (
@@ -189,4 +193,4 @@ pub +to-code-spec : {M : Type 1} → statement M
     (λ c.
     let made : At lts.After-make-pow t = c .before .before in
     let b : At lts.After-to-code3 t = made .before .before .before .before in
-    pow-gives _ (both t b) (is-pow t (else3 (after-out3 b .before)) .is) (made .make-pow .ensures))
+    pow-gives _ (both t b) (is-pow t (exponent (after-out3 b .before)) .is) (made .make-pow .ensures))

@@ -108,27 +108,22 @@ falls-least (u ∷ l) m h =
 abbrev pub leastOf : ℕ → ℕ → List ℕ → ℕ → ℕ
 leastOf u base x e = (getD x (e - 2) 0 - base) / u
 
--- the base less which the keys before the cut are taken
-abbrev pub baseOf : ℕ → ℕ → List ℕ → ℕ → ℕ
-baseOf u base x e = base + leastOf u base x e * u
-
--- y and z are the words before and behind the cut
-pub record PowStep (n m u base : ℕ) (x : List ℕ) (e : ℕ) (y z : List ℕ) : Type 0 where
+-- i is that exponent; y and z are the words before and behind the cut
+pub record PowStep (n m u i base : ℕ) (x : List ℕ) (e : ℕ) (y z : List ℕ) : Type 0 where
   pub two : 2 ≤ e
   pub inside : e ≤ length x
   pub from : base + u ≤ getD x (e - 2) 0
   pub small : getD x (e - 2) 0 < 16777216
-  pub unit : 0 < u
-  pub pos : 1 ≤ leastOf u base x e
-  pub higher : baseOf u base x e ≤ getD x (e - 2) 0
-  pub front : Placed n (baseOf u base x e) (pairs y)
+  pub pos : 1 ≤ i
+  pub higher : base + i * u ≤ getD x (e - 2) 0
+  pub front : Placed n (base + i * u) (pairs y)
   pub back : Placed m base (pairs z)
   pub even-front : Even (length y)
   pub even-back : Even (length z)
-  pub less-front : getD y 0 0 - baseOf u base x e + n < getD x 0 0 - base + n
+  pub less-front : getD y 0 0 - (base + i * u) + n < getD x 0 0 - base + n
   pub less-back : getD z 0 0 - base + m < getD x 0 0 - base + n
-  pub is : formAt n base x ≡ powOf 0 (leastOf u base x e) (formAt n (baseOf u base x e) y) (formAt m base z)
-  pub words : length (enc 0 (formAt n base x)) ≡ 1 + length (enc 0 (formAt n (baseOf u base x e) y)) + length (enc 0 (formAt m base z))
+  pub is : formAt n base x ≡ powOf 0 i (formAt n (base + i * u) y) (formAt m base z)
+  pub words : length (enc 0 (formAt n base x)) ≡ 1 + length (enc 0 (formAt n (base + i * u) y)) + length (enc 0 (formAt m base z))
 
 module _ (m base : ℕ) (x : List ℕ) (e : ℕ) (h : Placed (suc m) base (pairs x)) (ev : Even (length x)) (c : Cut (base + 64 ^ m) x e)
     (some : e ≡ 0 → ⊥) where
@@ -208,13 +203,12 @@ module _ (m base : ℕ) (x : List ℕ) (e : ℕ) (h : Placed (suc m) base (pairs
       go (k ∷ []) v g = absurd v
       go (k ∷ c ∷ z) v g = omega (arith, g .0)
 
-  step : PowStep (suc m) m (64 ^ m) base x e (take e x) (drop e x)
+  step : PowStep (suc m) m (64 ^ m) i base x e (take e x) (drop e x)
   step = record {
     two = two;
     inside = c .inside;
     from = low;
     small = of-last (λ k. k < 16777216) (each-front (λ k. k < 16777216) (pairs (take e x)) (pairs (drop e x)) (placed .small));
-    unit = unit-pos m;
     pos = i-pos;
     higher = omega (arith, parts, low);
     front = front;
@@ -243,13 +237,14 @@ module _ (m base : ℕ) (x : List ℕ) (e : ℕ) (h : Placed (suc m) base (pairs
       over-last g = omega (arith, parts, low, NatL.mod-lt (last - base) (unit-pos m))
 
 -- what the cut says of the code that is to be written, with the words as they are lent
-pub pow-step : (n m u base : ℕ) (x : List ℕ) (e : ℕ) → n ≡ suc m → u ≡ 64 ^ m → Placed n base (pairs x) → Even (length x)
-    → Cut (base + u) x e → (e ≡ 0 → ⊥) → PowStep n m u base x e (take e x) (take (length x - e) (drop e x))
-pow-step n m u base x e q o h ev c s =
-    subst (λ w. PowStep n m u base x e (take e x) w) (sym (tail-part e x))
-    (subst (λ w. PowStep n m w base x e (take e x) (drop e x)) (sym o)
-    (subst (λ w. PowStep w m (64 ^ m) base x e (take e x) (drop e x)) (sym q)
-    (step m base x e (subst (λ w. Placed w base (pairs x)) q h) ev (subst (λ w. Cut (base + w) x e) o c) s)))
+pub pow-step : (n m u i base : ℕ) (x : List ℕ) (e : ℕ) → n ≡ suc m → u ≡ 64 ^ m → i ≡ leastOf (64 ^ m) base x e → Placed n base (pairs x)
+    → Even (length x) → Cut (base + u) x e → (e ≡ 0 → ⊥) → PowStep n m u i base x e (take e x) (take (length x - e) (drop e x))
+pow-step n m u i base x e q o r h ev c s =
+    subst (λ w. PowStep n m u i base x e (take e x) w) (sym (tail-part e x))
+    (subst (λ w. PowStep n m u w base x e (take e x) (drop e x)) (sym r)
+    (subst (λ w. PowStep n m w (leastOf (64 ^ m) base x e) base x e (take e x) (drop e x)) (sym o)
+    (subst (λ w. PowStep w m (64 ^ m) (leastOf (64 ^ m) base x e) base x e (take e x) (drop e x)) (sym q)
+    (step m base x e (subst (λ w. Placed w base (pairs x)) q h) ev (subst (λ w. Cut (base + w) x e) o c) s))))
 
 -- ---- where no first exponent is above 0
 pub record PopStep (n m base : ℕ) (x : List ℕ) : Type 0 where

@@ -1,13 +1,14 @@
 -- The places in `run_code::to_code` that its proof looks at, and what holds there.
 -- Assumes nothing.
-use Prim.Native.Nat.{ℕ, _+_, _-_, _≤_, _<_}
+use mathlib.Core.Path.{refl, sym, subst}
+use Prim.Native.Nat.{ℕ, _+_, _-_, _*_, _^_, _≤_, _<_}
 use native.Mathlib.Omega.{arith}
 use lib.ListN.{length, take, drop, getD}
 use Rattle.code.specs.Coding.{Good, Codes}
 use Rattle.code.specs.laws.Sizes.{enc-pos}
 use Rattle.code.proofs.Making.{one-put, two-put, made-codes, two-made}
 use Rattle.run_code.specs.Decoding.{formAt}
-use Rattle.run_code.specs.laws.Cutting.{baseOf, PowStep, pow-step, PopStep, pop-step}
+use Rattle.run_code.specs.laws.Cutting.{leastOf, PowStep, pow-step, PopStep, pop-step}
 use Rattle.run_code.specs.laws.Parts.{form-good}
 use borrow.Fn.Kinds.{In, Out}
 use borrow.Fn.PlainCycle.{Measures, is, falls, and}
@@ -16,6 +17,7 @@ use Rattle.run_code.proofs.to_code.Kinds as to-code-kinds
 use Rattle.run_code.proofs.+to_code.Lts-to_code as lts
 use Rattle.run_code.proofs.cut.Reads as cut-reads
 use Rattle.run_code.proofs.unit_of.Reads as unit-of-reads
+use Rattle.run_code.proofs.first_exponent.Reads as first-exponent-reads
 use Rattle.code.proofs.make_pop.Reads as make-pop-reads
 use Rattle.code.proofs.make_pow.Reads as make-pow-reads
 
@@ -39,6 +41,8 @@ calls t = (
   to-code.Post,
   make-pop-reads.Asked,
   make-pop-reads.Learnt,
+  first-exponent-reads.Asked,
+  first-exponent-reads.Learnt,
   make-pow-reads.Asked,
   make-pow-reads.Learnt,
 )
@@ -59,11 +63,17 @@ then3 c = c .before .before
 abbrev pub start-from-pop : {t : ℕ} → At lts.After-to-code t → At lts.Start t
 start-from-pop c = start-from-cut (then3 c .before)
 
-abbrev pub else3 : {t : ℕ} → At lts.After-to-code2 t → At lts.Else3 t
-else3 c = c .before .before .before .before
+abbrev pub else3 : {t : ℕ} → At lts.After-first-exponent t → At lts.Else3 t
+else3 c = c .before .before
+
+abbrev pub start-from-exponent : {t : ℕ} → At lts.After-first-exponent t → At lts.Start t
+start-from-exponent c = start-from-cut (else3 c .before)
+
+abbrev pub exponent : {t : ℕ} → At lts.After-to-code2 t → At lts.After-first-exponent t
+exponent c = c .before .before .before
 
 abbrev pub start-from-front : {t : ℕ} → At lts.After-to-code2 t → At lts.Start t
-start-from-front c = start-from-cut (else3 c .before)
+start-from-front c = start-from-exponent (exponent c)
 
 abbrev pub after-out3 : {t : ℕ} → At lts.After-to-code3 t → At lts.After-out3 t
 after-out3 c = c .before .before .before .before
@@ -86,18 +96,30 @@ is-pop t c =
     pop-step (s .args .n) (s .args .n - 1) (u .result) (s .args .base) (s .args .x .now) (v .result) (omega arith) (u .ensures)
     (s .pre .1 .0 .0) (v .ensures) (c .if3 .taken)
 
-pub is-pow : (t : ℕ) (c : At lts.Else3 t) →
+abbrev pub Pow : {t : ℕ} → At lts.Else3 t → ℕ → Type 0
+Pow c i =
     let s = start-from-cut (c .before) in
     let x = s .args .x .now in
     let e = c .before .cut .result in
-    PowStep (s .args .n) (s .args .n - 1) (c .before .before .unit-of .result) (s .args .base) x e (take e x)
+    PowStep (s .args .n) (s .args .n - 1) (c .before .before .unit-of .result) i (s .args .base) x e (take e x)
     (take (length x - e) (drop e x))
-is-pow t c =
+
+abbrev pub least : {t : ℕ} → At lts.Else3 t → ℕ
+least c =
+    let s = start-from-cut (c .before) in
+    leastOf (64 ^ (s .args .n - 1)) (s .args .base) (s .args .x .now) (c .before .cut .result)
+
+pub cut-pow : (t : ℕ) (c : At lts.Else3 t) → Pow c (least c)
+cut-pow t c =
     let s = start-from-cut (c .before) in
     let u = c .before .before .unit-of in
     let v = c .before .cut in
-    pow-step (s .args .n) (s .args .n - 1) (u .result) (s .args .base) (s .args .x .now) (v .result) (omega arith) (u .ensures)
-    (s .pre .1 .0 .0) (s .pre .1 .0 .1) (v .ensures) (c .if3 .left)
+    pow-step (s .args .n) (s .args .n - 1) (u .result) (least c) (s .args .base) (s .args .x .now) (v .result) (omega arith) (u .ensures)
+    refl (s .pre .1 .0 .0) (s .pre .1 .0 .1) (v .ensures) (c .if3 .left)
+
+-- the same with the exponent that was found
+pub is-pow : (t : ℕ) (c : At lts.After-first-exponent t) → Pow (else3 c) (c .first-exponent .result)
+is-pow t c = subst (Pow (else3 c)) (sym (c .first-exponent .ensures)) (cut-pow t (else3 c))
 
 -- the form that stands behind the free word, and the two that do
 pub inner : (t : ℕ) (c : At lts.After-to-code t) →
@@ -115,15 +137,17 @@ pub front-room : (t : ℕ) (c : At lts.After-out3 t) →
     1 + c .before .to-code2 .result ≤ length (one-put (s .args .out .now) (c .before .to-code2 .last .1 .1 .1 .0))
 front-room t c =
     let s = start-from-front (c .before) in
-    omega (arith, is-pow t (else3 (c .before)) .words, c .before .to-code2 .ensures .size, s .pre .1 .1 .1, c .out3 .given .1)
+    omega (arith, is-pow t (exponent (c .before)) .words, c .before .to-code2 .ensures .size, s .pre .1 .1 .1, c .out3 .given .1)
 
 pub both : (t : ℕ) (c : At lts.After-to-code3 t) →
     let a = after-out3 c .before in
     let s = start-from-front a in
     let x = s .args .x .now in
-    let cut = else3 a .before .cut .result in
+    let i = exponent a in
+    let cut = else3 i .before .cut .result in
+    let higher = s .args .base + i .first-exponent .result * (else3 i .before .before .unit-of .result) in
     let put = two-put (s .args .out .now) (a .to-code2 .last .1 .1 .1 .0) (c .to-code3 .last .1 .1 .1 .0) (a .to-code2 .result) in
-    Codes 0 (formAt (s .args .n) (baseOf (else3 a .before .before .unit-of .result) (s .args .base) x cut) (take cut x))
+    Codes 0 (formAt (s .args .n) higher (take cut x))
     (take (a .to-code2 .result) (drop 1 put))
     × Codes 0 (formAt (s .args .n - 1) (s .args .base) (take (length x - cut) (drop cut x)))
     (take (c .to-code3 .result) (drop (1 + a .to-code2 .result) put))
@@ -131,7 +155,7 @@ both t c =
     let o = after-out3 c in
     let a = o .before in
     let s = start-from-front a in
-    let v = is-pow t (else3 a) in
+    let v = is-pow t (exponent a) in
     two-made (s .args .out .now) _ _ (a .to-code2 .result) (c .to-code3 .result) (omega (arith, room t s)) (front-room t o)
     (a .to-code2 .ensures) (form-good (s .args .n) _ _ (s .pre .1 .1 .0 .0) (v .front)) (c .to-code3 .ensures)
     (form-good (s .args .n - 1) _ _ (omega (arith, s .pre .1 .1 .0)) (v .back))

@@ -1,0 +1,2 @@
+-- The remainder by P without a division.
+pub mod Folding
