@@ -30,10 +30,12 @@ for word; do case \$word in *.bc) cp "\$word" "$work/module.bc" ;; esac; done
 exec "$kit/$clang" "\$@"
 END
 chmod 755 "$work/kit/$clang"
+bash tools/prove.sh panel
 RATTLE_HOME=$work/kit bash tools/locked.sh rt staticlib panel > "$work/said" 2>&1 || { cat "$work/said" >&2; exit 1; }
 [ -s "$work/module.bc" ] || fail 'the kit handed its clang no module'
 
-divides_nowhere() { # divides_nowhere NAME LISTING ROUTINES: no instruction divides; memory is moved and set by routines, and no other is called
+# divides_nowhere NAME LISTING ROUTINES: no instruction divides; routines move memory and set it, and no other is called
+divides_nowhere() {
     local called
     [ "$(wc -l < "$2")" -gt 1000 ] || fail "$1: no listing"
     ! grep -E '\<i?div[bwlq]?\>' "$2" >&2 || fail "$1 divides"

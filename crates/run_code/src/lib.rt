@@ -8,7 +8,7 @@ ghost use Rattle.run.specs.Merging.{cmpℕ, Falls};
 ghost use Rattle.run_code.specs.Decoding.{formAt, Placed, Even, Cut};
 
 // 64 to the m: what 1 in the first of m + 1 exponents adds to a key.
-pub fn unit_of(m: u32) -> u32
+fn unit_of(m: u32) -> u32
     requires { ⌜ m ≤ 3 ⌝ }
     ensures { λ r. ⌜ r ≡ 64 ^ m ⌝ }
 {
