@@ -1,4 +1,6 @@
 // The lines of the printer's answer, each written at the front of a lent buffer.
+#![tactic(auto)]
+
 ghost use Rattle.std.specs.Prelude.{[], ◌∷◌, ◌++◌, ◌≤◌, length};
 ghost use Rattle.form_write.specs.Write.{numeral, Wrote};
 ghost use Rattle.text_line.specs.Line.{different_text};

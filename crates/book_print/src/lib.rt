@@ -1,4 +1,6 @@
 // The printer's answer to a book.
+#![tactic(auto)]
+
 ghost use Rattle.std.specs.Prelude.{◌≡◌, ◌+◌, ◌*◌, ◌≤◌, length};
 ghost use Rattle.code.specs.Lengths.{Full};
 ghost use Rattle.reply.specs.definitions.Reply.{work};

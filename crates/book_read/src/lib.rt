@@ -1,4 +1,6 @@
 // A book's head and contents looked at, field by field: fine, or the refusal.
+#![tactic(auto)]
+
 ghost use Rattle.std.specs.Prelude.{◌≡◌, ◌+◌, ◌*◌, ◌≤◌, length};
 ghost use Rattle.book.specs.definitions.Book.{read_book, letters, number16, body, entries, contents};
 ghost use Rattle.book_read.specs.Heads.{head_of, body_of, both_of, Near};

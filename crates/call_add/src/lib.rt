@@ -1,4 +1,6 @@
 // The call `add`: two forms' texts in, the text of their sum out.
+#![tactic(auto)]
+
 ghost use Rattle.std.specs.Prelude.{true, ◌≡◌, ◌≤◌, length};
 ghost use Rattle.code.specs.Lengths.{table};
 ghost use Rattle.horner.specs.definitions.Form.{sum};

@@ -1,4 +1,6 @@
 // The call `compare`: two terms over the whole numbers.
+#![tactic(auto)]
+
 ghost use Rattle.reply.specs.definitions.Reply.{work};
 ghost use Rattle.reply.specs.definitions.Calls.{CompareCall};
 

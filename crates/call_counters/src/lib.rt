@@ -1,4 +1,6 @@
 // The call `counters`: two terms as wrapping counters.
+#![tactic(auto)]
+
 ghost use Rattle.std.specs.Prelude.{true, ◌≡◌, length, take, drop};
 ghost use Rattle.code.specs.Coding.{dec};
 ghost use Rattle.code_counters.specs.Same.{same_of};

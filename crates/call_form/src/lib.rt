@@ -1,4 +1,6 @@
 // The call `form`: a term in, its form's text out.
+#![tactic(auto)]
+
 ghost use Rattle.std.specs.Prelude.{true, ◌≡◌, length};
 ghost use Rattle.text.specs.definitions.Bytes.{is_row};
 ghost use Rattle.reply.specs.definitions.Reply.{result_after, work};

@@ -1,4 +1,6 @@
 // The call `form_remainder`: a form's text and a point in, the remainder by P of the form's value there out.
+#![tactic(auto)]
+
 ghost use Rattle.std.specs.Prelude.{true, ◌≡◌, ◌≤◌, length};
 ghost use Rattle.code.specs.Lengths.{table};
 ghost use Rattle.text.specs.definitions.Bytes.{is_row};

@@ -1,4 +1,6 @@
 // The call `judge`: whether a text is a form.
+#![tactic(auto)]
+
 ghost use Rattle.reply.specs.definitions.Calls.{JudgeCall};
 
 use form_build::FormJudged;

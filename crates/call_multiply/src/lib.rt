@@ -1,4 +1,6 @@
 // The call `multiply`: two forms' texts in, the text of their product out.
+#![tactic(auto)]
+
 ghost use Rattle.std.specs.Prelude.{true, ◌≡◌, ◌≤◌, length};
 ghost use Rattle.horner.specs.definitions.Form.{prod};
 ghost use Rattle.horner.specs.definitions.Rings.{ℤ_ring};

@@ -1,4 +1,6 @@
 // The call `negate`: a form's text in, the text of its negative out.
+#![tactic(auto)]
+
 ghost use Rattle.std.specs.Prelude.{true, ◌≡◌, ◌≤◌, length};
 ghost use Rattle.code.specs.Lengths.{table};
 ghost use Rattle.text.specs.definitions.Bytes.{is_row};

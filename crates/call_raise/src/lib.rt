@@ -1,4 +1,6 @@
 // The call `raise`: a form's text in, the text of its power out.
+#![tactic(auto)]
+
 ghost use Rattle.std.specs.Prelude.{true, ◌≡◌, ◌≤◌, length};
 ghost use Rattle.text.specs.definitions.Bytes.{is_row};
 ghost use Rattle.reply.specs.definitions.Reply.{result_after, work};

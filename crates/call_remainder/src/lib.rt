@@ -1,4 +1,6 @@
 // The call `remainder`: a term and a point in, the remainder by P of the term's value there out.
+#![tactic(auto)]
+
 ghost use Rattle.std.specs.Prelude.{true, ◌≡◌, length};
 ghost use Rattle.text.specs.definitions.Bytes.{is_row};
 ghost use Rattle.reply.specs.definitions.Reply.{work};

@@ -2,9 +2,9 @@
 -- Assumes nothing.
 use Rattle.std.proofs.Common.{◌≡◌, ℕ, ◌+◌, ◌-◌, ◌*◌, ◌%◌, ◌^◌, ◌<◌, ◌≤◌, sym, ap, ◌∙◌, subst, arith, pow-add}
 use Prim.Native.Nat.{◌∣◌}
-use native.Mathlib.Nat as NatL
 use Rattle.code.specs.Widths.{modulus, modulus-pos}
 use Rattle.code.specs.laws.Widths.{modulus-small}
+use Rattle.std.proofs.Math.Nat as NatL
 
 -- what wraps at k + d bits, cut to its low k bits, has wrapped at k bits
 pub low_bits : (k d n : ℕ) → n % 2 ^ (k + d) % 2 ^ k ≡ n % 2 ^ k

@@ -1,7 +1,10 @@
 -- Laws of lists: parts of a slice as the borrow checker writes them, and what a slice begins with.
 -- Assumes nothing.
-use Rattle.std.proofs.Common.{◌≡◌, ℕ, zero, suc, ◌+◌, ◌-◌, ◌<◌, ◌≤◌, List, [], ◌∷◌, ◌++◌, length, get_or, take, drop, set, sym, refl, ap, ◌∙◌, subst, append_assoc, add-one, arith, length-append, length-drop, length-set, length-take, length-take-le, get_or-drop, drop-cons, take-suc, take-take, take_at, get_or-append-add}
-use lib.Seq.{take-nil, take-append-add, take-append-le, set_at}
+use Rattle.std.proofs.Common.{◌≡◌, ℕ, zero, suc, ◌+◌, ◌-◌, ◌<◌, ◌≤◌, List, [], ◌∷◌, ◌++◌, length, get_or, take, drop, set, sym, refl}
+use Rattle.std.proofs.Common.{ap, ◌∙◌, subst, append_assoc, add-one, arith, length-append, length-drop, length-set, length-take}
+use Rattle.std.proofs.Common.{length-take-le, get_or-drop, drop-cons, take-suc, take-take, take_at, get_or-append-add}
+use Rattle.std.proofs.Math.Seq.{take-nil, take-append-add, set_at}
+use Rattle.std.proofs.lemmas.List.{take-append-le}
 use borrow.Rule.Slice.PartMut.{put_mid}
 use Rattle.code.specs.Coding.{Begins}
 use Rattle.code.specs.laws.Codes.{tail-part}

@@ -1,7 +1,8 @@
 -- A form in a region of a slice, and what `make_pop` and `make_pow` make of it.
 -- Assumes nothing.
-use Rattle.std.proofs.Common.{◌≡◌, ℕ, zero, suc, ◌+◌, ◌-◌, ◌*◌, ◌/◌, ◌<◌, ◌≤◌, List, [], ◌∷◌, ◌++◌, length, get_or, take, drop, set, sym, refl, ap, ◌∙◌, subst, arith, length-set, drop-drop, get_or-append-add, take-add, eq-eqb, ne_eqb}
-use lib.Seq.{take-length, take-append_seam}
+use Rattle.std.proofs.Common.{◌≡◌, ℕ, zero, suc, ◌+◌, ◌-◌, ◌*◌, ◌/◌, ◌<◌, ◌≤◌, List, [], ◌∷◌, ◌++◌, length, get_or, take, drop, set}
+use Rattle.std.proofs.Common.{sym, refl, ap, ◌∙◌, subst, arith, length-set, drop-drop, get_or-append-add, take-add, eq-eqb, ne_eqb}
+use Rattle.std.proofs.Math.Seq.{take-length, take-append_seam}
 use borrow.Rule.Slice.PartMut.{put_mid}
 use Rattle.horner.specs.definitions.Form.{Form, int, pop, pow}
 use Rattle.code.specs.Coding.{enc, dec, Good, Codes, Begins}

@@ -1,7 +1,9 @@
 -- Laws of regions: the m words of a list from the a-th on, `take m (drop a d)`.
 -- Assumes nothing.
-use Rattle.std.proofs.Common.{◌≡◌, ℕ, zero, suc, ◌+◌, ◌-◌, ◌<◌, ◌≤◌, List, [], ◌∷◌, ◌++◌, length, get_or, take, drop, set, sym, refl, ap, ◌∙◌, subst, arith, length-drop, length-take-le, get_or-drop, get_or-take, take-take, drop-drop, take_at, drop-set-lt, drop_at}
-use lib.Seq.{take-append-le, drop-append-le}
+use Rattle.std.proofs.Common.{◌≡◌, ℕ, zero, suc, ◌+◌, ◌-◌, ◌<◌, ◌≤◌, List, [], ◌∷◌, ◌++◌, length, get_or, take, drop, set, sym, refl}
+use Rattle.std.proofs.Common.{ap, ◌∙◌, subst, arith, length-drop, length-take-le, get_or-drop, get_or-take, take-take, drop-drop}
+use Rattle.std.proofs.Common.{take_at, drop-set-lt, drop_at}
+use Rattle.std.proofs.lemmas.List.{take-append-le, drop-append-le}
 use borrow.Rule.Slice.PartMut.{put_mid}
 use Rattle.code.specs.Coding.{Begins}
 use Rattle.code.proofs.Lists.{begins-as, begins-tail}

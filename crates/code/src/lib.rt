@@ -1,5 +1,7 @@
 // Forms coded in slices: a form is a slice of words in prefix order (specs/Coding). Here are the sums and products of leaves, and what
 // puts a form together in place. Every function is handed the width of the ring; only those of leaves look at it.
+#![tactic(auto)]
+
 ghost use Rattle.std.specs.Prelude.{◌≡◌, ◌+◌, ◌*◌, ◌%◌, ◌<◌, ◌≤◌, ◌∷◌, ◌++◌, length, take, drop};
 ghost use Rattle.code.specs.Widths.{add_by, neg_by, mul_by, pow_by, modulus};
 ghost use Rattle.horner.specs.definitions.Form.{pow};

@@ -1,4 +1,6 @@
 // Two forms compared as counters, whose numbers wrap.
+#![tactic(auto)]
+
 ghost use Rattle.std.specs.Prelude.{◌≡◌, ◌+◌, ◌≤◌, length};
 ghost use Rattle.code.specs.Coding.{Coded, RoomUnder, dec};
 ghost use Rattle.code_counters.specs.Same.{same_of};

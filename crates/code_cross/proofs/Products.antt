@@ -1,11 +1,11 @@
 -- The code of a product, from the codes of its parts: what the functions that multiply forms return.
 -- Assumes nothing.
-use mathlib.Core.Path.{◌≡◌, sym, ap, subst, ◌∙◌}
-use mathlib.Core.List.{List, ◌∷◌}
-use Prim.Native.Nat.{ℕ, suc, ◌+◌, ◌-◌, ◌/◌, ◌%◌, ◌≤◌, ◌<◌}
-use native.Mathlib.Omega.{arith}
-use lib.ListN.{length, get_or, take, drop, set}
-use lib.Seq.{take-set-le, set_split, drop_at, length-take-le}
+use Rattle.std.proofs.Common.{sym, ap, subst, arith, length-take-le, List, ◌∷◌, ℕ, suc, ◌+◌, ◌-◌, ◌/◌, ◌%◌, ◌≤◌, ◌<◌, length}
+use Rattle.std.proofs.Math.Path.{◌≡◌, ◌∙◌}
+use Rattle.std.specs.Prelude.{take, drop, set}
+use Rattle.std.proofs.Math.ListN.{get_or}
+use Rattle.std.proofs.lemmas.List.{take-set-le}
+use Rattle.std.proofs.Math.Seq.{set_split, drop_at}
 use borrow.Rule.Slice.PartMut.{put_mid, take_put}
 use Rattle.horner.specs.definitions.Form.{Form, pop, lower, mkpop}
 use Rattle.code.specs.Coding.{enc, dec, Good, Coded, Codes, Begins, RoomUnder}
@@ -18,8 +18,8 @@ use Rattle.code.proofs.Making.{made-codes, one-put, zero-codes}
 use Rattle.code.proofs.Regions.{region-sub}
 use Rattle.code_room.specs.Fit.{prod_of, cross_of, Held}
 use Rattle.code_room.specs.Tables.{CrossSpace}
-use Rattle.code_room.specs.laws.Equations.{int-any, any-int, pop-pow, pow-pop}
-use Rattle.code_room.specs.laws.Fit.{fit-prod}
+use Rattle.code_room.proofs.laws.Equations.{int-any, any-int, pop-pow, pow-pop}
+use Rattle.code_room.proofs.laws.Fit.{fit-prod}
 
 -- a POP and a POW, by the head word
 module _ {w : ℕ} {l : List ℕ} (c : Coded w l) where

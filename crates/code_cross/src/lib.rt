@@ -1,5 +1,7 @@
 // What the functions that multiply forms rest on: a summand pow(i, x, 0) added to the form that stands at the front of a table, and a leaf
 // times (POP i p).
+#![tactic(auto)]
+
 ghost use Rattle.std.specs.Prelude.{◌+◌, ◌<◌, ◌≤◌, length, take, drop};
 ghost use Rattle.horner.specs.definitions.Form.{pop};
 ghost use Rattle.code.specs.Widths.{modulus};

@@ -1,4 +1,6 @@
 // A number put for the first variable of a coded form: what the search for a point goes by.
+#![tactic(auto)]
+
 ghost use Rattle.std.specs.Prelude.{◌+◌, ◌<◌, ◌≤◌, length};
 ghost use Rattle.code.specs.Widths.{modulus};
 ghost use Rattle.code.specs.Coding.{Coded, Made, RoomUnder, dec};

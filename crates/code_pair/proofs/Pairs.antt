@@ -1,11 +1,8 @@
 -- Two forms one behind the other: their sizes, and the slice that holds both.
 -- Assumes nothing.
-use mathlib.Core.List.{List}
-use mathlib.Core.Path.{◌≡◌, sym, ap, subst, ◌∙◌}
-use Prim.Native.Nat.{ℕ, ◌+◌, ◌-◌, ◌≤◌}
-use native.Mathlib.Omega.{arith}
-use lib.ListN.{length, take, drop}
-use lib.Seq.{length-take-le}
+use Rattle.std.proofs.Common.{List, length, sym, ap, subst, arith, length-take-le, ℕ, ◌+◌, ◌-◌, ◌≤◌}
+use Rattle.std.specs.Prelude.{take, drop}
+use Rattle.std.proofs.Math.Path.{◌≡◌, ◌∙◌}
 use Rattle.code.specs.Coding.{enc, dec, Coded}
 use Rattle.code.specs.Operations.{sum_of}
 use Rattle.code.specs.laws.Codes.{codes-length}

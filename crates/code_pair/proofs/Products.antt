@@ -1,9 +1,8 @@
 -- The slice that holds two forms one behind the other, for their product.
 -- Assumes nothing.
-use mathlib.Core.List.{List}
-use mathlib.Core.Path.{◌≡◌, sym, ap, subst, ◌∙◌}
-use Prim.Native.Nat.{ℕ, ◌+◌}
-use lib.ListN.{take, drop}
+use Rattle.std.proofs.Common.{List, sym, ap, subst, ℕ, ◌+◌}
+use Rattle.std.specs.Prelude.{take, drop}
+use Rattle.std.proofs.Math.Path.{◌≡◌, ◌∙◌}
 use Rattle.code.specs.Coding.{enc, dec}
 use Rattle.code.proofs.Lists.{front_of, behind}
 use Rattle.code_room.specs.Fit.{prod_of}

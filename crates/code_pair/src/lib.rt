@@ -1,4 +1,6 @@
 // Two forms side by side at the front of a table, and their sum or product in their place.
+#![tactic(auto)]
+
 ghost use Rattle.std.specs.Prelude.{◌+◌, ◌≤◌, length, take, drop};
 ghost use Rattle.code.specs.Coding.{Coded, Made, RoomUnder, dec, enc};
 ghost use Rattle.code.specs.Operations.{sum_of};

@@ -1,11 +1,8 @@
 -- The form that at_first leaves at the front of a table.
 -- Assumes nothing.
-use mathlib.Core.Bool.{Bool}
-use mathlib.Core.List.{List}
-use mathlib.Core.Path.{◌≡◌, sym, ap, ◌∙◌}
-use Prim.Native.Nat.{ℕ, ◌≤◌}
-use native.Mathlib.Omega.{arith}
-use lib.ListN.{length, take}
+use Rattle.std.proofs.Common.{Bool, List, length, ℕ, ◌≤◌, arith}
+use Rattle.std.specs.Prelude.{take}
+use Rattle.std.proofs.Math.Path.{◌≡◌, sym, ap, ◌∙◌}
 use Rattle.horner.specs.definitions.Form.{is_zero}
 use Rattle.code.specs.Coding.{dec, Codes, Coded, Made, RoomUnder}
 use Rattle.code.specs.Widths.{ring_of}

@@ -1,11 +1,11 @@
 -- One variable of the search: what the form that is left is, and how the point is put together.
 -- Assumes nothing.
-use mathlib.Core.List.{List, [], ◌∷◌, ◌++◌, append-nil}
-use mathlib.Core.Path.{◌≡◌, sym, ap, subst, ◌∙◌}
-use Prim.Native.Nat.{ℕ, suc, ◌-◌, ◌<◌}
-use native.Mathlib.Omega.{arith}
-use lib.ListN.{length, take, drop, set, drop_of_length-le}
-use lib.Seq.{take_at, take_all, length-take-le}
+use Rattle.std.proofs.Common.{List, [], ◌∷◌, ◌++◌, sym, ap, subst, arith, length-take-le, ℕ, suc, ◌-◌, ◌<◌, length}
+use mathlib.Core.List.{append-nil}
+use Rattle.std.proofs.Math.Path.{◌≡◌, ◌∙◌}
+use Rattle.std.specs.Prelude.{take, drop, set}
+use Rattle.std.proofs.Math.ListN.{drop_of_length-le}
+use Rattle.std.proofs.Math.Seq.{take_at, take_all}
 use borrow.Rule.Slice.PartMut.{put_mid}
 use Rattle.code.specs.Coding.{dec, Codes, Coded, Made}
 use Rattle.code.proofs.Lists.{begins-le}

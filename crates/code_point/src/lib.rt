@@ -1,4 +1,6 @@
 // The first point at which a coded form over the remainders by P is not 0.
+#![tactic(auto)]
+
 ghost use Rattle.std.specs.Prelude.{◌≡◌, ◌++◌, ◌+◌, ◌≤◌, length, take, drop};
 ghost use Rattle.code.specs.Coding.{Coded, Made, RoomUnder, dec};
 ghost use Rattle.code_first.specs.First.{at_first_of};

@@ -1,11 +1,10 @@
 -- Two forms in one table, one behind the other.
 -- Assumes nothing.
-use mathlib.Core.Path.{◌≡◌, sym, ap, subst, ◌∙◌}
-use mathlib.Core.List.{List, [], ◌∷◌}
-use Prim.Native.Nat.{ℕ, suc, ◌+◌, ◌-◌, ◌≤◌, ◌<◌}
-use native.Mathlib.Omega.{arith}
-use lib.ListN.{length, take, drop, set, length-drop}
-use lib.Seq.{take-set-le, set_split, drop_at, length-take-le}
+use Rattle.std.proofs.Common.{sym, ap, subst, arith, length-drop, length-take-le, List, [], ◌∷◌, ℕ, suc, ◌+◌, ◌-◌, ◌≤◌, ◌<◌, length}
+use Rattle.std.proofs.Math.Path.{◌≡◌, ◌∙◌}
+use Rattle.std.specs.Prelude.{take, drop, set}
+use Rattle.std.proofs.lemmas.List.{take-set-le}
+use Rattle.std.proofs.Math.Seq.{set_split, drop_at}
 use borrow.Rule.Slice.PartMut.{put_mid, take_put}
 use Rattle.horner.specs.definitions.Form.{Form}
 use Rattle.code.specs.Coding.{enc, dec, Good, Codes, Coded, Begins, Made}
@@ -16,8 +15,8 @@ use Rattle.code.proofs.Lists.{begins-le, begins-as, begins-set}
 use Rattle.code.proofs.Making.{made-codes}
 use Rattle.code_room.specs.Fit.{prod_of}
 use Rattle.code_room.specs.Tables.{Space}
-use Rattle.code_room.specs.laws.Fit.{fit-y}
-use Rattle.code_room.specs.laws.Tables.{space-at}
+use Rattle.code_room.proofs.laws.Fit.{fit-y}
+use Rattle.code_room.proofs.laws.Tables.{space-at}
 use Rattle.code_power.specs.Raise.{raise_of, Raising, Stacked}
 use Rattle.code_power.specs.laws.Raise.{raise-more, raise-fit, raise-space}
 

@@ -1,4 +1,6 @@
 // The powers of a coded form (Definition 12), by repeated products: x stands at the front of a table, and the power so far behind it.
+#![tactic(auto)]
+
 ghost use Rattle.std.specs.Prelude.{◌+◌, ◌≤◌, length, take, drop};
 ghost use Rattle.code.specs.Coding.{Coded, Made, dec, enc};
 ghost use Rattle.code_room.specs.Fit.{prod_of};

@@ -1,6 +1,8 @@
 // The product of two coded forms (Definition 11). `product` goes by the first form's head word. The functions below it take a POP in its
 // parts, its exponent and its p, so that (POP i-j p) and pop(1, s) are never written out. Each writes its result at the front of out and
 // returns its length; t and u are for work. A head word below 2,147,483,648 is a leaf, one below 2,147,483,712 a POP's, any other a POW's.
+#![tactic(auto)]
+
 ghost use Rattle.std.specs.Prelude.{◌+◌, ◌-◌, ◌≤◌, length, take};
 ghost use Rattle.horner.specs.definitions.Form.{pop, pow, lower};
 ghost use Rattle.code.specs.Coding.{Coded, Made, dec};
@@ -9,7 +11,7 @@ ghost use Rattle.code_room.specs.Fit.{prod_of, lead_of, cross_of, Held};
 ghost use Rattle.code_room.specs.Tables.{Space, PopSpace, CrossSpace, PowWord};
 
 // The product of the forms x and y.
-#[cycle(add_cross_mul_any_pop_mul_by_pop_mul_lead_mul_lower_mul_pop_mul_pop_pow_mul_pops_mul_pops_ge_mul_pow_mul_pows_product)]
+#[cycle(products)]
 pub fn product(
     width: u32,
     x: &[u32],
@@ -33,7 +35,7 @@ pub fn product(
 }
 
 // (POP i p) and y
-#[cycle(add_cross_mul_any_pop_mul_by_pop_mul_lead_mul_lower_mul_pop_mul_pop_pow_mul_pops_mul_pops_ge_mul_pow_mul_pows_product)]
+#[cycle(products)]
 fn mul_pop(
     width: u32,
     i: u32,
@@ -58,7 +60,7 @@ fn mul_pop(
 }
 
 // x and (POP i p)
-#[cycle(add_cross_mul_any_pop_mul_by_pop_mul_lead_mul_lower_mul_pop_mul_pop_pow_mul_pops_mul_pops_ge_mul_pow_mul_pows_product)]
+#[cycle(products)]
 fn mul_any_pop(
     width: u32,
     x: &[u32],
@@ -83,7 +85,7 @@ fn mul_any_pop(
 }
 
 // (POP i p) and (POP j q)
-#[cycle(add_cross_mul_any_pop_mul_by_pop_mul_lead_mul_lower_mul_pop_mul_pop_pow_mul_pops_mul_pops_ge_mul_pow_mul_pows_product)]
+#[cycle(products)]
 fn mul_pops(
     width: u32,
     i: u32,
@@ -107,7 +109,7 @@ fn mul_pops(
 }
 
 // (POP i p) and (POP j q), with j at most i
-#[cycle(add_cross_mul_any_pop_mul_by_pop_mul_lead_mul_lower_mul_pop_mul_pop_pow_mul_pops_mul_pops_ge_mul_pow_mul_pows_product)]
+#[cycle(products)]
 fn mul_pops_ge(
     width: u32,
     i: u32,
@@ -130,7 +132,7 @@ fn mul_pops_ge(
 }
 
 // (POP i p) and y, a POW
-#[cycle(add_cross_mul_any_pop_mul_by_pop_mul_lead_mul_lower_mul_pop_mul_pop_pow_mul_pops_mul_pops_ge_mul_pow_mul_pows_product)]
+#[cycle(products)]
 fn mul_pop_pow(
     width: u32,
     i: u32,
@@ -154,7 +156,7 @@ fn mul_pop_pow(
 }
 
 // (POP k p) and y, or p and y where k is 0
-#[cycle(add_cross_mul_any_pop_mul_by_pop_mul_lead_mul_lower_mul_pop_mul_pop_pow_mul_pops_mul_pops_ge_mul_pow_mul_pows_product)]
+#[cycle(products)]
 fn mul_lower(
     width: u32,
     k: u32,
@@ -175,7 +177,7 @@ fn mul_lower(
 }
 
 // x, a POW, and y
-#[cycle(add_cross_mul_any_pop_mul_by_pop_mul_lead_mul_lower_mul_pop_mul_pop_pow_mul_pops_mul_pops_ge_mul_pow_mul_pows_product)]
+#[cycle(products)]
 fn mul_pow(width: u32, x: &[u32], y: &[u32], out: &mut [u32], t: &mut [u32], u: &mut [u32]) -> usize
     requires coded { Coded width x.now × Coded width y.now }
     requires space { Space width (dec width x.now) (dec width y.now) (length out.old) (length t.old) (length u.old) }
@@ -207,7 +209,7 @@ fn mul_pow(width: u32, x: &[u32], y: &[u32], out: &mut [u32], t: &mut [u32], u: 
 }
 
 // (POW i p q) and (POW j r s): the first summand of case (6) in out, and the others added to it
-#[cycle(add_cross_mul_any_pop_mul_by_pop_mul_lead_mul_lower_mul_pop_mul_pop_pow_mul_pops_mul_pops_ge_mul_pow_mul_pows_product)]
+#[cycle(products)]
 fn mul_pows(
     width: u32,
     i: u32,
@@ -232,7 +234,7 @@ fn mul_pows(
 }
 
 // pow(i + j, p r, q s), the first summand of case (6)
-#[cycle(add_cross_mul_any_pop_mul_by_pop_mul_lead_mul_lower_mul_pop_mul_pop_pow_mul_pops_mul_pops_ge_mul_pow_mul_pows_product)]
+#[cycle(products)]
 fn mul_lead(
     width: u32,
     i: u32,
@@ -258,7 +260,7 @@ fn mul_lead(
 }
 
 // The sum of the form at the front of out, of a words, and of pow(i, p pop(1, s), 0), another summand of case (6). That is made in t.
-#[cycle(add_cross_mul_any_pop_mul_by_pop_mul_lead_mul_lower_mul_pop_mul_pop_pow_mul_pops_mul_pops_ge_mul_pow_mul_pows_product)]
+#[cycle(products)]
 fn add_cross(
     width: u32,
     i: u32,
@@ -281,7 +283,7 @@ fn add_cross(
 }
 
 // p and pop(1, s)
-#[cycle(add_cross_mul_any_pop_mul_by_pop_mul_lead_mul_lower_mul_pop_mul_pop_pow_mul_pops_mul_pops_ge_mul_pow_mul_pows_product)]
+#[cycle(products)]
 fn mul_by_pop(
     width: u32,
     p: &[u32],

@@ -1,4 +1,6 @@
 // The remainder by P, which is 2,147,483,647, without a division.
+#![tactic(auto)]
+
 ghost use Rattle.std.specs.Prelude.{◌≡◌, ◌%◌, ◌<◌};
 ghost use Rattle.horner.specs.definitions.Rings.{prime};
 ghost use Rattle.code_remainder.specs.Folding.{folded};

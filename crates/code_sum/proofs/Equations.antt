@@ -1,12 +1,11 @@
 -- The cases of Definition 9, of the sum in the ring of a width. The forms are read off the facts that they are good.
 -- Assumes nothing.
-use mathlib.Core.Path.{◌≡◌, refl, sym, ap, ap₂, subst, ◌∙◌}
-use Prim.Native.Nat.{ℕ, zero, suc, ◌+◌, ◌-◌, ◌<◌, ◌≤◌}
-use native.Mathlib.Omega.{arith}
+use Rattle.std.proofs.Common.{refl, sym, ap₂, ℕ, zero, suc, ◌+◌, ◌-◌, ◌<◌, ◌≤◌, arith}
+use Rattle.std.proofs.Math.Path.{◌≡◌, ap, subst, ◌∙◌}
 use Rattle.horner.specs.definitions.Form.{cmp, case_cmp, Form, int, pop, pow, size, mkpop, mkpow, sum_f}
 use Rattle.horner.specs.definitions.Rings.{Ring}
-use Rattle.horner.specs.laws.Equations.{sum_is, sum-int, sum-pop-int, sum-pow-int, sum-pop-pow, sum-3a, sum-3b, sum-6a, sum-6b}
-use Rattle.horner.specs.laws.Value.{size-pos}
+use Rattle.horner.proofs.laws.Equations.{sum_is, sum-int, sum-pop-int, sum-pow-int, sum-pop-pow, sum-3a, sum-3b, sum-6a, sum-6b}
+use Rattle.horner.proofs.laws.Value.{size-pos}
 use Rattle.code.specs.Coding.{Good}
 use Rattle.code.specs.Operations.{pop_of, pow_of, sum_of, zero_of}
 use Rattle.code.specs.Widths.{Leaf, ring_of}

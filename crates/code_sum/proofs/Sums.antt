@@ -1,13 +1,11 @@
 -- The code of a sum, from the codes of its parts: what the functions that add forms return.
 -- Assumes nothing.
-use mathlib.Core.Path.{◌≡◌, sym, ap, ap₂, ◌∙◌}
-use mathlib.Core.List.{List, [], ◌∷◌, ◌++◌}
-use Prim.Native.Nat.{ℕ, ◌+◌, ◌*◌, ◌-◌, ◌%◌, ◌<◌}
-use native.Mathlib.Omega.{arith}
-use lib.ListN.{length, get_or, length-append}
+use Rattle.std.proofs.Common.{ap₂, arith, length-append, List, [], ◌∷◌, ◌++◌, ℕ, ◌+◌, ◌*◌, ◌-◌, ◌%◌, ◌<◌, length}
+use Rattle.std.proofs.Math.Path.{◌≡◌, sym, ap, ◌∙◌}
+use Rattle.std.proofs.Math.ListN.{get_or}
 use Rattle.horner.specs.definitions.Form.{Form, int, pop, pow}
 use Rattle.code.specs.Widths.{add_by, modulus, Leaf, ring_of, leaf}
-use Rattle.horner.specs.laws.Equations.{sum-int}
+use Rattle.horner.proofs.laws.Equations.{sum-int}
 use Rattle.code.specs.Coding.{enc, dec, Good, Coded}
 use Rattle.code.specs.Operations.{sum_of, zero_of}
 use Rattle.code.specs.laws.Codes.{IsInt}

@@ -1,5 +1,7 @@
 // The sum of two coded forms (Definition 9). `sum` goes by the first form's head word. The functions below it take a form in its parts: a
 // pop as its exponent and its p, a pow as its exponent, its p and its q. So (POP i-j p) and (POW i-j p 0) are never written out.
+#![tactic(auto)]
+
 ghost use Rattle.std.specs.Prelude.{◌+◌, ◌<◌, length};
 ghost use Rattle.horner.specs.definitions.Form.{int, pop, pow};
 ghost use Rattle.code.specs.Widths.{modulus, leaf};
@@ -33,7 +35,7 @@ fn add_int(width: u32, a: u32, y: &[u32], out: &mut [u32]) -> usize
 }
 
 // The sum of the forms x and y.
-#[cycle(add_pop_add_pop_pow_add_pops_add_pops_gt_add_pow_add_pows_add_pows_gt_sum)]
+#[cycle(sums)]
 pub fn sum(width: u32, x: &[u32], y: &[u32], out: &mut [u32]) -> usize
     requires coded { Coded width x.now × Coded width y.now }
     requires room_under { RoomUnder (length x.now + length y.now) out.old }
@@ -52,7 +54,7 @@ pub fn sum(width: u32, x: &[u32], y: &[u32], out: &mut [u32]) -> usize
 }
 
 // (POP i p) and y
-#[cycle(add_pop_add_pop_pow_add_pops_add_pops_gt_add_pow_add_pows_add_pows_gt_sum)]
+#[cycle(sums)]
 fn add_pop(width: u32, i: u32, p: &[u32], y: &[u32], out: &mut [u32]) -> usize
     requires coded { Coded width p.now × Coded width y.now }
     requires good { Good width (pop i (dec width p.now)) }
@@ -74,7 +76,7 @@ fn add_pop(width: u32, i: u32, p: &[u32], y: &[u32], out: &mut [u32]) -> usize
 }
 
 // (POP i p) and (POP j q)
-#[cycle(add_pop_add_pop_pow_add_pops_add_pops_gt_add_pow_add_pows_add_pows_gt_sum)]
+#[cycle(sums)]
 fn add_pops(width: u32, i: u32, p: &[u32], j: u32, q: &[u32], out: &mut [u32]) -> usize
     requires coded { Coded width p.now × Coded width q.now }
     requires good { Good width (pop i (dec width p.now)) × Good width (pop j (dec width q.now)) }
@@ -93,7 +95,7 @@ fn add_pops(width: u32, i: u32, p: &[u32], j: u32, q: &[u32], out: &mut [u32]) -
 }
 
 // (POP i p) and (POP j q), with j below i
-#[cycle(add_pop_add_pop_pow_add_pops_add_pops_gt_add_pow_add_pows_add_pows_gt_sum)]
+#[cycle(sums)]
 fn add_pops_gt(width: u32, i: u32, p: &[u32], j: u32, q: &[u32], out: &mut [u32]) -> usize
     requires coded { Coded width p.now × Coded width q.now }
     requires good { Good width (pop i (dec width p.now)) × Good width (pop j (dec width q.now)) }
@@ -107,7 +109,7 @@ fn add_pops_gt(width: u32, i: u32, p: &[u32], j: u32, q: &[u32], out: &mut [u32]
 }
 
 // (POP i p) and (POW j q r): (POP i-1 p), or p itself, is added to r
-#[cycle(add_pop_add_pop_pow_add_pops_add_pops_gt_add_pow_add_pows_add_pows_gt_sum)]
+#[cycle(sums)]
 fn add_pop_pow(
     width: u32,
     i: u32,
@@ -133,7 +135,7 @@ fn add_pop_pow(
 }
 
 // (POW i p q) and y
-#[cycle(add_pop_add_pop_pow_add_pops_add_pops_gt_add_pow_add_pows_add_pows_gt_sum)]
+#[cycle(sums)]
 fn add_pow(width: u32, i: u32, p: &[u32], q: &[u32], y: &[u32], out: &mut [u32]) -> usize
     requires coded { (Coded width p.now) × (Coded width q.now × Coded width y.now) }
     requires good { Good width (pow i (dec width p.now) (dec width q.now)) }
@@ -156,7 +158,7 @@ fn add_pow(width: u32, i: u32, p: &[u32], q: &[u32], y: &[u32], out: &mut [u32])
 }
 
 // (POW i p q) and (POW j r s)
-#[cycle(add_pop_add_pop_pow_add_pops_add_pops_gt_add_pow_add_pows_add_pows_gt_sum)]
+#[cycle(sums)]
 fn add_pows(
     width: u32,
     i: u32,
@@ -187,7 +189,7 @@ fn add_pows(
 }
 
 // (POW i p q) and (POW j r s), with j below i
-#[cycle(add_pop_add_pop_pow_add_pops_add_pops_gt_add_pow_add_pows_add_pows_gt_sum)]
+#[cycle(sums)]
 fn add_pows_gt(
     width: u32,
     i: u32,

@@ -1,9 +1,8 @@
 -- The code of a form carried to another ring, from the codes of its parts.
 -- Assumes nothing.
-use mathlib.Core.Path.{◌≡◌, sym, ap, ap₂, ◌∙◌}
-use mathlib.Core.List.{List, [], ◌∷◌}
-use Prim.Native.Nat.{ℕ, ◌%◌, ◌<◌}
-use lib.ListN.{get_or}
+use Rattle.std.proofs.Common.{sym, List, [], ◌∷◌, ℕ, ◌%◌, ◌<◌}
+use Rattle.std.proofs.Math.Path.{◌≡◌, ap, ap₂, ◌∙◌}
+use Rattle.std.proofs.Math.ListN.{get_or}
 use Rattle.horner.specs.definitions.Form.{Form}
 use Rattle.code.specs.Widths.{mul_by, modulus, Leaf, leaf}
 use Rattle.code.specs.Coding.{enc, dec}

@@ -1,11 +1,11 @@
 -- The value of a form, from the values of its parts.
 -- Assumes nothing.
-use mathlib.Core.Path.{◌≡◌, refl, sym, ap, ◌∙◌}
-use mathlib.Core.List.{List, [], ◌∷◌, map}
-use Prim.Native.Nat.{ℕ, zero, suc, ◌+◌, ◌-◌, ◌%◌, min}
-use native.Mathlib.Omega.{arith}
-use lib.ListN.{length, get_or, take, drop}
-use lib.Seq.{get_or-drop}
+use Rattle.std.proofs.Common.{refl, length, sym, ap, arith, List, [], ◌∷◌, ℕ, zero, suc, ◌+◌, ◌-◌, ◌%◌, min}
+use Rattle.std.proofs.Math.Path.{◌≡◌, ◌∙◌}
+use Rattle.std.specs.Prelude.{take, drop}
+use mathlib.Core.List.{map}
+use Rattle.std.proofs.Math.ListN.{get_or}
+use Rattle.std.proofs.Math.Seq.{get_or-drop}
 use Rattle.horner.specs.definitions.Form.{Form, evalh}
 use Rattle.code.specs.Widths.{add_by, mul_by, pow_by, modulus, Leaf, ring_of, leaf}
 use Rattle.code.specs.Coding.{dec}

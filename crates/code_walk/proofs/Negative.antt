@@ -1,9 +1,8 @@
 -- The code of the negative of a form, from the codes of its parts.
 -- Assumes nothing.
-use mathlib.Core.Path.{◌≡◌, sym, ap, ◌∙◌}
-use mathlib.Core.List.{List, [], ◌∷◌, ◌++◌}
-use Prim.Native.Nat.{ℕ}
-use lib.ListN.{length, get_or}
+use Rattle.std.proofs.Common.{sym, List, [], ◌∷◌, ◌++◌, ℕ, length}
+use Rattle.std.proofs.Math.Path.{◌≡◌, ap, ◌∙◌}
+use Rattle.std.proofs.Math.ListN.{get_or}
 use Rattle.horner.specs.definitions.Form.{Form}
 use Rattle.code.specs.Widths.{neg_by, modulus, Leaf}
 use Rattle.code.specs.Coding.{enc, dec}

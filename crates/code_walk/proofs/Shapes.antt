@@ -1,9 +1,7 @@
 -- Laws for the test whether two codes are one.
 -- Assumes nothing.
-use mathlib.Core.Bool.{Bool, true, false, true≢false}
-use mathlib.Core.List.{List}
-use mathlib.Core.Path.{◌≡◌, refl, sym}
-use Prim.Native.Nat.{ℕ}
+use Rattle.std.proofs.Common.{Bool, true, false, List, refl, ℕ, true≢false, sym}
+use Rattle.std.proofs.Math.Path.{◌≡◌}
 use Rattle.code.specs.Coding.{Coded, dec}
 use Rattle.code_walk.specs.Shapes.{Decides}
 use Rattle.code_walk.specs.laws.Shapes.{decides-forms}

@@ -1,4 +1,6 @@
 // Functions that walk over one coded form: its negative, its value at a point, its product with a leaf, and the same form in another ring.
+#![tactic(auto)]
+
 ghost use Rattle.std.specs.Prelude.{◌≡◌, ℕ, ◌+◌, ◌<◌, ◌≤◌, min, length};
 ghost use Rattle.horner.specs.definitions.Form.{is_zero};
 ghost use Rattle.code.specs.Widths.{modulus, ring_of, leaf};

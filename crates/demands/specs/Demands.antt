@@ -9,12 +9,12 @@ use Rattle.refusal.specs.declared.Side.TheVariants.{Left, Right}
 use Rattle.horner.specs.definitions.Measures.{coef_at, multiples_of}
 use Rattle.horner.specs.definitions.Form.{Form, evalh}
 use Rattle.horner.specs.definitions.Rings.{ℤ_ring, prime, remainder_by}
-use Rattle.horner.specs.laws.Within.{Within}
+use Rattle.horner.proofs.laws.Within.{Within}
 use Rattle.horner.specs.definitions.Points.{IsPoint, point_of, leaves}
 use Rattle.horner.specs.definitions.Term.{Term, diff, norm_ℤ, norm_p, eval_ℤ}
-use Rattle.horner.specs.laws.Answer.{same-iff, point-is}
-use Rattle.horner.specs.laws.Points.{point-found}
-use Rattle.horner.specs.laws.Term.{evalh-norm, normal-norm, theorem-1}
+use Rattle.horner.proofs.laws.Answer.{same-iff, point-is}
+use Rattle.horner.proofs.laws.Points.{point-found}
+use Rattle.horner.proofs.laws.Term.{evalh-norm, normal-norm, theorem-1}
 use Rattle.text.specs.definitions.Bytes.{Reading, read, refused, is_row}
 use Rattle.text.specs.definitions.FormReading.{accept_form, text}
 use Rattle.text.specs.definitions.FormMeaning.{IsForm}
@@ -24,7 +24,7 @@ use Rattle.text.specs.definitions.Tree.{Tree, term_of}
 use Rattle.text_laws.specs.laws.FormAccepted as Forms
 use Rattle.text_laws.specs.laws.FormReading.{text-injective}
 use Rattle.text_laws.specs.laws.Ordinary as Terms
-use Rattle.text_laws.specs.laws.Result.{result-form, result-accepted}
+use Rattle.text_laws.proofs.laws.Result.{result-form, result-accepted}
 use Rattle.text_laws.specs.laws.Rows.{accepted-within}
 use Rattle.reply.specs.definitions.Calls.{equal, different, verdict_of, compare_reply, counters_reply, is_width, bits}
 use Rattle.reply.specs.definitions.Calls.{judge_reply, form_reply, remainder_reply}

@@ -4,13 +4,14 @@ use Rattle.std.proofs.Common.{ap, ◌∙◌, arith, leb-true, length-append}
 use Rattle.horner.specs.definitions.Form.{Form, int, pop, pow}
 use Rattle.horner.specs.definitions.Measures.{degrees, terms, weight}
 use Rattle.horner.specs.definitions.Rings.{ℤ_ring}
-use Rattle.horner.specs.laws.Decide.{is_normal-is}
+use Rattle.horner.proofs.laws.Decide.{is_normal-is}
 use Rattle.text.specs.definitions.Bytes.{decimal, write_int, is_row}
 use Rattle.text.specs.definitions.FormMeaning.{IsForm}
 use Rattle.text.specs.definitions.FormReading.{text, pop_head, pow_head}
 use Rattle.text_laws.specs.laws.Bytes.{all-le}
 use Rattle.text_laws.specs.laws.FormAccepted.{Fits}
-use Rattle.text_laws.specs.laws.Result.{text-form, text-short}
+use Rattle.text_laws.specs.laws.Result.{text-short}
+use Rattle.text_laws.proofs.laws.Result.{text-form}
 use Rattle.text_laws.specs.laws.Rows.{row-length}
 
 -- the k-th of its 256 coefficients

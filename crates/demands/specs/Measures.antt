@@ -6,11 +6,11 @@ use Rattle.horner.specs.definitions.Form.{Form, is_zero, Normal, evalh}
 use Rattle.horner.specs.definitions.Measures.{coef_at, sum_box, monomial, degrees, one_if, terms, weight}
 use Rattle.horner.specs.definitions.Points.{InBox}
 use Rattle.horner.specs.definitions.Rings.{ℤ_ring}
-use Rattle.horner.specs.laws.Cancel.{zero_is}
-use Rattle.horner.specs.laws.Coefficients.{val-sum_box, weight-sum_box, count-sum_box, coef_at-zero}
-use Rattle.horner.specs.laws.Degree.{Bounded, length-degrees, bounded-degrees}
-use Rattle.horner.specs.laws.Evalh.{evalh-val}
-use Rattle.horner.specs.laws.Highest.{in_bounds, reaches, zeros-zero}
+use Rattle.horner.proofs.laws.Cancel.{zero_is}
+use Rattle.horner.proofs.laws.Coefficients.{val-sum_box, weight-sum_box, count-sum_box, coef_at-zero}
+use Rattle.horner.proofs.laws.Degree.{Bounded, length-degrees, bounded-degrees}
+use Rattle.horner.proofs.laws.Evalh.{evalh-val}
+use Rattle.horner.proofs.laws.Highest.{in_bounds, reaches, zeros-zero}
 
 -- the coefficients are numbered by their powers of the n variables; one that is not 0 has the power d of the j-th variable
 pub record Reached (n j d : ℕ) (coefficient : List ℕ → ℤ) : Type 0 where

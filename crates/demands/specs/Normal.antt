@@ -7,15 +7,15 @@ use Rattle.dialect.specs.Dialects.{ordinary}
 use Rattle.horner.specs.definitions.Form.{Form, Normal, evalh, nats}
 use Rattle.horner.specs.definitions.Rings.{ℤ_ring, nat}
 use Rattle.horner.specs.definitions.Term.{Term, norm_ℤ, eval_ℤ}
-use Rattle.horner.specs.laws.Term.{evalh-norm, normal-norm, only-form}
-use Rattle.horner.specs.laws.Within.{Over}
+use Rattle.horner.proofs.laws.Term.{evalh-norm, normal-norm, only-form}
+use Rattle.horner.proofs.laws.Within.{Over}
 use Rattle.text.specs.definitions.Bytes.{is_row}
 use Rattle.text.specs.definitions.FormMeaning.{IsForm}
 use Rattle.text.specs.definitions.FormReading.{text}
 use Rattle.text.specs.definitions.Meaning.{IsTerm, Part, Fits}
 use Rattle.text.specs.definitions.Tree.{Tree, term_of}
 use Rattle.text_laws.specs.laws.Ordinary.{accepts}
-use Rattle.text_laws.specs.laws.Result.{result-form}
+use Rattle.text_laws.proofs.laws.Result.{result-form}
 use Rattle.text_laws.specs.laws.Rows.{accepted-within}
 
 -- of a term inside the limits

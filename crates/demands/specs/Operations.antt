@@ -6,10 +6,10 @@ use Rattle.std.proofs.Math.Path.{ap}
 use Rattle.refusal.specs.declared.Side.TheVariants.{Left, Right}
 use Rattle.horner.specs.definitions.Form.{Form, sum, negate, prod, raise, Normal, evalh}
 use Rattle.horner.specs.definitions.Rings.{ℤ_ring, power}
-use Rattle.horner.specs.laws.Evalh.{evalh-sum, evalh-negate, evalh-prod, evalh-raise}
-use Rattle.horner.specs.laws.Normal.{normal-sum, normal-negate, normal-prod, normal-raise}
-use Rattle.horner.specs.laws.Table as Table
-use Rattle.horner.specs.laws.Table.{sum_fits, prod-fits, raise-fits}
+use Rattle.horner.proofs.laws.Evalh.{evalh-sum, evalh-negate, evalh-prod, evalh-raise}
+use Rattle.horner.proofs.laws.Normal.{normal-sum, normal-negate, normal-prod, normal-raise}
+use Rattle.horner.proofs.laws.Table as Table
+use Rattle.horner.proofs.laws.Table.{sum_fits, prod-fits, raise-fits}
 use Rattle.text.specs.definitions.Bytes.{Reading, read}
 use Rattle.text.specs.definitions.FormMeaning.{IsForm}
 use Rattle.text.specs.definitions.FormReading.{accept_form, text}

@@ -6,15 +6,16 @@ use Rattle.std.proofs.Common.{sym, ap, ◌∙◌, subst, arith, eq-eqb}
 use Rattle.refusal.specs.declared.Side.TheVariants.{Left, Right}
 use Rattle.horner.specs.definitions.Form.{Form, sum, negate, prod, raise, Normal, evalh}
 use Rattle.horner.specs.definitions.Rings.{ℤ_ring, power}
-use Rattle.horner.specs.laws.Evalh.{evalh-sum, evalh-negate, evalh-prod, evalh-raise}
-use Rattle.horner.specs.laws.Normal.{normal-sum, normal-negate, normal-prod, normal-raise}
-use Rattle.horner.specs.laws.Table as Table
-use Rattle.horner.specs.laws.Table.{sum_fits, prod-fits, raise-fits}
+use Rattle.horner.proofs.laws.Evalh.{evalh-sum, evalh-negate, evalh-prod, evalh-raise}
+use Rattle.horner.proofs.laws.Normal.{normal-sum, normal-negate, normal-prod, normal-raise}
+use Rattle.horner.proofs.laws.Table as Table
+use Rattle.horner.proofs.laws.Table.{sum_fits, prod-fits, raise-fits}
 use Rattle.text.specs.definitions.Bytes.{Reading, read, is_row}
 use Rattle.text.specs.definitions.FormMeaning.{IsForm}
 use Rattle.text.specs.definitions.FormReading.{accept_form, text}
 use Rattle.text_laws.specs.laws.FormAccepted.{Fits, accepts}
-use Rattle.text_laws.specs.laws.Result.{text-short, text-form}
+use Rattle.text_laws.specs.laws.Result.{text-short}
+use Rattle.text_laws.proofs.laws.Result.{text-form}
 use Rattle.text_laws.specs.laws.Rows.{row-length}
 use Rattle.reply.specs.definitions.Calls.{Measured, of_sum, of_product, of_power, limited, negate_of, two_of, raise_of}
 use Rattle.reply.specs.definitions.Calls.{negate_reply, add_reply, multiply_reply, raise_reply, judge_reply}

@@ -1,5 +1,7 @@
 // The three demands are theorems about replies (specs/). Here each public function is called once more under the contract that these
 // theorems speak of: so the gate breaks where a part of its own `ensures` is missing.
+#![tactic(auto)]
+
 ghost use Rattle.book.specs.definitions.Book.{PrintCall};
 ghost use Rattle.panel.specs.Panel.{PanelCompareCall, PanelFormCall, PanelRemainderCall};
 ghost use Rattle.reply.specs.definitions.Calls.{CompareCall, CountersCall, JudgeCall, NegateCall, AddCall, MultiplyCall, RaiseCall};

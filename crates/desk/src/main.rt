@@ -1,4 +1,6 @@
 // The desk: one request on each line of standard input, one answer line each on standard output.
+#![tactic(auto)]
+
 use code::TABLE;
 
 // Puts one more byte behind the fill bytes of a line, and returns how many they then are: one more than there is room for, where it is too

@@ -1,4 +1,6 @@
 // The answer to a request line: its word chooses which line is written.
+#![tactic(auto)]
+
 ghost use Rattle.std.specs.Prelude.{[], ◌∷◌, ◌≡◌, ◌≤◌, length};
 ghost use Rattle.form_write.specs.Write.{Wrote};
 ghost use Rattle.desk_reply.specs.Reply.{room};

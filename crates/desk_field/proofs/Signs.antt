@@ -1,11 +1,11 @@
 -- What the machine holds for a number below zero.
-use mathlib.Core.Path.{◌≡◌, refl, sym, ap, subst, ◌∙◌}
-use Prim.Native.Nat.{ℕ, zero, suc, ◌<◌}
-use native.Mathlib.Omega.{arith}
-use lib.IntN.{pos, negsuc, ◌-ℤ◌}
-use mir.Syntax.{w32}
+use Rattle.std.proofs.Common.{refl, sym, ap, subst, arith, ℕ, zero, suc, ◌<◌}
+use Rattle.std.proofs.Math.Path.{◌≡◌, ◌∙◌}
+use Rattle.std.specs.Prelude.{pos, negsuc}
+use Rattle.std.proofs.Math.IntN.{◌-ℤ◌}
+use Rattle.std.specs.Int.{w32}
 use mir.Val.{SFits, to_z, of_z}
-use mir.Facts.{to_z-of_z, to_z_pos}
+use Rattle.std.proofs.Math.Facts.{to_z-of_z, to_z_pos}
 
 minus_one : (m : ℕ) → negsuc 0 -ℤ pos m ≡ negsuc m
 minus_one zero = refl

@@ -1,4 +1,6 @@
 // The fields of a request line, parted by one tab each, and the numbers in them.
+#![tactic(auto)]
+
 ghost use Rattle.std.specs.Prelude.{true, ◌≡◌, ◌≤◌, min, length, drop};
 ghost use Rattle.text.specs.definitions.Bytes.{all, digit, value_from, read_nat, below0, from0};
 ghost use Rattle.desk_field.specs.Fields.{EndsAt, first_of, rest_of, field_of, count_of, natural_of, signed32, signed_of, is_coordinate};

@@ -1,4 +1,6 @@
 // The line that answers a request, written at the front of a lent buffer.
+#![tactic(auto)]
+
 ghost use Rattle.std.specs.Prelude.{◌≤◌, length};
 ghost use Rattle.form_write.specs.Write.{Wrote};
 ghost use Rattle.desk_reply.specs.Reply.{side_text, wrong_text, refused_text, remainder_text, LineFits, Replied};

@@ -1,4 +1,6 @@
 // What the lines of the desk share: the number of their fields, the coordinates of a point, the line of a remainder.
+#![tactic(auto)]
+
 ghost use Rattle.std.specs.Prelude.{◌≡◌, ◌-◌, ◌≤◌, min, length};
 ghost use Rattle.form_write.specs.Write.{Wrote};
 ghost use Rattle.desk_field.specs.Fields.{count_of};

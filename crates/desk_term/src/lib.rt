@@ -1,4 +1,6 @@
 // The lines of `form` and `remainder`: each reads the fields of its request, makes its call and writes the answer's line.
+#![tactic(auto)]
+
 ghost use Rattle.std.specs.Prelude.{[], ◌∷◌, ◌≤◌, length};
 ghost use Rattle.form_write.specs.Write.{Wrote};
 ghost use Rattle.desk_reply.specs.Reply.{room};

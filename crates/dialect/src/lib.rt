@@ -1,8 +1,10 @@
 // The rules of a dialect of terms: how long a text may be, how deep it may nest, the number of 'not a term', and what is allowed in it.
+#![tactic(auto)]
+
 ghost use Rattle.std.specs.Prelude.{◌≡◌};
 ghost use Rattle.dialect.specs.Dialects;
 
-#[derive(Drop)]
+#[derive(Clone, Copy)]
 pub struct Dialect {
     pub bytes: usize,
     pub depth: usize,

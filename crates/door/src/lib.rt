@@ -1,4 +1,6 @@
 // What the calls begin and end with: the row and the tables looked at, the tables cleared.
+#![tactic(auto)]
+
 ghost use Rattle.std.specs.Prelude.{[], ◌∷◌, ◌≡◌, length, replicate};
 ghost use Rattle.text.specs.definitions.Bytes.{is_in_row, is_row};
 ghost use Rattle.reply.specs.definitions.Reply.{enough};

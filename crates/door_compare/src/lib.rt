@@ -1,4 +1,6 @@
 // Two terms over the whole numbers, where the door is open: the same, or the first point at which they part.
+#![tactic(auto)]
+
 ghost use Rattle.std.specs.Prelude.{true, ◌++◌, ◌≡◌, ◌≤◌, length, take, drop};
 ghost use Rattle.code.specs.Coding.{Made, dec};
 ghost use Rattle.code.specs.Operations.{value_of};

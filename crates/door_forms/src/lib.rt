@@ -1,4 +1,6 @@
 // Two forms read one after the other: their codes stand side by side at the front of one table.
+#![tactic(auto)]
+
 ghost use Rattle.std.specs.Prelude.{◌≡◌, ◌≤◌, length};
 ghost use Rattle.door_forms.specs.Forms.{begun, ended, PairRead};
 

@@ -1,16 +1,14 @@
 -- The remainder of a signed coordinate: twice P more than it is no negative number, and has its remainder.
-use mathlib.Core.Path.{◌≡◌, refl, sym, ap, ◌∙◌, subst}
-use mathlib.Core.Bool.{cond}
-use Prim.Native.Nat.{ℕ, suc, ◌+◌, ◌-◌, ◌%◌, ◌<◌}
-use native.Mathlib.Nat as NatL
-use native.Mathlib.Omega.{arith}
-use lib.IntN.{ℤ, pos, negsuc, ◌+ℤ◌}
-use lib.Signed.{mag}
-use mir.Syntax.{w32, w64}
+use Rattle.std.proofs.Common.{refl, sym, ap, subst, arith, le-ltb, ℕ, suc, ◌+◌, ◌-◌, ◌%◌, ◌<◌}
+use Rattle.std.proofs.Math.Path.{◌≡◌, ◌∙◌}
+use Rattle.std.specs.Prelude.{cond, ℤ, pos, negsuc}
+use Rattle.std.proofs.Math.IntN.{◌+ℤ◌}
+use Rattle.std.specs.Int.Signed.{mag}
+use Rattle.std.specs.Int.{w32, w64}
 use mir.Val.{SFits, to_z, of_z}
-use mir.Facts.{to_z-of_z, sfits_widen}
-use borrow.Author.Tests.{le-ltb}
+use Rattle.std.proofs.Math.Facts.{to_z-of_z, sfits_widen}
 use Rattle.reply.specs.definitions.Calls.{remainder}
+use Rattle.std.proofs.Math.Nat as NatL
 
 abbrev pub raised : ℤ → ℕ
 raised (pos n) = n + 4294967294

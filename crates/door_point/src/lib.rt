@@ -1,4 +1,6 @@
 // The point of a call: the remainders of its coordinates.
+#![tactic(auto)]
+
 ghost use Rattle.std.specs.Prelude.{◌++◌, ◌≡◌, ◌≤◌, length, drop};
 ghost use Rattle.door_point.specs.Point.{residues_of};
 ghost use Rattle.reply.specs.definitions.Calls.{remainder};

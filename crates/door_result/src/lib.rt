@@ -1,4 +1,6 @@
 // What a call with a result text answers: the text of a coded form in the lent buffer, or a refusal.
+#![tactic(auto)]
+
 ghost use Rattle.std.specs.Prelude.{◌≡◌, ◌≤◌, length};
 ghost use Rattle.code.specs.Coding.{Coded, dec};
 ghost use Rattle.form_write.specs.Write.{text_of};

@@ -1,4 +1,6 @@
 // Two terms read one after the other: the runs of their polynomials stand side by side in the last table, and their forms can be made of them.
+#![tactic(auto)]
+
 ghost use Rattle.std.specs.Prelude.{true, ◌≡◌, length};
 ghost use Rattle.text.specs.definitions.Bytes.{is_row};
 ghost use Rattle.code.specs.Lengths.{Full};

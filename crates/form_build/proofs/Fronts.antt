@@ -1,10 +1,8 @@
 -- A head written in front of what a part of the table holds, and a second part behind.
 -- Assumes nothing.
-use mathlib.Core.List.{List, [], ◌∷◌, ◌++◌}
-use mathlib.Core.Path.{◌≡◌, ap, ◌∙◌}
-use Prim.Native.Nat.{ℕ, ◌+◌, ◌-◌, ◌≤◌, ◌<◌}
-use native.Mathlib.Omega.{arith}
-use lib.ListN.{length, set}
+use Rattle.std.proofs.Common.{List, [], ◌∷◌, ◌++◌, ap, arith, ℕ, ◌+◌, ◌-◌, ◌≤◌, ◌<◌, length}
+use Rattle.std.proofs.Math.Path.{◌≡◌, ◌∙◌}
+use Rattle.std.specs.Prelude.{set}
 use borrow.Rule.Slice.PartMut.{put_mid}
 use Rattle.code.specs.Coding.{Begins}
 use Rattle.form_head.specs.Heads.{Headed}

@@ -1,4 +1,6 @@
 // The text of a form in three passes: judged, measured, and made a coded form over the remainders by P.
+#![tactic(auto)]
+
 ghost use Rattle.std.specs.Prelude.{◌≡◌, ◌+◌, ◌≤◌, min, max, ℤ, length};
 ghost use Rattle.horner.specs.definitions.Form.{Form};
 ghost use Rattle.code.specs.Coding.{Made};

@@ -1,4 +1,6 @@
 // What a form begins with, at a place of a text that is known to hold a form there.
+#![tactic(auto)]
+
 ghost use Rattle.std.specs.Prelude.{◌≡◌, ◌+◌, ◌≤◌, length, drop};
 ghost use Rattle.text.specs.definitions.Bytes.{digit};
 ghost use Rattle.form_head.specs.Heads.{digits, NumberAt, Standing, Headed};

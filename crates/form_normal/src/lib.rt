@@ -1,4 +1,6 @@
 // The form at a place of a text, judged node by node: refusal 7.
+#![tactic(auto)]
+
 ghost use Rattle.std.specs.Prelude.{◌≡◌, ◌-◌, ◌≤◌, eqb};
 ghost use Rattle.text_laws.specs.laws.Picks.{pick};
 ghost use Rattle.form_head.specs.Heads.{Standing};

@@ -1,4 +1,6 @@
 // The text of a form, with all its refusals: judged, and read into its coded form.
+#![tactic(auto)]
+
 ghost use Rattle.std.specs.Prelude.{◌≡◌, ◌≤◌, length};
 ghost use Rattle.text.specs.definitions.FormReading.{accept_form};
 ghost use Rattle.form_build.specs.Answer.{judged_of};

@@ -1,5 +1,7 @@
 // Whether a text is a form's text: one function for each part of a form, which answers the place behind the part, or the refusal. Nothing
 // is built.
+#![tactic(auto)]
+
 ghost use Rattle.std.specs.Prelude.{◌≡◌, false, ◌≤◌, length};
 ghost use Rattle.text.specs.definitions.FormReading.{read_form};
 ghost use Rattle.form_syntax.specs.Answer.{form_syntax_of};
@@ -129,7 +131,7 @@ fn letters_at(s: &[u8], at: usize) -> Part
 }
 
 // A form, with depth parentheses open.
-#[cycle(form_at_last_at_pop_at_pow_at)]
+#[cycle(parts)]
 fn form_at(s: &[u8], at: usize, depth: usize) -> Part
     ensures { FormAt s.now at depth result }
 {
@@ -159,7 +161,7 @@ fn form_at(s: &[u8], at: usize, depth: usize) -> Part
 }
 
 // The last form of a parenthesis, and the `)`.
-#[cycle(form_at_last_at_pop_at_pow_at)]
+#[cycle(parts)]
 fn last_at(s: &[u8], at: usize, depth: usize) -> Part
     ensures { LastAt s.now at depth result }
 {
@@ -171,7 +173,7 @@ fn last_at(s: &[u8], at: usize, depth: usize) -> Part
 }
 
 // What follows `(POP`.
-#[cycle(form_at_last_at_pop_at_pow_at)]
+#[cycle(parts)]
 fn pop_at(s: &[u8], at: usize, depth: usize) -> Part
     ensures { PopAt s.now at depth result }
 {
@@ -183,7 +185,7 @@ fn pop_at(s: &[u8], at: usize, depth: usize) -> Part
 }
 
 // What follows `(POW`.
-#[cycle(form_at_last_at_pop_at_pow_at)]
+#[cycle(parts)]
 fn pow_at(s: &[u8], at: usize, depth: usize) -> Part
     ensures { PowAt s.now at depth result }
 {

@@ -1,10 +1,8 @@
 -- What write_head leaves: five bytes, the digits of i through the part behind them, and a space.
 -- Assumes nothing.
-use mathlib.Core.List.{List, [], ◌∷◌, ◌++◌}
-use mathlib.Core.Path.{◌≡◌, refl}
-use Prim.Native.Nat.{ℕ, ◌+◌, ◌-◌, ◌≤◌, ◌<◌}
-use native.Mathlib.Omega.{arith}
-use lib.ListN.{length, take, drop, set}
+use Rattle.std.proofs.Common.{List, [], ◌∷◌, ◌++◌, refl, length, ℕ, ◌+◌, ◌-◌, ◌≤◌, ◌<◌, arith}
+use Rattle.std.proofs.Math.Path.{◌≡◌}
+use Rattle.std.specs.Prelude.{take, drop, set}
 use borrow.Rule.Slice.PartMut.{put_mid}
 use Rattle.form_write.specs.Write.{numeral, head_text, Wrote}
 use Rattle.form_write.specs.laws.Wrote.{wrote_none, wrote_as, wrote-byte, wrote_on}

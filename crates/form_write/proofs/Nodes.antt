@@ -1,10 +1,9 @@
 -- What write_text leaves of a node: its head, then the text of p through the rest of the buffer, and for a POW a space and the text of q
 -- through what is left. l is the code, old the buffer before, a after the head, e and f what the calls left in their parts. Assumes
 -- nothing.
-use mathlib.Core.List.{List, [], ◌∷◌, ◌++◌}
-use Prim.Native.Nat.{ℕ, ◌+◌, ◌-◌, ◌%◌, ◌≤◌}
-use native.Mathlib.Omega.{arith}
-use lib.ListN.{length, take, drop, get_or, set}
+use Rattle.std.proofs.Common.{List, [], ◌∷◌, ◌++◌, ℕ, ◌+◌, ◌-◌, ◌%◌, ◌≤◌, arith, length}
+use Rattle.std.specs.Prelude.{take, drop, set}
+use Rattle.std.proofs.Math.ListN.{get_or}
 use borrow.Rule.Slice.PartMut.{put_mid}
 use Rattle.code.specs.Coding.{dec}
 use Rattle.code.specs.laws.Parts.{inner, first, rest, PopAt, PowAt}

@@ -1,4 +1,6 @@
 // The text of a coded form over the remainders by P: how long it is, and writing it at the front of a lent buffer.
+#![tactic(auto)]
+
 ghost use Rattle.std.specs.Prelude.{◌≡◌, ◌≤◌, ◌<◌, length};
 ghost use Rattle.code.specs.Coding.{Coded, dec};
 ghost use Rattle.form_write.specs.Write.{text_of, numeral, leaf_text, head_text, Wrote};

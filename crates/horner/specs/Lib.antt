@@ -2,6 +2,4 @@
 -- Clauses; the proofs in laws/; examples in Cases.
 pub mod definitions
 pub mod laws
-pub mod Theorems
-pub mod Clauses
 pub mod Cases

@@ -1,9 +1,8 @@
 -- The numbers of the limits, of measures as code has them and of a subterm as document 01 has it: they are the same.
 use Rattle.std.specs.Prelude.{◌≡◌, ◌⊎◌, true, List, [], ◌∷◌, ℕ, zero, suc, ◌≤◌, ◌<◌, min, length, get_or}
 use Rattle.std.proofs.Common.{sym, ◌∙◌, subst, inl, inr, arith, lt-ltb, le-ltb}
-use Rattle.std.proofs.Math.Nat as NatL
 use Rattle.horner.specs.definitions.Measures.{weight_of, degrees_of, terms_of, AllLe}
-use Rattle.horner.specs.laws.Compare.{lt-or-ge}
+use Rattle.horner.proofs.laws.Compare.{lt-or-ge}
 use Rattle.text.specs.definitions.Limits.{exponent_fits, over_limit}
 use Rattle.text.specs.definitions.Tree.{Tree, term_of}
 use Rattle.text_laws.specs.laws.Measured.{Measure, within, power-over, weight-over, terms-over, measure}

@@ -1,9 +1,11 @@
 // Document 01's table on measures, of sums, products and powers, and the first limit that measures pass.
+#![tactic(auto)]
+
 ghost use Rattle.std.specs.Prelude.{◌≡◌, ◌+◌, ◌*◌, ◌^◌, ◌≤◌, ◌<◌, min, max};
 ghost use Rattle.measure.specs.Measure.{box_m, add_m, mul_m, pow_m, limit_m, Small};
 
 // Of a subterm: its weight, its terms and its degree in each of four variables.
-#[derive(Drop)]
+#[derive(Clone, Copy)]
 pub struct Measures {
     pub weight: u32,
     pub terms: u32,

@@ -1,5 +1,7 @@
 // The calls that the panel's build tool makes from C: compare, form and remainder, on numbers and slices. An enum cannot cross, so each
 // answers a struct of numbers; specs/Panel says which. include/panel.h is the same for C.
+#![tactic(auto)]
+
 ghost use Rattle.std.specs.Prelude.{◌≡◌};
 ghost use Rattle.reply.specs.definitions.Reply.{work};
 ghost use Rattle.panel.specs.Panel.{side_number, refusal_answer, PanelCompareCall, PanelFormCall, PanelRemainderCall};

@@ -1,4 +1,6 @@
 // The printer: a formula book from standard input, one line per entry on standard output.
+#![tactic(auto)]
+
 use book_print::PAGE;
 use code::TABLE;
 use reply::Written;

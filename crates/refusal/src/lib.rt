@@ -1,4 +1,6 @@
 // The refusal record: what every answer holds when it refuses, and every caller hands on unopened.
+#![tactic(auto)]
+
 ghost use Rattle.std.specs.Prelude.{◌≡◌};
 ghost use Rattle.refusal.specs.Refusal.{on_side, of_neither};
 

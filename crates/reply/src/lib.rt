@@ -1,4 +1,6 @@
 // What the calls answer: an enum for each kind of answer, the refusal record in every one.
+#![tactic(auto)]
+
 use refusal::Refusal;
 
 // How many bytes of text were written, or the refusal.

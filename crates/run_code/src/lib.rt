@@ -1,4 +1,6 @@
 // The coded form of a run in words.
+#![tactic(auto)]
+
 ghost use Rattle.std.specs.Prelude.{◌≡◌, ◌+◌, ◌/◌, ◌^◌, ◌≤◌, length};
 ghost use Rattle.code.specs.Coding.{Made, enc};
 ghost use Rattle.run_merge.specs.Words.{pairs};

@@ -1,3 +1,2 @@
 -- The words of a form's run.
 pub mod Forms
-pub mod laws

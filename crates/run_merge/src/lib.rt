@@ -1,4 +1,6 @@
 // Runs in words: the sum of a run and of a monomial times another.
+#![tactic(auto)]
+
 ghost use Rattle.std.specs.Prelude.{◌+◌, ◌<◌, ◌≤◌, length, drop, []};
 ghost use Rattle.horner.specs.definitions.Rings.{prime};
 ghost use Rattle.code.specs.Coding.{Begins};

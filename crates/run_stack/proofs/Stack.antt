@@ -1,10 +1,10 @@
 -- A run that is copied behind another one.
 -- Assumes nothing.
-use mathlib.Core.Path.{◌≡◌, ◌∙◌, ap}
-use mathlib.Core.List.{List, ◌++◌}
-use Prim.Native.Nat.{ℕ, ◌+◌, ◌-◌, ◌≤◌}
-use lib.ListN.{length, take, drop}
-use lib.Seq.{take-append-le, drop_at, length-take-le}
+use Rattle.std.proofs.Common.{ap, length-take-le, List, ◌++◌, ℕ, ◌+◌, ◌-◌, ◌≤◌, length}
+use Rattle.std.proofs.Math.Path.{◌≡◌, ◌∙◌}
+use Rattle.std.specs.Prelude.{take, drop}
+use Rattle.std.proofs.lemmas.List.{take-append-le}
+use Rattle.std.proofs.Math.Seq.{drop_at}
 use borrow.Rule.Slice.PartMut.{put_mid, post_of, take_put}
 use Rattle.code.specs.Coding.{Begins}
 use Rattle.code.proofs.Lists.{begins-le, front_of, behind}

@@ -1,4 +1,6 @@
 // Runs in words, side by side at the front of a table, and what an operator makes of them in their place.
+#![tactic(auto)]
+
 ghost use Rattle.std.specs.Prelude.{[], ◌+◌, ◌-◌, ◌<◌, ◌≤◌, length, take, drop};
 ghost use Rattle.horner.specs.definitions.Rings.{prime};
 ghost use Rattle.code.specs.Coding.{Begins};

@@ -1,4 +1,6 @@
 // A term's text of a dialect, read once into its tree and measured over the tree: every refusal, with place and end.
+#![tactic(auto)]
+
 ghost use Rattle.std.specs.Prelude.{length};
 ghost use Rattle.term_parse.specs.Found.{ParseReady};
 ghost use Rattle.term_accept.specs.Accepted.{AcceptedAs};

@@ -1,4 +1,6 @@
 // From the words of a term's tree to the words of its polynomial's run, over an environment: each letter of the row has a run of its own.
+#![tactic(auto)]
+
 ghost use Rattle.std.specs.Prelude.{[], ◌∷◌, ◌≡◌, ◌≤◌, length, get_or};
 ghost use Rattle.code.specs.Coding.{Begins};
 ghost use Rattle.term_build.specs.Build.{Given, Built, Joining, joined, Plain, PlainBuilt};

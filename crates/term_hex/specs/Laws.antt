@@ -2,7 +2,7 @@
 use Rattle.std.specs.Prelude.{◌≡◌, refl, ◌⊎◌, Bool, true, false, ◌&&◌, ◌||◌, List, [], ◌∷◌, ℕ, suc, ◌+◌, ◌-◌, ◌*◌, ◌≤◌, ◌<◌, min, eqb, leb, pos, length, get_or, drop}
 use Rattle.std.proofs.Common.{sym, ap, ◌∙◌, inl, inr, true≢false, arith, add-one, drop_of_length-le, drop-cons, eq-eqb, ne_eqb, le-leb, leb-true, lt-ltb, le-ltb, eqb-true}
 use Rattle.std.proofs.lemmas.Bool.{lt-leb}
-use Rattle.horner.specs.laws.Compare.{lt-or-ge}
+use Rattle.horner.proofs.laws.Compare.{lt-or-ge}
 use Rattle.text.specs.definitions.Bytes.{all, digit, is_empty}
 use Rattle.text_laws.specs.laws.Bytes.{and_l, and_r, digit-range}
 use Rattle.term_tree.specs.Coding.{int_code}

@@ -1,4 +1,6 @@
 // Hexadecimal integers: whether a word is one, and its code in a tree.
+#![tactic(auto)]
+
 ghost use Rattle.std.specs.Prelude.{◌≡◌, true, ◌≤◌, min, pos, drop};
 ghost use Rattle.text.specs.definitions.Bytes.{all};
 ghost use Rattle.term_tree.specs.Coding.{int_code};

@@ -1,4 +1,6 @@
 // The leaves of a term's text: its tokens, and what a word is where a letter or an operand may stand, put down as a leaf's two words.
+#![tactic(auto)]
+
 ghost use Rattle.std.specs.Prelude.{◌≡◌, true, ◌∷◌, ◌+◌, ◌*◌, ◌%◌, ◌≤◌, ◌<◌, length, drop};
 ghost use Rattle.text_word.specs.Words.{is_integer};
 ghost use Rattle.term_leaf.specs.Leaf.{On, number_in, part_in, AnswerIs, RefusalIs};

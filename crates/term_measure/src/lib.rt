@@ -1,4 +1,6 @@
 // The measures of every subterm of a coded term, in order of finishing, and the first that passes a limit, with its place and its end.
+#![tactic(auto)]
+
 ghost use Rattle.std.specs.Prelude.{◌≡◌, ◌+◌, ◌<◌, eqb};
 ghost use Rattle.text_laws.specs.laws.Picks.{pick};
 ghost use Rattle.measure.specs.Measure.{add_m, mul_m, Small};

@@ -1,5 +1,7 @@
 // A term's text is read once, into the words of its tree: one function for each part of a term, which answers how many words were written
 // at the front of `out` and the place behind the part, or the refusal, as one number.
+#![tactic(auto)]
+
 ghost use Rattle.std.specs.Prelude.{◌≡◌, [], length};
 ghost use Rattle.term_leaf.specs.Leaf.{part_in};
 ghost use Rattle.term_parse.specs.Found.{closes_only, Ready, TermAt, ListAt, SecondAt, PowerAt, ExponentAt, LetterAt, ClosedAt};
@@ -78,7 +80,7 @@ fn letter_at(d: Dialect, row: &[u8], s: &[u8], at: usize, out: &mut [u32]) -> us
 }
 
 // A term, with depth parentheses open.
-#[cycle(list_at_operand_of_power_at_second_at_term_at)]
+#[cycle(terms)]
 fn term_at(d: Dialect, row: &[u8], s: &[u8], at: usize, depth: usize, out: &mut [u32]) -> usize
     requires { Ready d row.now s.now at at (length out.old) }
     ensures { TermAt d row.now s.now at depth out.new (part_in d result) }
@@ -88,7 +90,7 @@ fn term_at(d: Dialect, row: &[u8], s: &[u8], at: usize, depth: usize, out: &mut 
 }
 
 // A term whose first token is known, with depth parentheses open.
-#[cycle(list_at_operand_of_power_at_second_at_term_at)]
+#[cycle(terms)]
 fn operand_of(
     d: Dialect,
     row: &[u8],
@@ -115,7 +117,7 @@ fn operand_of(
 }
 
 // What follows the `(` at p.
-#[cycle(list_at_operand_of_power_at_second_at_term_at)]
+#[cycle(terms)]
 fn list_at(
     d: Dialect,
     row: &[u8],
@@ -161,7 +163,7 @@ fn closes_only(d: Dialect, g: u32) -> bool
 }
 
 // What follows the first operand of `+`, `-` or `*`, of k words, which stands in out behind two free words.
-#[cycle(list_at_operand_of_power_at_second_at_term_at)]
+#[cycle(terms)]
 fn second_at(
     d: Dialect,
     row: &[u8],
@@ -200,7 +202,7 @@ fn second_at(
 }
 
 // What follows `(EXPT`.
-#[cycle(list_at_operand_of_power_at_second_at_term_at)]
+#[cycle(terms)]
 fn power_at(
     d: Dialect,
     row: &[u8],

@@ -1,4 +1,6 @@
 // A term's text read into the run of its polynomial, and into its coded form.
+#![tactic(auto)]
+
 ghost use Rattle.std.specs.Prelude.{true, ◌≡◌, length};
 ghost use Rattle.text.specs.definitions.Bytes.{is_row};
 ghost use Rattle.code.specs.Lengths.{Long};

@@ -1,12 +1,8 @@
 -- Laws of `lead`, over any test.
-use mathlib.Core.Path.{◌≡◌, sym, ap, ◌∙◌}
-use mathlib.Core.Bool.{Bool, true, false}
-use mathlib.Core.List.{List}
-use Prim.Native.Nat.{ℕ, suc, ◌+◌, ◌<◌, ◌≤◌}
-use native.Mathlib.Omega.{arith}
-use native.Mathlib.Numerals.{add-one}
-use lib.ListN.{length, get_or, drop, drop_of_length-le}
-use lib.Seq.{drop-cons}
+use Rattle.std.proofs.Common.{sym, add-one, drop-cons, Bool, true, false, length, List, ℕ, suc, ◌+◌, ◌<◌, ◌≤◌, arith}
+use Rattle.std.proofs.Math.Path.{◌≡◌, ap, ◌∙◌}
+use Rattle.std.specs.Prelude.{drop}
+use Rattle.std.proofs.Math.ListN.{get_or, drop_of_length-le}
 use Rattle.term_token.specs.Steps.{more, lead}
 
 module _ (p : ℕ → Bool) (s : List ℕ) (i : ℕ) where

@@ -5,7 +5,7 @@ use Rattle.std.proofs.Math.Path.{ap}
 use Prim.Native.Nat.{ℕ, suc, ◌+◌, ◌-◌, ◌≤◌, ◌<◌}
 use Rattle.std.proofs.Math.ListN.{get_or}
 use Rattle.std.proofs.lemmas.Bool.{eqb-false}
-use Rattle.horner.specs.laws.Compare.{lt-or-ge}
+use Rattle.horner.proofs.laws.Compare.{lt-or-ge}
 use Rattle.text.specs.definitions.Bytes.{blank, Token, opening, closing, word, tokens, in_word}
 use Rattle.text_laws.specs.laws.Tokens.{tokens-gap, tokens-open, tokens-close}
 use Rattle.term_token.specs.declared.Reader.{Reader}

@@ -1,4 +1,6 @@
 // The tokens of a text, one after the other, and what a word is.
+#![tactic(auto)]
+
 ghost use Rattle.std.specs.Prelude.{◌≡◌, length, drop};
 ghost use Prim.Native.Nat.{◌≤◌, ◌<◌};
 ghost use Rattle.text.specs.definitions.Bytes.{blank, tokens, in_word};

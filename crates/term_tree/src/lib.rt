@@ -1,1 +1,2 @@
 // The code of a term as words of 32 bits stands in specs/.
+#![tactic(auto)]

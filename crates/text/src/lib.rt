@@ -1,1 +1,2 @@
 // The meaning of texts, terms' and forms', stands in specs/.
+#![tactic(auto)]

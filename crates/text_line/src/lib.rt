@@ -1,4 +1,6 @@
 // Numbers in a line, each behind a space, and the line that says where two terms part.
+#![tactic(auto)]
+
 ghost use Rattle.std.specs.Prelude.{◌∷◌, ◌≤◌, ◌*◌, length};
 ghost use Rattle.form_write.specs.Write.{numeral, Wrote};
 ghost use Rattle.text_line.specs.Line.{numbers_text, different_text};

@@ -5,7 +5,7 @@ use Rattle.std.proofs.Common.{sym, ◌∙◌, subst, arith, inl, inr}
 use Rattle.std.proofs.Math.Bool.{true, false}
 use Prim.Native.Nat.{ℕ, zero, suc, ◌+◌, ◌-◌, ◌*◌, ◌≤◌, ◌<◌}
 use Rattle.std.proofs.Math.Nat as NatL
-use Rattle.horner.specs.laws.Compare.{lt-or-ge}
+use Rattle.horner.proofs.laws.Compare.{lt-or-ge}
 use Rattle.std.proofs.Math.Option.{none, some}
 use borrow.Author.Tests.{eqb-true, eqb-false, lt-ltb, le-ltb}
 use Rattle.text.specs.definitions.Bytes.{bytes, all, digit, is_in_row, index_in, canonical, read_int, read_nat, value_from, below0, from0}

@@ -1,4 +1,6 @@
 // What a word is: an integer, an operator, a letter of the row; and rows.
+#![tactic(auto)]
+
 ghost use Rattle.std.specs.Prelude.{◌≡◌, true, ◌<◌, min};
 ghost use Rattle.text.specs.definitions.Bytes.{digit, capital, index_in, all, canonical, value_from};
 ghost use Rattle.text_word.specs.Words.{is_integer, operator_of, operator_long};

@@ -1,6 +1,8 @@
 // Every call on tables and buffers of every telling length: one short, exact, longer, full of ones beforehand; on an empty and an
 // over-long row. For each try one line: the call, the try's number, the answer, what the result and the point buffer then hold, and how
 // many words of each table are not 0. (A printed book has lines of its own.)
+#![tactic(auto)]
+
 mod lent;
 mod saying;
 mod telling_tries;

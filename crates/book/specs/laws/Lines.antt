@@ -1,5 +1,5 @@
 -- The lines of a book's entries, each made of its own two bodies.
-use Rattle.std.specs.Prelude.{List, [], ◌++◌, ◌≡◌, refl, ℕ, zero, suc, ◌+◌, length}
+use Rattle.std.specs.Prelude.{List, ◌++◌, ◌≡◌, refl, ℕ, zero, suc, ◌+◌, length}
 use Rattle.std.proofs.Common.{append_assoc, sym, ap, ◌∙◌, arith}
 use Rattle.book.specs.definitions.Book.{entry_line, entry_lines}
 use Rattle.book.specs.definitions.Meaning.{each, entry_of, panel_of, cloud_of}

@@ -7,10 +7,10 @@ use Rattle.refusal.specs.declared.Refusal.{Refusal}
 use Rattle.horner.specs.definitions.Form.{sum}
 use Rattle.horner.specs.definitions.Rings.{ℤ_ring}
 use Rattle.horner.specs.definitions.Measures.{degrees, maxs}
-use Rattle.horner.specs.laws.Carry.{carry-sum}
-use Rattle.horner.specs.laws.Degree.{bounded-mono, length-maxs, maxs-left, maxs-right}
-use Rattle.horner.specs.laws.Normal.{normal-sum}
-use Rattle.horner.specs.laws.Table.{sum_fits}
+use Rattle.horner.proofs.laws.Carry.{carry-sum}
+use Rattle.horner.proofs.laws.Degree.{bounded-mono, length-maxs, maxs-left, maxs-right}
+use Rattle.horner.proofs.laws.Normal.{normal-sum}
+use Rattle.horner.proofs.laws.Table.{sum_fits}
 use Rattle.code.specs.Coding.{Codes, Made, dec}
 use Rattle.code.specs.Operations.{sum_of}
 use Rattle.text.specs.definitions.FormReading.{text}

@@ -7,16 +7,16 @@ use Rattle.refusal.specs.declared.Refusal.{Refusal}
 use Rattle.horner.specs.definitions.Form.{Form as HForm, prod}
 use Rattle.horner.specs.definitions.Rings.{ℤ_ring}
 use Rattle.horner.specs.definitions.Measures.{degrees, sums, terms}
-use Rattle.horner.specs.laws.Bounds.{length-sums}
-use Rattle.horner.specs.laws.Carry.{carry-prod}
-use Rattle.horner.specs.laws.Normal.{normal-prod}
-use Rattle.horner.specs.laws.Table.{prod-fits}
+use Rattle.horner.proofs.laws.Bounds.{length-sums}
+use Rattle.horner.proofs.laws.Carry.{carry-prod}
+use Rattle.horner.proofs.laws.Normal.{normal-prod}
+use Rattle.horner.proofs.laws.Table.{prod-fits}
 use Rattle.code.specs.Coding.{Codes, Made, enc, dec}
 use Rattle.code.specs.Widths.{Leaf}
 use Rattle.code_room.specs.Fit.{Fit, prod_of}
 use Rattle.code_room.specs.Tables.{Space, Tables}
-use Rattle.code_room.specs.laws.Lists.{first-le}
-use Rattle.code_room.specs.laws.Tables.{tables-for}
+use Rattle.code_room.proofs.laws.Lists.{first-le}
+use Rattle.code_room.proofs.laws.Tables.{tables-for}
 use Rattle.text.specs.definitions.FormReading.{text}
 use Rattle.form_write.specs.Write.{text_of}
 use Rattle.reply.specs.definitions.Calls.{of_product, two_of, multiply_reply}

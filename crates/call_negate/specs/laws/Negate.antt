@@ -9,9 +9,9 @@ use Rattle.refusal.specs.declared.Refusal.{Refusal}
 use Rattle.horner.specs.definitions.Form.{Form as HForm, negate}
 use Rattle.horner.specs.definitions.Rings.{ℤ_ring}
 use Rattle.horner.specs.definitions.Measures.{degrees}
-use Rattle.horner.specs.laws.Carry.{carry-negate}
-use Rattle.horner.specs.laws.Normal.{normal-negate}
-use Rattle.horner.specs.laws.Table.{negate-fits}
+use Rattle.horner.proofs.laws.Carry.{carry-negate}
+use Rattle.horner.proofs.laws.Normal.{normal-negate}
+use Rattle.horner.proofs.laws.Table.{negate-fits}
 use Rattle.code.specs.Coding.{Codes, Made, dec}
 use Rattle.code.specs.Operations as C
 use Rattle.text.specs.definitions.Bytes.{Reading}

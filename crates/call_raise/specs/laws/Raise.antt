@@ -11,19 +11,19 @@ use Rattle.refusal.specs.Refusal.{on_side, of_neither}
 use Rattle.horner.specs.definitions.Form.{Form as HForm, raise}
 use Rattle.horner.specs.definitions.Rings.{ℤ_ring}
 use Rattle.horner.specs.definitions.Measures.{degrees, multiples, one_if, terms}
-use Rattle.horner.specs.laws.Bounds.{bounded-raise}
-use Rattle.horner.specs.laws.Carry.{carry-raise}
-use Rattle.horner.specs.laws.Count.{count-size, count-box, one-if-le}
-use Rattle.horner.specs.laws.Measure.{meas-raise}
-use Rattle.horner.specs.laws.Normal.{normal-raise}
-use Rattle.horner.specs.laws.Room.{words-3073}
-use Rattle.horner.specs.laws.Table.{raise-fits}
+use Rattle.horner.proofs.laws.Bounds.{bounded-raise}
+use Rattle.horner.proofs.laws.Carry.{carry-raise}
+use Rattle.horner.proofs.laws.Count.{count-size, count-box, one-if-le}
+use Rattle.horner.proofs.laws.Measure.{meas-raise}
+use Rattle.horner.proofs.laws.Normal.{normal-raise}
+use Rattle.horner.proofs.laws.Room.{words-3073}
+use Rattle.horner.proofs.laws.Table.{raise-fits}
 use Rattle.code.specs.Coding.{Codes, Made, enc, dec}
 use Rattle.code.specs.Widths.{Leaf, ring_of}
 use Rattle.code.specs.laws.Sizes.{size-enc}
 use Rattle.code_room.specs.Tables.{Tables}
-use Rattle.code_room.specs.laws.Lists.{box-below}
-use Rattle.code_room.specs.laws.Tables.{tables-for}
+use Rattle.code_room.proofs.laws.Lists.{box-below}
+use Rattle.code_room.proofs.laws.Tables.{tables-for}
 use Rattle.code_power.specs.Raise as P
 use Rattle.code_power.specs.laws.Raise.{below-multiples, power-mono}
 use Rattle.text.specs.definitions.Bytes.{Reading, read}

@@ -3,10 +3,10 @@
 use Rattle.std.specs.Prelude.{◌≡◌, ℕ, zero, suc, ◌-◌, ◌<◌, ◌≤◌, [], ◌∷◌, refl}
 use Rattle.std.proofs.Common.{sym, ap, subst, ◌∙◌, arith}
 use Rattle.horner.specs.definitions.Form.{Form, int, pop, pow, Normal, after}
-use Rattle.horner.specs.laws.Degree.{Bounded, Below, below-refl, bounded-mono}
+use Rattle.horner.proofs.laws.Degree.{Bounded, Below, below-refl, bounded-mono}
 use Rattle.horner.specs.definitions.Rings.{Ring}
-use Rattle.horner.specs.laws.Bounds.{bounded-sum, bounded-negate, bounded-scale}
-use Rattle.horner.specs.laws.Normal.{pow-level, normal-sum, normal-negate, normal-scale}
+use Rattle.horner.proofs.laws.Bounds.{bounded-sum, bounded-negate, bounded-scale}
+use Rattle.horner.proofs.laws.Normal.{pow-level, normal-sum, normal-negate, normal-scale}
 use Rattle.code.specs.Coding.{limits, Good}
 use Rattle.code.specs.Operations.{sum_of, negate_of, scale_of, zero_of}
 use Rattle.code.specs.Widths.{Leaf, ring_of, leaf}

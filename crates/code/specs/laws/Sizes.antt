@@ -6,9 +6,9 @@ use Rattle.std.proofs.Math.ListN.{length-append}
 use Rattle.horner.specs.definitions.Form.{Form, int, pop, pow, size, mkpop, lower, is_zero, zero_form, mkpow, add_int, sum_f, sum, negate}
 use Rattle.horner.specs.definitions.Form.{scale}
 use Rattle.horner.specs.definitions.Rings.{Ring}
-use Rattle.horner.specs.laws.Compare.{cmp-cases}
-use Rattle.horner.specs.laws.Tests.{cond_cases}
-use Rattle.horner.specs.laws.Value.{size-pos, lower-fits}
+use Rattle.horner.proofs.laws.Compare.{cmp-cases}
+use Rattle.horner.proofs.laws.Tests.{cond_cases}
+use Rattle.horner.proofs.laws.Value.{size-pos, lower-fits}
 use Rattle.code.specs.Coding.{enc}
 use Rattle.code.specs.Operations.{sum_of, negate_of, scale_of}
 use Rattle.code.specs.Widths.{Leaf, ring_of, leaf}

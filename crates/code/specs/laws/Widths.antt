@@ -4,7 +4,7 @@ use Rattle.std.proofs.Common.{ap, arith, eq-eqb, ne_eqb}
 use Rattle.std.proofs.Math.Nat as NatL
 use Rattle.code.specs.Widths.{pow_by, mul_by, modulus_by, modulus, modulus-pos, Leaf, ring_of, leaf}
 use Rattle.horner.specs.definitions.Rings.{below, power}
-use Rattle.horner.specs.laws.Residues.{red-of}
+use Rattle.horner.proofs.laws.Residues.{red-of}
 
 small_by : (a b : Bool) → (1 < modulus_by a b) × (modulus_by a b ≤ 2147483647)
 small_by true b = (omega arith, omega arith)

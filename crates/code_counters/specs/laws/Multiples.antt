@@ -7,9 +7,9 @@ use Rattle.std.proofs.Math.Dec.{eqb-suc-zero}
 use Rattle.horner.specs.definitions.Measures.{coef_at, multiples_of}
 use Rattle.horner.specs.definitions.Form.{Form, int, pop, pow, mkpop, is_zero, mkpow, sum, negate, Normal}
 use Rattle.horner.specs.definitions.Rings.{ℤ_ring, Res, red_ℤ, mod_ring, Ring}
-use Rattle.horner.specs.laws.Lifting.{red-hom}
-use Rattle.horner.specs.laws.Normal.{normal-sum, normal-negate}
-use Rattle.horner.specs.laws.Tests.{cond_cases, true-is}
+use Rattle.horner.proofs.laws.Lifting.{red-hom}
+use Rattle.horner.proofs.laws.Normal.{normal-sum, normal-negate}
+use Rattle.horner.proofs.laws.Tests.{cond_cases, true-is}
 use Rattle.code_walk.specs.Carrying.{map_normal}
 use Rattle.code_walk.specs.Shapes.{Decides}
 use Rattle.code_walk.specs.laws.Carrying.{normal-map_normal}

@@ -5,12 +5,12 @@ use Rattle.std.proofs.Math.Path.{fun_ext}
 use Rattle.horner.specs.definitions.Measures.{shift, coefs, coef_of, coef_at}
 use Rattle.horner.specs.definitions.Form.{Form, int, pop, pow, is_zero, zero_form, sum, negate, Normal}
 use Rattle.horner.specs.definitions.Rings.{Ring}
-use Rattle.horner.specs.laws.Cancel.{zero_is}
-use Rattle.horner.specs.laws.Coefficients.{coef_at-zero, normal-coef_of, constant-is}
-use Rattle.horner.specs.laws.Grid.{All, zero-coefs}
-use Rattle.horner.specs.laws.Hom.{map_form}
-use Rattle.horner.specs.laws.Ring.{nil-add, neg-nil, neg-of-add}
-use Rattle.horner.specs.laws.Value.{Zero}
+use Rattle.horner.proofs.laws.Cancel.{zero_is}
+use Rattle.horner.proofs.laws.Coefficients.{coef_at-zero, normal-coef_of, constant-is}
+use Rattle.horner.proofs.laws.Grid.{All, zero-coefs}
+use Rattle.horner.proofs.laws.Hom.{map_form}
+use Rattle.horner.proofs.laws.Ring.{nil-add, neg-nil, neg-of-add}
+use Rattle.horner.proofs.laws.Value.{Zero}
 use Rattle.code_walk.specs.Carrying.{map_normal}
 use Rattle.code_counters.specs.laws.Spread.{Spread, ups, downs, read, read_lower, read-sum, read-map_normal}
 

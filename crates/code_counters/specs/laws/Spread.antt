@@ -6,11 +6,11 @@ use Rattle.std.proofs.Common.{true≢false, sym, ◌∙◌, ap, ap₂, arith}
 use Rattle.std.proofs.Math.Nat as NatL
 use Rattle.horner.specs.definitions.Form.{Form, int, pop, pow, size, mkpop, lower, is_zero, zero_form, mkpow, add_int, sum_f, sum}
 use Rattle.horner.specs.definitions.Rings.{Ring}
-use Rattle.horner.specs.laws.Compare.{cmp-cases}
-use Rattle.horner.specs.laws.Tests.{cond_cases}
-use Rattle.horner.specs.laws.Value.{size-pos, lower-fits}
+use Rattle.horner.proofs.laws.Compare.{cmp-cases}
+use Rattle.horner.proofs.laws.Tests.{cond_cases}
+use Rattle.horner.proofs.laws.Value.{size-pos, lower-fits}
 use Rattle.code_walk.specs.Carrying.{map_normal}
-use Rattle.horner.specs.laws.Hom.{map_form}
+use Rattle.horner.proofs.laws.Hom.{map_form}
 
 pub record Spread {A : Type 0} (R : Ring A) (G : Type 0) : Type 0 where
   pub plus : G → G → G

@@ -8,7 +8,7 @@ use Rattle.horner.specs.definitions.Form.{Form, int, pop, pow, size, lower, sum,
 use Rattle.horner.specs.laws.First.{at_first}
 use Rattle.code.specs.Widths.{pow_by, modulus, Leaf, ring_of, leaf}
 use Rattle.horner.specs.definitions.Rings.{Ring, power}
-use Rattle.horner.specs.laws.First.{normal-at_first, bounded-at_first}
+use Rattle.horner.proofs.laws.First.{normal-at_first, bounded-at_first}
 use Rattle.code.specs.Coding.{enc, dec, limits, Good, Codes}
 use Rattle.code.specs.Operations.{sum_of, scale_of}
 use Rattle.code.specs.laws.Codes.{IsInt}

@@ -1,7 +1,6 @@
 -- The least number that fails a test.
 use Rattle.std.specs.Prelude.{Bool, true, false, ◌≡◌, refl, ℕ, zero, suc, ◌+◌, ◌≤◌, ◌<◌, eqb, ltb}
 use Rattle.std.proofs.Common.{true≢false, sym, subst, ◌∙◌, arith, ltb-true, ltb-false, eqb-true}
-use Rattle.std.proofs.Math.Nat as NatL
 use Rattle.std.proofs.lemmas.Bool.{eqb-false}
 use Rattle.horner.specs.laws.First.{least}
 use Rattle.code_point.specs.Points.{IsLeast, Fails}

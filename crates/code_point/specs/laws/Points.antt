@@ -3,15 +3,15 @@ use Rattle.std.specs.Prelude.{Bool, true, false, List, [], ◌∷◌, ◌≡◌,
 use Rattle.std.proofs.Math.Path.{sym, ap}
 use Rattle.std.proofs.Common.{subst, ◌∙◌, arith}
 use Rattle.horner.specs.definitions.Form.{Form, is_zero, Normal, nats}
-use Rattle.horner.specs.laws.Degree.{Bounded}
+use Rattle.horner.proofs.laws.Degree.{Bounded}
 use Rattle.horner.specs.definitions.Measures.{AllLe}
 use Rattle.horner.specs.laws.First.{least, at_first, first_point}
 use Rattle.horner.specs.definitions.Rings.{Ring, nat}
-use Rattle.horner.specs.laws.First.{first-is, val-at_first, normal-at_first}
-use Rattle.horner.specs.laws.Prime.{P-regular}
-use Rattle.horner.specs.laws.Residues.{nat-red}
-use Rattle.horner.specs.laws.Roots.{Regular}
-use Rattle.horner.specs.laws.Value.{is_zero-val}
+use Rattle.horner.proofs.laws.First.{first-is, val-at_first, normal-at_first}
+use Rattle.horner.proofs.laws.Prime.{P-regular}
+use Rattle.horner.proofs.laws.Residues.{nat-red}
+use Rattle.horner.proofs.laws.Roots.{Regular}
+use Rattle.horner.proofs.laws.Value.{is_zero-val}
 use Rattle.code.specs.Coding.{limits, Good}
 use Rattle.code.specs.Widths.{Leaf, ring_of, leaf, modulus, modulus-pos}
 use Rattle.code_first.specs.First.{at_first_of}

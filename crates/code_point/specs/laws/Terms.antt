@@ -2,18 +2,18 @@
 use Rattle.std.specs.Prelude.{false, List, ◌⊎◌, ◌≡◌, refl, ℕ, ◌≤◌, length}
 use Rattle.std.proofs.Common.{inl, inr, sym, subst, ◌∙◌}
 use Rattle.horner.specs.definitions.Form.{is_zero, negate, Normal}
-use Rattle.horner.specs.laws.Within.{Within}
+use Rattle.horner.proofs.laws.Within.{Within}
 use Rattle.horner.specs.definitions.Points as H
 use Rattle.horner.specs.definitions.Points.{Before, IsPoint}
 use Rattle.horner.specs.definitions.Rings.{red_ℤ, prime, prime-pos, p_ring}
 use Rattle.horner.specs.definitions.Term.{Term, norm_p}
-use Rattle.horner.specs.laws.Answer.{gap, gap-nil, point-is}
-use Rattle.horner.specs.laws.Canonical.{length-box}
-use Rattle.horner.specs.laws.First.{first-is, IsFirst}
-use Rattle.horner.specs.laws.Normal.{normal-sum, normal-negate}
-use Rattle.horner.specs.laws.Points.{point-before}
-use Rattle.horner.specs.laws.Prime.{P-regular}
-use Rattle.horner.specs.laws.Term.{normal-norm}
+use Rattle.horner.proofs.laws.Answer.{gap, gap-nil, point-is}
+use Rattle.horner.proofs.laws.Canonical.{length-box}
+use Rattle.horner.proofs.laws.First.{first-is, IsFirst}
+use Rattle.horner.proofs.laws.Normal.{normal-sum, normal-negate}
+use Rattle.horner.proofs.laws.Points.{point-before}
+use Rattle.horner.proofs.laws.Prime.{P-regular}
+use Rattle.horner.proofs.laws.Term.{normal-norm}
 use Rattle.code.specs.Coding.{limits, Good}
 use Rattle.code.specs.Operations.{sum_of, negate_of}
 use Rattle.code_point.specs.Points.{point_of, Ready}

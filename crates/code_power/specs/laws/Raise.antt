@@ -4,16 +4,16 @@ use Rattle.std.proofs.Common.{sym, ◌∙◌, ap, subst, arith}
 use Rattle.std.proofs.Math.Nat as NatL
 use Rattle.horner.specs.definitions.Form.{Form, raise}
 use Rattle.horner.specs.definitions.Measures.{sums, multiples, box, AllLe, one_if}
-use Rattle.horner.specs.laws.Bounds.{bounded-raise, sums-multiples}
-use Rattle.horner.specs.laws.Count.{count-size, one-if-le}
-use Rattle.horner.specs.laws.Degree.{Below, all-le-below}
-use Rattle.horner.specs.laws.Measure.{meas-raise}
-use Rattle.horner.specs.laws.Normal.{normal-raise}
+use Rattle.horner.proofs.laws.Bounds.{bounded-raise, sums-multiples}
+use Rattle.horner.proofs.laws.Count.{count-size, one-if-le}
+use Rattle.horner.proofs.laws.Degree.{Below, all-le-below}
+use Rattle.horner.proofs.laws.Measure.{meas-raise}
+use Rattle.horner.proofs.laws.Normal.{normal-raise}
 use Rattle.code.specs.Widths.{Leaf, ring_of}
 use Rattle.code.specs.laws.Sizes.{enc-pos}
 use Rattle.code_room.specs.Fit.{prod_of, Within, Fit}
 use Rattle.code_room.specs.Tables.{Space}
-use Rattle.code_room.specs.laws.Lists.{first-le, box-below}
+use Rattle.code_room.proofs.laws.Lists.{first-le, box-below}
 use Rattle.code_power.specs.Raise.{raise_of, Raising}
 
 -- ---- multiples of degrees

@@ -4,13 +4,13 @@ use Rattle.std.specs.Prelude.{cond, List, [], ◌∷◌, ◌≡◌, ℕ, suc, �
 use Rattle.std.proofs.Common.{ap, ap₂, ◌∙◌, arith, lt-ltb, le-ltb, ltb-false}
 use Rattle.std.proofs.Math.Nat as NatL
 use Rattle.horner.specs.definitions.Form.{Form, int, pop, pow, size, mkpop, mkpow, Normal, after}
-use Rattle.horner.specs.laws.Degree.{Bounded}
+use Rattle.horner.proofs.laws.Degree.{Bounded}
 use Rattle.code.specs.Widths.{neg_by, modulus, modulus-pos, Leaf, ring_of, leaf}
 use Rattle.horner.specs.definitions.Rings.{red_ℤ, res-ext, Ring}
-use Rattle.horner.specs.laws.Bounds.{bounded-mkpop, bounded-mkpow}
-use Rattle.horner.specs.laws.Normal.{normal-mkpop, normal-mkpow}
-use Rattle.horner.specs.laws.Ring.{unit-mul}
-use Rattle.horner.specs.laws.Tests.{cond_cases}
+use Rattle.horner.proofs.laws.Bounds.{bounded-mkpop, bounded-mkpow}
+use Rattle.horner.proofs.laws.Normal.{normal-mkpop, normal-mkpow}
+use Rattle.horner.proofs.laws.Ring.{unit-mul}
+use Rattle.horner.proofs.laws.Tests.{cond_cases}
 use Rattle.code.specs.Coding.{enc, limits, Good}
 use Rattle.code.specs.Operations.{scale_of}
 use Rattle.code.specs.laws.Sizes.{size-enc, size-mkpop, size-mkpow}

@@ -3,9 +3,9 @@ use Rattle.std.specs.Prelude.{Bool, true, false, List, ◌≡◌, refl, ℕ, len
 use Rattle.std.proofs.Common.{true≢false, sym, ◌∙◌}
 use Rattle.refusal.specs.declared.Side.TheVariants.{Left, Right}
 use Rattle.refusal.specs.declared.Refusal.{Refusal}
-use Rattle.horner.specs.laws.Within.{Within}
+use Rattle.horner.proofs.laws.Within.{Within}
 use Rattle.horner.specs.definitions.Term.{Term, norm_ℤ}
-use Rattle.horner.specs.laws.Answer.{point-is}
+use Rattle.horner.proofs.laws.Answer.{point-is}
 use Rattle.text.specs.definitions.Bytes.{Reading, read, refused, same}
 use Rattle.text.specs.definitions.FormReading.{text}
 use Rattle.text.specs.definitions.Limits.{accept_term}

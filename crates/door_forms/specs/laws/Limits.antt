@@ -7,9 +7,9 @@ use Rattle.refusal.specs.Refusal.{of_neither}
 use Rattle.horner.specs.definitions.Form.{Form}
 use Rattle.horner.specs.definitions.Rings.{ℤ_ring}
 use Rattle.horner.specs.definitions.Measures.{AllLe, box, maxs, sums, multiples, degrees, weight, terms}
-use Rattle.horner.specs.laws.Bounds.{length-sums}
-use Rattle.horner.specs.laws.Degree.{length-maxs}
-use Rattle.horner.specs.laws.Highest.{maxs-get_d}
+use Rattle.horner.proofs.laws.Bounds.{length-sums}
+use Rattle.horner.proofs.laws.Degree.{length-maxs}
+use Rattle.horner.proofs.laws.Highest.{maxs-get_d}
 use Rattle.text.specs.definitions.Bytes.{all}
 use Rattle.text_laws.specs.laws.Bytes.{all-le, le-all}
 use Rattle.reply.specs.definitions.Calls.{Measured, of_sum, of_product, of_power, limited}

@@ -11,7 +11,7 @@ use Rattle.code.specs.Coding.{Made, enc, Good}
 use Rattle.code.specs.laws.Codes.{tail-part}
 use Rattle.run_code.specs.Decoding.{form_at}
 use Rattle.run_form.specs.Forms.{run_words, Low}
-use Rattle.run_form.specs.laws.Code.{run-even, run-placed, run-form, low-good}
+use Rattle.run_form.proofs.laws.Code.{run-even, run-placed, run-form, low-good}
 use Rattle.text.specs.definitions.Bytes.{is_row}
 use Rattle.text.specs.definitions.Tree.{term_of}
 use Rattle.text_laws.specs.laws.Rows.{row-length}

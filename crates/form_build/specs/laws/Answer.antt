@@ -7,7 +7,7 @@ use Rattle.refusal.specs.Refusal.{fault}
 use Rattle.horner.specs.definitions.Form.{Form, Normal}
 use Rattle.horner.specs.definitions.Rings.{ℤ_ring}
 use Rattle.horner.specs.definitions.Measures.{AllLe, weight, degrees, count, terms}
-use Rattle.horner.specs.laws.Degree.{length-degrees}
+use Rattle.horner.proofs.laws.Degree.{length-degrees}
 use Rattle.text.specs.definitions.Bytes.{onward, Reading, read, fine, all}
 use Rattle.text.specs.definitions.FormReading.{nodes, over_limit, form_measured, form_judged, accept_form, text}
 use Rattle.text.specs.definitions.FormMeaning.{IsFormText}

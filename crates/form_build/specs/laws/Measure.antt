@@ -4,8 +4,8 @@ use Rattle.std.proofs.Common.{inl, inr, sym, ap, ◌∙◌, arith, eq-eqb, ne_eq
 use Rattle.horner.specs.definitions.Form.{Form, int, pop, pow, Normal, tl}
 use Rattle.horner.specs.definitions.Rings.{ℤ_ring, is_zero_ℤ}
 use Rattle.horner.specs.definitions.Measures.{zeros, first_or0, maxs, weight, count, degrees}
-use Rattle.horner.specs.laws.Compare.{lt-or-ge}
-use Rattle.horner.specs.laws.Degree.{length-degrees, length-tl}
+use Rattle.horner.proofs.laws.Compare.{lt-or-ge}
+use Rattle.horner.proofs.laws.Degree.{length-degrees, length-tl}
 use Rattle.text_laws.specs.laws.Picks.{pick}
 use Rattle.measure.specs.declared.Measures.{Measures}
 use Rattle.form_head.specs.Heads.{Stands, Headed}

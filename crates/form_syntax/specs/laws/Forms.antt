@@ -8,7 +8,7 @@ use Rattle.std.proofs.lemmas.Bool.{lt-leb}
 use Rattle.refusal.specs.Refusal.{fault}
 use Rattle.refusal.specs.declared.Fault.{Fault}
 use Rattle.horner.specs.definitions.Form.{Form as HForm}
-use Rattle.horner.specs.laws.Compare.{lt-or-ge}
+use Rattle.horner.proofs.laws.Compare.{lt-or-ge}
 use Rattle.text.specs.definitions.Bytes.{Reading, read, refused, refused_at}
 use Rattle.text.specs.definitions.FormReading.{pop_kind, pow_kind, read_form}
 use Rattle.text.specs.program.FormKinds.{start, open0, open_po, open_pop, open_pow, done, Wait, pop_wait, pow_wait, rest_wait, moved, stuck}

@@ -9,8 +9,8 @@ use Rattle.code.specs.laws.Widths.{leaf-number, zero-leaf}
 use Rattle.run_merge.specs.Words.{pairs}
 use Rattle.run_merge.specs.laws.Steps.{pairs-drop, pairs_end, fits_head}
 use Rattle.run.specs.Merging.{over, cmpℕ, Each, Falls}
-use Rattle.run.specs.laws.Merging.{each_map, each_append}
-use Rattle.run.specs.laws.Orders.{over-lt}
+use Rattle.run.proofs.laws.Merging.{each_map, each_append}
+use Rattle.run.proofs.laws.Orders.{over-lt}
 use Rattle.run_code.specs.Decoding.{form_at, Placed, Even, Cut}
 use Rattle.run_code.specs.laws.Digits.{unit-pos}
 use Rattle.run_code.specs.laws.Parts.{each-front, each_back, falls-front, falls-back, placed-front, placed-back, form-pow, form-pop}

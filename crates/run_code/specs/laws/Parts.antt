@@ -11,14 +11,14 @@ use Rattle.code.specs.laws.Sizes.{size-enc}
 use Rattle.code.specs.laws.Widths.{leaf-number}
 use Rattle.horner.specs.definitions.Form.{Form, int, pop, pow, size, mkpop, mkpow, is_zero, Lead, Normal}
 use Rattle.horner.specs.definitions.Measures.{zeros}
-use Rattle.horner.specs.laws.Degree.{Below}
+use Rattle.horner.proofs.laws.Degree.{Below}
 use Rattle.run_merge.specs.Words.{pairs, is_no, Fits}
 use Rattle.run.specs.Merging.{over, cmpℕ, cmp_l, rekey, Each, Falls, Solid}
 use Rattle.run.specs.Runs.{Run, Long, raise_key, Sorted, to_form, to_run}
-use Rattle.run.specs.laws.Forms.{normal-to_form, form-split, form-down, run-of-form, long-to_run}
-use Rattle.run.specs.laws.Merging.{each_map, each_append}
-use Rattle.run.specs.laws.Operations.{bounded-to_form}
-use Rattle.run.specs.laws.Orders.{over-lt, lt-over}
+use Rattle.run.proofs.laws.Forms.{normal-to_form, form-split, form-down, run-of-form, long-to_run}
+use Rattle.run.proofs.laws.Merging.{each_map, each_append}
+use Rattle.run.proofs.laws.Operations.{bounded-to_form}
+use Rattle.run.proofs.laws.Orders.{over-lt, lt-over}
 use Rattle.run_code.specs.Decoding.{digits, run_at, form_at, Placed}
 use Rattle.run_code.specs.laws.Digits.{unit-pos, digits_long, digits-small, digits-order, digits-raise, digits-down, below-limits}
 

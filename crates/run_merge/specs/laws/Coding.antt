@@ -5,11 +5,11 @@ use Rattle.std.proofs.Math.Nat as NatL
 use Rattle.horner.specs.definitions.Measures.{sums, AllLe}
 use Rattle.horner.specs.definitions.Rings.{Res, prime, p_ring, below, prime-pos}
 use Rattle.code.specs.Widths.{add_by}
-use Rattle.horner.specs.laws.Bounds.{length-sums}
+use Rattle.horner.proofs.laws.Bounds.{length-sums}
 use Rattle.run.specs.Merging.{Order, over, level, under, cmpℕ, first, cmp_l, Each}
 use Rattle.run.specs.Runs.{Run, Long, sum_r, times_r}
-use Rattle.run.specs.laws.Carrying.{carried-merge}
-use Rattle.run.specs.laws.Orders.{over-lt, lt-over, lt-under, sameℕ, cmp-add, orderedℕ}
+use Rattle.run.proofs.laws.Carrying.{carried-merge}
+use Rattle.run.proofs.laws.Orders.{over-lt, lt-over, lt-under, sameℕ, cmp-add, orderedℕ}
 use Rattle.run_merge.specs.Words.{key_of, code_of, pairs, flat, is_no, times_w, merge_w, summed, Fits}
 
 -- pairs, made words, are those pairs

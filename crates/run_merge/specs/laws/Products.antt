@@ -8,7 +8,7 @@ use Rattle.code.specs.Coding.{Begins}
 use Rattle.horner.specs.definitions.Rings.{Res, prime, p_ring}
 use Rattle.run.specs.Merging.{cmp_l, Each}
 use Rattle.run.specs.Runs.{Run, Long, sum_r, times_r, prod_into}
-use Rattle.run.specs.laws.Merging.{each-merge}
+use Rattle.run.proofs.laws.Merging.{each-merge}
 use Rattle.run_merge.specs.Words.{code_of, pairs, flat, summed, Fits, produced, Producing}
 use Rattle.run_merge.specs.laws.Coding.{Small, summed-code}
 use Rattle.run_merge.specs.laws.Steps.{pairs-drop, pairs_end}

@@ -10,12 +10,12 @@ use Rattle.std.proofs.lemmas.List.{length-map}
 use Rattle.horner.specs.definitions.Measures.{sums, AllLe, box}
 use Rattle.horner.specs.definitions.Rings.{Res, prime, p_ring, below, prime-pos}
 use Rattle.code.specs.Widths.{add_by, mul_by}
-use Rattle.horner.specs.laws.Degree.{Below, all-le-below}
+use Rattle.horner.proofs.laws.Degree.{Below, all-le-below}
 use Rattle.run.specs.Merging.{cmpℕ, cmp_l, Each}
 use Rattle.run.specs.Runs.{Run, Long, Sorted, sum_r, times_r}
-use Rattle.run.specs.laws.Lengths.{length-merge, length-box}
-use Rattle.run.specs.laws.Merging.{each-merge}
-use Rattle.run.specs.laws.Operations.{sorted-sum_r, long-times, falls-times}
+use Rattle.run.proofs.laws.Lengths.{length-merge, length-box}
+use Rattle.run.proofs.laws.Merging.{each-merge}
+use Rattle.run.proofs.laws.Operations.{sorted-sum_r, long-times, falls-times}
 use Rattle.run_merge.specs.Words.{key_of, code_of, pairs, flat, is_no, times_w, merge_w, summed, Fits, Producing}
 use Rattle.run_merge.specs.laws.Coding.{Small, key_below, key-sums, pairs-flat, summed-code, fits-code}
 

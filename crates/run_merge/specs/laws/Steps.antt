@@ -8,7 +8,7 @@ use Rattle.code.specs.Coding.{Begins}
 use Rattle.horner.specs.definitions.Rings.{prime}
 use Rattle.code.specs.Widths.{add_by, mul_by}
 use Rattle.run.specs.Merging.{push, purge}
-use Rattle.run.specs.laws.Orders.{lt-over, lt-under, eq-level}
+use Rattle.run.proofs.laws.Orders.{lt-over, lt-under, eq-level}
 use Rattle.run_merge.specs.Words.{pairs, flat, is_no, times_w, merge_w, summed, scaled, pushed, Fits, Wrote}
 
 -- ---- two words at a time

@@ -2,7 +2,7 @@
 use Rattle.std.specs.Prelude.{not, List, [], ◌≡◌, refl, ℕ, suc, ◌+◌, ◌≤◌, ◌<◌, T, leb, length, take}
 use Rattle.std.proofs.Common.{sym, ◌∙◌, ap, ap₂, subst, arith, leb→le}
 use Rattle.std.proofs.Math.Dec.{nleb→lt}
-use Rattle.horner.specs.laws.Tests.{cond_cases}
+use Rattle.horner.proofs.laws.Tests.{cond_cases}
 use Rattle.run_merge.specs.Words.{pairs, produced}
 use Rattle.run_stack.specs.Stack.{multiplied, ProductRoom, raised, Beside}
 

@@ -8,7 +8,7 @@ use Rattle.horner.specs.definitions.Measures.{zeros}
 use Rattle.horner.specs.definitions.Rings.{Res, red_ℤ, prime, prime-pos, p_ring}
 use Rattle.run_merge.specs.Words.{code_of, flat, pushed, Wrote}
 use Rattle.run_form.specs.Forms.{run_words}
-use Rattle.run_form.specs.laws.Sums.{key-zeros}
+use Rattle.run_form.proofs.laws.Sums.{key-zeros}
 use Rattle.term_tree.specs.Coding.{int_code, remainder_of}
 
 -- the run of a number: one monomial, or none

@@ -5,13 +5,13 @@ use Rattle.std.proofs.Math.Nat as NatL
 use Rattle.horner.specs.definitions.Measures.{zeros, AllLe, box_of, degrees_of, terms_of, count}
 use Rattle.horner.specs.definitions.Rings.{red_ℤ, prime, prime-pos, p_ring}
 use Rattle.horner.specs.definitions.Term.{Term, num, var, minus, plus, diff, times, expt, norm_p}
-use Rattle.horner.specs.laws.Compare.{lt-or-ge}
-use Rattle.horner.specs.laws.Limits.{length-degrees_of, bounded-norm, terms_of-pos, count-norm}
-use Rattle.horner.specs.laws.Term.{normal-norm}
-use Rattle.horner.specs.laws.Within.{Over}
+use Rattle.horner.proofs.laws.Compare.{lt-or-ge}
+use Rattle.horner.proofs.laws.Limits.{length-degrees_of, bounded-norm, terms_of-pos, count-norm}
+use Rattle.horner.proofs.laws.Term.{normal-norm}
+use Rattle.horner.proofs.laws.Within.{Over}
 use Rattle.run_form.specs.Forms.{Low}
-use Rattle.run_form.specs.laws.Powers.{FewPowers, in-box, in_count, all-zeros}
-use Rattle.run_form.specs.laws.Products.{Few, by-box, by_count}
+use Rattle.run_form.proofs.laws.Powers.{FewPowers, in-box, in_count, all-zeros}
+use Rattle.run_form.proofs.laws.Products.{Few, by-box, by_count}
 use Rattle.dialect.specs.Dialects.{ordinary}
 use Rattle.dialect.specs.declared.Dialect.{Dialect}
 use Rattle.text.specs.definitions.Answer as A

@@ -6,9 +6,9 @@ use Rattle.code.proofs.Regions.{region-put}
 use Rattle.code.specs.Coding.{Begins}
 use Rattle.horner.specs.definitions.Term.{Term, times, norm_p}
 use Rattle.run_form.specs.Forms.{run_words}
-use Rattle.run_form.specs.laws.Products.{multiply-run, both-room}
-use Rattle.run_form.specs.laws.Sums.{sum-run, difference-run}
-use Rattle.run_form.specs.laws.Under.{run_length}
+use Rattle.run_form.proofs.laws.Products.{multiply-run, both-room}
+use Rattle.run_form.proofs.laws.Sums.{sum-run, difference-run}
+use Rattle.run_form.proofs.laws.Under.{run_length}
 use Rattle.run_merge.specs.Words.{pairs, Fits, summed}
 use Rattle.run_stack.specs.Stack.{multiplied, ProductRoom}
 use Rattle.text.specs.definitions.Tree.{Sign, add, sub, mul, signed, term_of, nesting, Tree, two}

@@ -3,8 +3,8 @@ use Rattle.std.specs.Prelude.{◌≡◌, refl, Bool, true, false, cond, ◌⊎�
 use Rattle.std.proofs.Common.{sym, ap, ◌∙◌, subst, inl, inr, arith, ne_eqb, eqb-true, lt-ltb, le-ltb}
 use Rattle.std.proofs.lemmas.Bool.{eqb-false}
 use Rattle.horner.specs.definitions.Measures.{degrees_of}
-use Rattle.horner.specs.laws.Compare.{lt-or-ge}
-use Rattle.horner.specs.laws.Limits.{length-degrees_of}
+use Rattle.horner.proofs.laws.Compare.{lt-or-ge}
+use Rattle.horner.proofs.laws.Limits.{length-degrees_of}
 use Rattle.text.specs.definitions.Limits.{exponent_fits, over_limit, measured}
 use Rattle.text.specs.definitions.Tree.{letters, term_of, Tree, start_of, end_of}
 use Rattle.text_laws.specs.laws.Picks.{pick_yes, pick_no}

@@ -3,7 +3,7 @@ use Rattle.std.specs.Prelude.{Bool, true, false, ◌&&◌, List, ◌⊎◌, ◌�
 use Rattle.std.proofs.Common.{true≢false, inl, inr, sym, ap, ◌∙◌, subst, arith, lt-ltb, le-ltb, le-leb}
 use Rattle.std.proofs.lemmas.Bool.{lt-leb}
 use Rattle.horner.specs.definitions.Measures.{degrees_of}
-use Rattle.horner.specs.laws.Compare.{lt-or-ge}
+use Rattle.horner.proofs.laws.Compare.{lt-or-ge}
 use Rattle.text.specs.definitions.Answer.{Reading, read, refused, fine}
 use Rattle.text.specs.definitions.Bytes.{all}
 use Rattle.text.specs.definitions.Limits.{weight_fits, terms_fit, over_limit, measured}

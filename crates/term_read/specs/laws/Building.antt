@@ -6,7 +6,7 @@ use Rattle.dialect.specs.declared.Dialect.{Dialect}
 use Rattle.horner.specs.definitions.Term.{norm_p}
 use Rattle.code.specs.Coding.{Made, enc}
 use Rattle.run_code.specs.Decoding.{form_at, Placed, Even}
-use Rattle.run_form.specs.laws.Code.{run-even, run-placed, run-form}
+use Rattle.run_form.proofs.laws.Code.{run-even, run-placed, run-form}
 use Rattle.run_merge.specs.Words.{pairs}
 use Rattle.text.specs.definitions.Bytes.{is_row}
 use Rattle.text.specs.definitions.Tree.{term_of}

@@ -7,8 +7,8 @@ use Rattle.horner.specs.definitions.Term.{norm_p}
 use Rattle.code.proofs.Making.{front-codes}
 use Rattle.code.specs.Coding.{Codes, enc}
 use Rattle.run_form.specs.Forms.{Low}
-use Rattle.run_form.specs.laws.Code.{low-good, low-words}
-use Rattle.run_form.specs.laws.Under.{run_length}
+use Rattle.run_form.proofs.laws.Code.{low-good, low-words}
+use Rattle.run_form.proofs.laws.Under.{run_length}
 use Rattle.text.specs.definitions.Bytes.{is_row, read}
 use Rattle.text.specs.definitions.Limits.{accept_term}
 use Rattle.text.specs.definitions.Tree.{Tree, term_of}

@@ -1,0 +1,14 @@
+-- `door_forms::begun` meets its contract, by the cases of the reading.
+use Rattle.std.proofs.Common.{sym, ap}
+use Rattle.std.proofs.Math.Path.{◌∙◌}
+use Rattle.door_forms.specs.Forms.{begun}
+use Rattle.door_forms.specs.declared.FormPair.TheVariants.{Refused}
+use Rattle.door_forms.proofs.begun.Goals as goal
+
+pub returns-in-Refused : goal.returns-in-Refused
+returns-in-Refused c =
+    ap Refused c.on_side.ensures ∙ ap begun (sym c.in-Refused.is)
+
+pub returns-in-Form : goal.returns-in-Form
+returns-in-Form c =
+    ap begun (sym c.in-Form.is)

@@ -1,0 +1,14 @@
+-- `door_terms::begun` meets its contract, by the cases of the reading.
+use Rattle.std.proofs.Common.{sym, ap}
+use Rattle.std.proofs.Math.Path.{◌∙◌}
+use Rattle.door_terms.specs.Terms.{begun}
+use Rattle.door_terms.specs.declared.TermPair.TheVariants.{Refused}
+use Rattle.door_terms.proofs.begun.Goals as goal
+
+pub returns-in-Refused : goal.returns-in-Refused
+returns-in-Refused c =
+    ap Refused c.on_side.ensures ∙ ap begun (sym c.in-Refused.is)
+
+pub returns-in-Words : goal.returns-in-Words
+returns-in-Words c =
+    ap begun (sym c.in-Words.is)

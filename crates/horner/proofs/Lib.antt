@@ -1,0 +1,3 @@
+pub mod laws
+pub mod Theorems
+pub mod Clauses

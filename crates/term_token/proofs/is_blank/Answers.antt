@@ -1,0 +1,11 @@
+-- `term_token::is_blank` meets its contract, test by test.
+use borrow.Author.Tests.{eq-eqb, ne_eqb}
+use Rattle.term_token.proofs.is_blank.Goals as goal
+
+pub returns-then-b-eq32 : goal.returns-then-b-eq32
+returns-then-b-eq32 c =
+    simp (eq-eqb _ _ c.if-b-eq32.true)
+
+pub returns : goal.returns
+returns c =
+    simp (ne_eqb _ _ c.if-b-eq32.false)

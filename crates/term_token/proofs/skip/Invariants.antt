@@ -1,0 +1,12 @@
+use Rattle.std.proofs.Common.{length, ◌≤◌, ◌-◌, ◌+◌}
+use Rattle.std.proofs.Math.Path.{◌≡◌}
+use Rattle.std.specs.Prelude.{drop}
+use Rattle.term_token.specs.Steps.{lead}
+use Rattle.text.specs.definitions.Bytes.{blank}
+use Rattle.term_token.proofs.skip.Given as goal
+
+abbrev pub invariant-loop-i : goal.invariant-loop-i
+invariant-loop-i l = (l.i ≤ length l.s) × (l.i + lead blank (drop l.i l.s) ≡ l.at + lead blank (drop l.at l.s))
+
+abbrev pub decreases-loop-i : goal.decreases-loop-i
+decreases-loop-i l = length l.s - l.i
