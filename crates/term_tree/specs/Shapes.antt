@@ -7,7 +7,7 @@ use Rattle.text.specs.definitions.Bytes.{is_in_row, index_in}
 use Rattle.text.specs.definitions.Tree.{Sign, add, sub, mul, Tree, num, letter, neg, two, power, letters}
 use Rattle.text_laws.specs.laws.Bytes.{and_l, and_r}
 use Rattle.term_tree.specs.Coding.{int_code, span_of, sign_code, enc, Short}
-use Rattle.term_tree.proofs.Codes.{code_below, enc-pos}
+use Rattle.term_tree.specs.Codes.{code_below, enc-pos}
 
 -- w is the code of the term t, whose letters are in the row
 pub record Codes (row : List ℕ) (t : Tree) (w : List ℕ) : Type 0 where
