@@ -9,7 +9,7 @@ help:
 	@echo 'make book ROW=XY FILE=text OUT=file  a book from a text of formulas, panel and cloud in turn'
 	@echo 'make desk                            proves the desk and answers each line of standard input'
 	@echo 'make lib                             proves the calls for C and writes target/staticlib/libpanel.a'
-	@echo 'make test                            the gate: all proofs from nothing and all tests; its last line is `N passed, 0 failed`'
+	@echo 'make test                            the gate: all proofs and all tests; its last line is `N passed, 0 failed`'
 	@echo 'make fuzz [SEED=n] [COUNT=n]         fresh request lines and books through the proved programs and second/'
 run:
 	@bash tools/print-book.sh "$${BOOK-crates/printer/stdin}" || [ $$? -le 2 ]

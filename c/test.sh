@@ -1,10 +1,9 @@
 #!/usr/bin/env bash
-# Links the panel's static library (x86-64) with C and C++ programs and runs them: with cc on x86-64, else with the
-# kit's clang and emulator. Programs for C++ are compiled by the kit's clang everywhere, so that no C++ compiler is
-# needed.
+# Links the panel's static library (x86-64) with C and C++ programs and runs them: C by cc, C++ by the kit's clang and
+# rattle-link, so that no C++ compiler is needed.
 set -euo pipefail
 cd "$(dirname "$0")"
-kit=$(dirname "$(dirname "$(rt doc)")")/on/$(uname -m)
+kit=$(dirname "$(rt doc)")
 library=../target/staticlib/libpanel.a
 version=$(sed -n 's/^#define PANEL_VERSION "\(.*\)"$/\1/p' ../include/panel.h)
 work=$(mktemp -d)
@@ -27,21 +26,12 @@ link() { # link OBJECT PROGRAM
 }
 
 build() { # build NAME: NAME.c to $work/NAME
-    if [ "$(uname -m)" = x86_64 ]; then
-        cc -O2 -Wall -Wextra -Werror -o "$work/$1" "$1.c" "$library"
-    else
-        compile "$1.c" "$work/$1.o"
-        link "$work/$1.o" "$work/$1"
-    fi
-}
-
-run() { # run PROGRAM WORDS
-    bash ../tools/on-x86.sh "$@"
+    cc -O2 -Wall -Wextra -Werror -o "$work/$1" "$1.c" "$library"
 }
 
 ends() { # ends STATUS LINE PROGRAM WORDS: what it prints and how it ends
     local status=0 line
-    line=$(run "${@:3}" 2> "$work/said") || status=$?
+    line=$("${@:3}" 2> "$work/said") || status=$?
     [ "$status" = "$1" ] && [ "$line" = "$2" ] || fail "${*:3}: status $status, $line; expected $1, $2"
 }
 
@@ -53,19 +43,14 @@ expect() { # expect STATUS LINE ROW LEFT RIGHT: the verdict on two formulas
 
 unwritten() { # unwritten PROGRAM WORDS: a full disk is status 3, and said
     local status=0
-    run "$@" > /dev/full 2> "$work/said" || status=$?
+    "$@" > /dev/full 2> "$work/said" || status=$?
     [ "$status" = 3 ] && grep -q 'was not written' "$work/said" || fail "$* on a full disk: status $status"
 }
 
 example() { # example STATUS LINE: the program in README, compiled by the line that `make lib` prints; README says what it prints
     awk '/^```c$/ { inside = 1; next } /^```$/ { inside = 0 } inside' ../README.md > "$work/program.c"
     ln -s "$PWD/../include" "$PWD/../target" "$work"
-    if [ "$(uname -m)" = x86_64 ]; then
-        (cd "$work" && eval "$(sed -n 's/^    cc /cc -Wall -Wextra -Werror /p' lib.out)")
-    else
-        compile "$work/program.c" "$work/program.o"
-        link "$work/program.o" "$work/program"
-    fi
+    (cd "$work" && eval "$(sed -n 's/^    cc /cc -Wall -Wextra -Werror /p' lib.out)")
     ends "$1" "$2" "$work/program"
     grep -qF "\`$2\`" ../README.md || fail 'README says otherwise what its program prints'
 }
@@ -74,7 +59,7 @@ unset MAKEFLAGS MFLAGS MAKELEVEL
 make --silent -C .. lib > "$work/lib.out" 2> "$work/lib.err" || { cat "$work/lib.err" >&2; exit 1; }
 build calls
 build verdict
-run "$work/calls" | diff calls.out -
+"$work/calls" | diff calls.out -
 expect 0 'SAME' XY '(* (+ X Y) (- X Y))' '(- (EXPT X 2) (EXPT Y 2))'
 expect 1 'DIFF 1 1 1 0' XY '(* X Y)' '0'
 expect 2 'REFUSED 4 left 7' XY '(+ X Y Z)' '1'
@@ -88,7 +73,7 @@ ends 3 '' "$work/verdict" X "$work/left" "$work/none"
 ends 3 '' "$work/verdict" X "$work/left"
 for program in verdict calls; do
     ends 0 "$program $version" "$work/$program" --version
-    run "$work/$program" --help > "$work/help"
+    "$work/$program" --help > "$work/help"
     grep -q "^$program " "$work/help" || fail "$program --help"
     unwritten "$work/$program" --help
 done

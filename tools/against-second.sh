@@ -11,7 +11,7 @@ second=second/target/release/second
 "$second" trials | cmp - crates/trials/stdout || { echo "the trials' stored output is not the second program's" >&2; exit 1; }
 "$second" generate "$seed" "$count" > "$work/lines"
 "$second" desk < "$work/lines" > "$work/expected"
-bash tools/on-x86.sh target/bin/desk < "$work/lines" > "$work/answered"
+crates/desk/out/desk < "$work/lines" > "$work/answered"
 cmp "$work/expected" "$work/answered" || {
     diff "$work/expected" "$work/answered" | head -n 4 | cut -c 1-300
     exit 1
@@ -20,7 +20,7 @@ mkdir "$work/books"
 "$second" books "$seed" 200 "$work/books"
 for book in "$work"/books/*; do
     "$second" book < "$book" > "$work/expected"
-    bash tools/on-x86.sh target/bin/printer < "$book" > "$work/answered"
+    crates/printer/out/printer < "$book" > "$work/answered"
     cmp "$work/expected" "$work/answered" || { echo "a book's answers differ" >&2; exit 1; }
 done
 echo "printer: $(ls "$work/books" | wc -l) books are answered as by the second program (seed $seed)"

@@ -9,5 +9,5 @@ none() {
 }
 bash "$tools/prove.sh" desk || none 'the desk is not proved'
 [ -t 0 ] && printf 'a request on each line, its fields parted by tabs (README, "The desk"); control-D ends\n' >&2
-# The desk itself cannot tell a file that fails from one that ends, nor a full disk: what stands before and behind it can.
-cat | bash "$tools/on-x86.sh" "$tools/../target/bin/desk" | cat || none 'a line was not read, answered or written'
+# No contract says what a file or a disk gives and takes: what stands before and behind the desk fails where one of these does.
+cat | "$tools/../crates/desk/out/desk" | cat || none 'a line was not read, answered or written'

@@ -8,13 +8,10 @@ import pathlib
 import re
 import sys
 
-NO_CODE = re.compile(r"⌜.*?⌝|//[^\n]*|^ghost use[^\n]*|b'(?:\\.|[^'\\])+'|b\"(?:\\.|[^\"\\])*\"", re.S | re.M)
+sys.dont_write_bytecode = True
+from source import code_of
+
 DIVISION = re.compile(r"[%/]=?\s*(\w*)")
-
-
-def blank(found):
-    """As many line feeds as there were, so that a place keeps its line."""
-    return "\n" * found.group().count("\n")
 
 
 def shift_or_numeral(divisor):
@@ -25,7 +22,7 @@ def shift_or_numeral(divisor):
 def main():
     wrong, count = [], 0
     for path in sorted(pathlib.Path("crates").glob("*/src/**/*.rt")):
-        code = NO_CODE.sub(blank, path.read_text(encoding="utf-8"))
+        code = code_of(path.read_text(encoding="utf-8"))
         for found in DIVISION.finditer(code):
             count += 1
             if not shift_or_numeral(found.group(1)):

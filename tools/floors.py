@@ -1,8 +1,9 @@
 #!/usr/bin/env python3
 """floors.py: that no crate uses one of a floor above its own.
 
-A crate's name begins with its floor (crates.txt, README). What a crate uses is what crates.txt lists for it, and what its files name: `Rattle·NAME` in specs, proofs and
-clauses, `NAME::` and `use NAME` in the code. Prints each use of a higher floor, and each crate that stands on no floor; the status is then 1."""
+A crate's name begins with its floor (crates.txt, README). What a crate uses is what crates.txt lists for it, and what its files name:
+`Rattle.NAME` in specs, proofs and clauses, `NAME::` and `use NAME` in the code. Prints each use of a higher floor, and each crate that
+stands on no floor; the status is then 1."""
 import os
 import re
 import sys
@@ -37,12 +38,13 @@ def floor_of(name):
 
 def named_in(crate, crates):
     """Each crate that a file of this one names, with the file."""
-    for where, _, files in os.walk(os.path.join("crates", crate)):
+    for where, folders, files in os.walk(os.path.join("crates", crate)):
+        folders[:] = [folder for folder in folders if folder != "out"]
         for file in files:
             if file.endswith((".rt", ".antt")):
                 path = os.path.join(where, file)
                 with open(path, encoding="utf-8") as text:
-                    words = set(re.findall(r"Rattle·([a-z_]+)|\b([a-z_]+)::|^use ([a-z_]+)\b", text.read(), re.M))
+                    words = set(re.findall(r"\bRattle\.([a-z_]+)|\b([a-z_]+)::|^use ([a-z_]+)\b", text.read(), re.M))
                 for name in {word for words_of_one in words for word in words_of_one} & set(crates):
                     yield name, path
 

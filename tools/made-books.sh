@@ -53,7 +53,7 @@ for text in "$work"/*.text; do
     count=$(wc -l < "$work/$row.entries")
     { echo "BOOK ${#row} $count"; cat "$work/$row.entries"; } > "$work/expected"
     bash tools/book.sh "$row" "$text" "$work/$row.book" > "$work/said"
-    bash tools/on-x86.sh target/bin/printer < "$work/$row.book" > "$work/answered"
+    crates/printer/out/printer < "$work/$row.book" > "$work/answered"
     cmp "$work/expected" "$work/answered" || { echo "made-books.sh: the book of $row is answered otherwise (seed $seed)" >&2; exit 1; }
     books=$((books + 1)) entries=$((entries + count))
 done

@@ -1,7 +1,11 @@
 #!/usr/bin/env python3
-"""mutate.py SEED COUNT [CRATE ..]: puts COUNT small faults into the sources of all crates, or of those named, one at a time, in a copy of the repository, and says of each whether the prover refuses it, only
-the tests find it, or it lives. Needs a repository in which every crate is proved (rt check). A fault that is no program is passed over and counted apart."""
+"""mutate.py SEED COUNT [CRATE ..]: puts COUNT small faults into the sources of all crates, or of those named, one at a time, in a copy of
+the repository, and says of each whether the prover refuses it, only the tests find it, or it lives. Needs a repository in which every crate
+is proved (rt all check), whose work rt takes for the copy. A fault that is no program is passed over and counted apart."""
 import os, random, re, shutil, subprocess, sys, tempfile
+
+sys.dont_write_bytecode = True
+from source import code_of
 
 # One fault: a comparison, a constant, an operand, a branch or a side.
 KINDS = [
@@ -13,7 +17,9 @@ KINDS = [
     ("side", re.compile(r"Side::(Left|Right|Neither)"), {"Left": "Right", "Right": "Left", "Neither": "Left"}),
     ("truth", re.compile(r"\b(true|false)\b"), {"true": "false", "false": "true"}),
 ]
-NO_CODE = re.compile(r"\s*(//|use |ghost |requires|ensures|pub fn|fn |mod |pub use|#\[|pub enum|pub struct|pub extern|extern|\)|impl|struct|enum)")
+NO_CODE = re.compile(
+    r"\s*(//|use |ghost |requires|ensures|pub fn|fn |mod |pub use|#\[|pub enum|pub struct|pub extern|extern|\)|impl|struct|enum)"
+)
 
 
 def faulty(kind, match, line):
@@ -32,10 +38,11 @@ def faulty(kind, match, line):
 
 def faults_of(path):
     """All faults of a file: (number of the line, kind, line, faulty line). Only lines that stand once, so that an edit names its place."""
-    lines = open(path, encoding="utf-8").read().split("\n")
+    text = open(path, encoding="utf-8").read()
+    lines, code = text.split("\n"), code_of(text).split("\n")
     found = []
     for at, line in enumerate(lines):
-        if NO_CODE.match(line) or sum(line in other for other in lines) != 1:
+        if not code[at].strip() or NO_CODE.match(line) or sum(line in other for other in lines) != 1:
             continue
         for kind in KINDS:
             if kind[0] == "branch" and re.search(r" (<=|<|==|!=) ", line):
@@ -71,7 +78,7 @@ def choose(root, seed, count, only):
 def copy_of(root):
     work = tempfile.mkdtemp(prefix="mutate.")
     tree = os.path.join(work, "tree")
-    shutil.copytree(root, tree, symlinks=True, ignore=shutil.ignore_patterns(".git", "must-fail"))
+    shutil.copytree(root, tree, symlinks=True, ignore=shutil.ignore_patterns(".git", "must-fail", "out"))
     return work, tree
 
 
@@ -86,20 +93,21 @@ def prover(tree, chosen):
     for crate in {fault[0] for fault in chosen}:
         shutil.rmtree(os.path.join(tree, "crates", crate, "must-fail"))
     verdicts = {}
-    for found in re.finditer(r"must-fail \w+/fault_(\d+): (refused|NOT REFUSED|BAD EDIT)", said):
+    for found in re.finditer(r"must-fail \w+/fault_(\d+)\.edit: (refused|NOT REFUSED|BAD EDIT)", said):
         verdicts[int(found.group(1))] = {"refused": "refused", "NOT REFUSED": "proved", "BAD EDIT": "no program"}[found.group(2)]
     return verdicts
 
 
 def tests_find(tree, fault):
-    """Whether a test finds a fault that the prover let through: the programs' stored output, the stored books, C, or fresh lines through the second program."""
+    """Whether a test finds a fault that the prover let through: the programs' stored output, C, the stored books, or fresh lines through
+    the second program."""
     crate, name, _, _, old, new = fault
     path = os.path.join(tree, "crates", crate, name)
     text = open(path, encoding="utf-8").read()
     with open(path, "w", encoding="utf-8") as file:
         file.write(text.replace(old, new, 1))
-    tests = [["rt", "check"], ["bash", "c/test.sh"], ["bash", "tools/stored-books.sh"], ["bash", "tools/against-second.sh", "1", "10000"]]
-    found = [" ".join(test) for test in tests if subprocess.run(test, cwd=tree, capture_output=True).returncode != 0]
+    tests = ["rt all test", "bash c/test.sh", "bash tools/stored-books.sh", "bash tools/against-second.sh 1 10000"]
+    found = [test for test in tests if subprocess.run(test.split(), cwd=tree, capture_output=True).returncode != 0]
     with open(path, "w", encoding="utf-8") as file:
         file.write(text)
     return found[0] if found else None

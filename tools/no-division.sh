@@ -10,29 +10,27 @@ fail() {
     echo "no-division.sh: $*" >&2
     exit 1
 }
-kit=$(dirname "$(dirname "$(rt doc)")")
-machine=$(uname -m)
-clang=on/$machine/toolchain/bin/clang
+toolchain=$(dirname "$(rt doc)")/toolchain
+library=crates/panel_c/out/libpanel_c.a
 
-all_but() { # all_but NAME FOLDER: in a folder of our own what the kit's has, but for NAME
-    mkdir -p "$work/kit/$2"
+all_but() { # all_but NAME FOLDER: in a folder of our own what the kit's toolchain has, but for NAME
+    mkdir -p "$work/toolchain/$2"
     local entry
-    for entry in "$kit/$2"/*; do [ "${entry##*/}" = "$1" ] || ln -s "$entry" "$work/kit/$2"; done
+    for entry in "$toolchain/$2"/*; do [ "${entry##*/}" = "$1" ] || ln -s "$entry" "$work/toolchain/$2"; done
 }
-all_but on .
-all_but "$machine" on
-all_but toolchain "on/$machine"
-all_but bin "on/$machine/toolchain"
-all_but clang "on/$machine/toolchain/bin"
-cat > "$work/kit/$clang" << END
+all_but bin .
+all_but clang bin
+cat > "$work/toolchain/bin/clang" << END
 #!/bin/sh
 for word; do case \$word in *.bc) cp "\$word" "$work/module.bc" ;; esac; done
-exec "$kit/$clang" "\$@"
+exec "$toolchain/bin/clang" "\$@"
 END
-chmod 755 "$work/kit/$clang"
-bash tools/prove.sh panel
-RATTLE_HOME=$work/kit bash tools/locked.sh rt staticlib panel > "$work/said" 2>&1 || { cat "$work/said" >&2; exit 1; }
+chmod 755 "$work/toolchain/bin/clang"
+bash tools/prove.sh panel_c
+bash tools/locked.sh bash tools/archive.sh panel_c "$work/again.a" "$work/toolchain" > "$work/said" 2>&1 ||
+    { cat "$work/said" >&2; exit 1; }
 [ -s "$work/module.bc" ] || fail 'the kit handed its clang no module'
+cmp "$work/again.a" "$library" || fail 'the archive made once more is another one'
 
 # divides_nowhere NAME LISTING ROUTINES: no instruction divides; routines move memory and set it, and no other is called
 divides_nowhere() {
@@ -42,15 +40,10 @@ divides_nowhere() {
     called=$(sort -u "$3" | tr '\n' ' ')
     [ "$called" = 'memmove memset ' ] || fail "$1 calls $called"
 }
-looked=
-if [ "$machine" = x86_64 ]; then
-    library=target/staticlib/libpanel.a
-    objdump -d "$library" > "$work/archive"
-    nm -u "$library" | awk '$1 == "U" { print $2 }' > "$work/asked"
-    divides_nowhere "$library" "$work/archive" "$work/asked"
-    looked='the archive, and '
-fi
-"$kit/$clang" --target=i686-linux-gnu -Wno-override-module -O3 -S -x ir "$work/module.bc" -o "$work/i686.s"
+objdump -d "$library" > "$work/archive"
+nm -u "$library" | awk '$1 == "U" { print $2 }' > "$work/asked"
+divides_nowhere "$library" "$work/archive" "$work/asked"
+"$toolchain/bin/clang" --target=i686-linux-gnu -Wno-override-module -O3 -S -x ir "$work/module.bc" -o "$work/i686.s"
 grep -oE '\<[A-Za-z_0-9]+@PLT' "$work/i686.s" | sed 's/@PLT$//' > "$work/called"
 divides_nowhere 'what the calls from C are on a 32-bit processor' "$work/i686.s" "$work/called"
-echo "no division: ${looked}what the calls from C are on a 32-bit processor; memmove and memset are all that they call"
+echo 'no division: the archive, and what the calls from C are on a 32-bit processor; memmove and memset are all that they call'

@@ -24,10 +24,10 @@ verdict_of() { # the status that an answer stands for; 3 where it is not a whole
         END { print foreign || NR != entries + 1 ? 3 : refused ? 2 : different ? 1 : 0 }' "$1"
 }
 
-# The printer reads no more than this, and cannot tell a file that fails from one that ends.
+# The printer reads no more than this; a file that fails is no book that ends.
 head -c 65536 -- "$1" > "$work/book" || none "$1 was not read"
 bash "$tools/prove.sh" printer || none 'the printer is not proved'
-bash "$tools/on-x86.sh" "$tools/../target/bin/printer" < "$work/book" > "$work/answer" || none 'the printer failed'
+"$tools/../crates/printer/out/printer" < "$work/book" > "$work/answer" || none 'the printer failed'
 verdict=$(verdict_of "$work/answer")
 [ "$verdict" -le 2 ] || none "the printer's answer is not whole"
 cat "$work/answer" || none 'the answer was not written'

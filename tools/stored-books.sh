@@ -6,7 +6,7 @@ work=$(mktemp -d)
 trap 'rm -rf "$work"' EXIT
 count=0
 for book in books/*.book; do
-    bash tools/on-x86.sh target/bin/printer < "$book" > "$work/answered"
+    crates/printer/out/printer < "$book" > "$work/answered"
     cmp "${book%.book}.answer" "$work/answered" || { echo "stored-books.sh: $book is answered otherwise" >&2; exit 1; }
     count=$((count + 1))
 done

@@ -17,7 +17,7 @@ fail() { # with what the last command printed and said
 ends() { # ends STATUS COMMAND ..
     local wanted=$1 status=0
     shift
-    timeout 300 "$@" > "$work/out" 2> "$work/err" || status=$?
+    timeout 900 "$@" > "$work/out" 2> "$work/err" || status=$?
     [ "$status" = "$wanted" ] || fail "$*: status $status, not $wanted"
     tried=$((tried + 1))
 }
@@ -38,7 +38,7 @@ made_as() { # made_as ROW TEXT LINE ..: the printer's answer to the book of the 
     text "$2"
     book "$1" "$work/made.book"
     shift 2
-    ends 0 bash tools/on-x86.sh target/bin/printer < "$work/made.book"
+    ends 0 crates/printer/out/printer < "$work/made.book"
     prints "$@"
 }
 made() {
@@ -53,7 +53,7 @@ made() {
     [ "$(wc -c < "$work/long.book")" = 65535 ] || fail 'the longest book is not'
     lines 128
     book X "$work/full.book"
-    ends 0 bash tools/on-x86.sh target/bin/printer < "$work/full.book"
+    ends 0 crates/printer/out/printer < "$work/full.book"
     [ "$(wc -l < "$work/out")" = 65 ] || fail 'not 64 entries'
 }
 
@@ -206,12 +206,26 @@ small_repository() { # small_repository FOLDER
     mkdir -p "$1/crates/one/src" "$1/crates/printer/src" "$1/tools"
     cp Makefile "$1"
     cp tools/*.sh "$1/tools"
-    printf 'one:\n# and a program\nprinter: one io libc\n' > "$1/crates.txt"
-    printf 'pub fn one() {}\n' > "$1/crates/one/src/lib.rt"
+    printf 'one:\n# and a program\nprinter: one\n' > "$1/crates.txt"
+    small_library "$1" 'pub fn one() {}'
+}
+small_library() { # small_library FOLDER FUNCTION: no other checkout has built it, so that it is proved
+    printf '// %s\n#![tactic(auto)]\n\n%s\n' "$1" "$2" > "$1/crates/one/src/lib.rt"
 }
 small_printer() { # small_printer FOLDER ENTRIES: it says that there are so many, and answers one
-    printf 'fn main() {\n    one::one();\n    io::write_all(1, b"BOOK 1 %s\\n0 SAME\\n");\n}\n' "$2" > "$1/crates/printer/src/main.rt"
     printf 'BOOK 1 %s\n0 SAME\n' "$2" > "$1/crates/printer/stdout"
+    cat > "$1/crates/printer/src/main.rt" << END
+// $1
+#![tactic(auto)]
+
+use std::io;
+use std::io::Write;
+
+fn main(rt: HostRuntime) -> io::Result<()> {
+    one::one();
+    rt.stdout().write_all(b"BOOK 1 $2\n0 SAME\n")
+}
+END
 }
 hold_until_waited_for() { # holds the lock of a repository until somebody says that he waits, a minute at most
     : > "$work/err"
@@ -237,7 +251,7 @@ proving() {
     says 'waiting: something else is being proved here'
     says 'not whole'
     [ ! -s "$work/out" ] || fail 'half an answer is printed'
-    printf 'pub fn one() -> u32 {}\n' > "$small/crates/one/src/lib.rt"
+    small_library "$small" 'pub fn one() -> u32 {}'
     ends 3 bash "$small/tools/print-book.sh" "$book"
     says 'the printer is not proved'
 }

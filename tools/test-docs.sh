@@ -22,7 +22,7 @@ for page in $pages; do
     requests "$page" > "$work/requests"
     answers "$page" > "$work/answers"
     [ -s "$work/requests" ] || fail "$page has no request"
-    bash tools/on-x86.sh target/bin/desk < "$work/requests" > "$work/answered"
+    crates/desk/out/desk < "$work/requests" > "$work/answered"
     diff "$work/answers" "$work/answered" >&2 || fail "$page shows an answer that is another one"
 done
 

@@ -1,39 +1,45 @@
 #!/usr/bin/env python3
-"""unused.py [PART ..]: lists every function (.rt) and every lemma, definition, record and type (.antt, in specs/ and proofs/) that nothing
-needs, as FILE:LINE: NAME, and every name that a file imports and does not use, as FILE: use NAME; with PARTs only the lines that have
-one of them. The exit status is 1 if there is any.
+"""unused.py [PART ..]: lists every function (.rt) and every lemma, definition, record, type and ruleset (.antt, in specs/ and proofs/)
+that nothing needs, as FILE:LINE: NAME, and every name that a file imports and does not use, as FILE: use NAME; with PARTs only the lines
+that have one of them. The exit status is 1 if there is any.
 
 Something is needed if it is a root, or if something needed names it: in its contract, its signature, a clause or an `unfolding`, by a
 name of its own file, by one that the file imports (`use M.{name}`, `name as x`), by `alias.name` or by its full name. An import alone
-needs nothing. Roots are `main`, the public calls, what closes a function's proof (`F-spec`), the public statements of crates/demands and
-of every Theorems.antt, Clauses.antt and Cases.antt, and what ALLOWED lists. Helpers behind a `where` are not looked at."""
+needs nothing. A function needs what its attributes name too. Roots are `main`, the public calls, what a function's proof answers (in
+proofs/F/, of a type `goal.X`), the public statements of crates/demands and of every Theorems.antt, Clauses.antt and Cases.antt, and what
+ALLOWED lists. Helpers behind a `where` are not looked at."""
 import collections, pathlib, re, sys
 
 # Statements that stand for their own sake, and why.
 ALLOWED = {
     ("crates/term_tree/specs/Codes.antt", "dec-enc"): "the words of a tree show what they are said to show",
     ("crates/text_laws/specs/laws/FormNodes.antt", "wrong-stands"): "`nodes` counts bytes: at the place of a node stands its text",
+    ("crates/dialect/src/lib.rt", "with_hex"): "the dialect of request 106, which no call reads yet",
+    ("crates/dialect/src/lib.rt", "panel_terms"): "the dialect of request 101, which no call reads yet",
 }
-CALLS = re.compile(r"call_\w+|book_print|panel|demands")
+CALLS = re.compile(r"call_\w+|book_print|panel|panel_c|demands")
 
 ROOT = pathlib.Path(__file__).resolve().parent.parent
 NAME = r"[^\s(){}\[\];,.:=]+"
-HEAD = re.compile(r"((?:abbrev |unfoldable |pub )*)(?:(record|data) (%s)|(%s(?: %s)*) :(?:\s|$))" % (NAME, NAME, NAME))
-WORD = re.compile(r"Rattle·[^\s(){}\[\];,]+|\.?%s(?:\.%s)*" % (NAME, NAME))
+HEAD = re.compile(r"((?:abbrev |unfoldable |pub )*)(?:(record|data|ruleset) (%s)|(%s(?: %s)*) :(?:\s|$))" % (NAME, NAME, NAME))
+WORD = re.compile(r"\.?%s(?:\.%s)*" % (NAME, NAME))
+ANSWER = re.compile(r"(?:abbrev )?pub (\S+) :\s+goal\.\1$", re.M)
+IMPORT = re.compile(r"^(?:pub |ghost )*use [^\s{]+(?:\{[^}]*\})?(?: as \S+)?;?$", re.M)
 
-Thing = collections.namedtuple("Thing", "file crate folder line name public words")
+Thing = collections.namedtuple("Thing", "file crate folder line name is_root words")
 things = []  # all that is declared
+needed_anyway = []
 known = collections.defaultdict(list)  # (file without its ending, name): the things that the name stands for
 functions = collections.defaultdict(list)  # name: the functions of that name
 
 
 def parts(name):
     """The name, and of an operator what stands between its operands."""
-    return {name} | set(name.split("_")) - {""}
+    return {name} | set(name.split("◌")) - {""}
 
 
-def declare(file, line, name, public):
-    thing = Thing(file, file.split("/")[1], file.split("/")[2], line, name, public, set())
+def declare(file, line, name, is_root):
+    thing = Thing(file, file.split("/")[1], file.split("/")[2], line, name, is_root or (file, name) in ALLOWED, set())
     things.append(thing)
     for part in parts(name):
         known[stem(file), part].append(thing)
@@ -45,8 +51,8 @@ def stem(file):
 
 
 def module(path):
-    """Of a full name Rattle·CRATE.. the file, without its ending, and the rest of the name."""
-    found = re.match(r"Rattle·(\w+)(?:·\w+)?\.(.+)$", path)
+    """Of a full name Rattle.CRATE.. the file, without its ending, and the rest of the name."""
+    found = re.match(r"Rattle\.(\w+)\.(.+)$", path)
     steps = found.group(2).split(".") if found else []
     for n in range(len(steps), 0, -1):
         file = "crates/%s/%s" % (found.group(1), "/".join(steps[:n]))
@@ -58,32 +64,44 @@ def module(path):
 def imports(text):
     """What a file's imports say: {name: (file, name there)}, {alias: file}."""
     names, aliases = {}, {}
-    for path, listed in re.findall(r"\buse (Rattle·\S+?)\.\{([^}]*)\}", text):
+    for path, listed in re.findall(r"\buse (Rattle\.\S+?)\.\{([^}]*)\}", text):
         for item in listed.split(","):
             there, _, here = item.strip().partition(" as ")
             for name in parts(here or there):
                 names[name] = (module(path)[0], there)
-    for path, alias in re.findall(r"\buse (Rattle·\S+) as (\S+?);?\s", text):
+    for path, alias in re.findall(r"\buse (Rattle\.\S+) as (\S+?);?\s", text):
         aliases[alias] = module(path)[0]
     return names, aliases
 
 
 def idle(text):
     """The names that a file imports and does not use; of an operator, what stands between its operands."""
-    lines = [line for line in text.split("\n") if not re.match(r"(pub |ghost )?use |\s*(--|//) ", line)]
+    lines = [line for line in IMPORT.sub("", text).split("\n") if not re.match(r"\s*(--|//) ", line)]
     body = "\n".join(lines)
-    words = set(re.split(r"[\s(){}\[\];,.|⌜⌝]+", body)) | {"[]"}
-    for listed in re.findall(r"^(?:ghost )?use \S+?\.\{([^}]*)\}", text, re.M):
+    words = set(re.split(r"[\s(){}\[\];,.|]+", body)) | set(body.split()) | {"[]"}
+    for listed in re.findall(r"^(?:pub |ghost )*use \S+?\.\{([^}]*)\}", text, re.M):
         for name in (item.split(" as ")[-1].strip() for item in listed.split(",")):
-            if name not in words and not ("_" in name and all(part in body for part in name.split("_"))) and name not in body.split():
+            if name and name not in words and not ("◌" in name and all(part in body for part in name.split("◌"))):
                 yield name
+
+
+def is_stated(file, public):
+    """Whether a file's public declarations are statements."""
+    return public and (file.split("/")[1] == "demands" or file.split("/")[-1] in ("Theorems.antt", "Clauses.antt", "Cases.antt"))
+
+
+def without_imports(text):
+    """As many lines as the text, those of its imports empty."""
+    return IMPORT.sub(lambda found: "\n" * found.group().count("\n"), text)
 
 
 def read_antt(file, text):
     here, kind, sections, headers = None, None, [], {}
+    text = without_imports(text)
+    answers = {found.group(1) for found in ANSWER.finditer(text)} if len(file.split("/")) > 4 and file.split("/")[2] == "proofs" else set()
     for number, line in enumerate(text.split("\n"), 1):
         line = re.sub(r"(^|\s)--(\s.*)?$", "", line)
-        if not line.strip() or re.match(r"\s*(pub )?(use|mod) ", line):
+        if not line.strip() or re.match(r"\s*(pub )?mod ", line):
             continue
         indent = len(line) - len(line.lstrip())
         while sections and sections[-1] >= indent:
@@ -101,7 +119,7 @@ def read_antt(file, text):
         elif indent == level and head:
             kind = head.group(2)
             for name in (head.group(3) or head.group(4)).split():
-                here = declare(file, number, name, "pub" in head.group(1))
+                here = declare(file, number, name, name in answers or is_stated(file, "pub" in head.group(1)))
                 here.words.update(word for header in headers.values() for word in header)
         elif kind == "data" and indent == level + 2 and head:  # a constructor stands for its type
             known[stem(file), head.group(4)].append(here)
@@ -112,25 +130,35 @@ def read_antt(file, text):
 
 
 def read_rt(file, text):
-    here = None
-    for number, line in enumerate(text.split("\n"), 1):
+    crate = file.split("/")[1]
+    # what stands outside of functions, all of the file needs
+    around = Thing(file, crate, "src", 0, "", True, set())
+    here, before = around, set()
+    for number, line in enumerate(without_imports(text).split("\n"), 1):
         line = re.sub(r"//.*", "", line)
-        head = re.match(r'\s*(pub )?(?:extern "C" )?fn (\w+)', line)
+        head = re.match(r'\s*(pub(?:\(crate\))? )?(?:const )?(?:extern "C" )?fn (\w+)', line)
+        cited = {"Rattle." + path.replace("crate", crate, 1).replace("::", ".") for path in re.findall(r"\bcrate(?:::\w+)+", line)}
+        cited |= {"Rattle." + path.replace("::", ".") for path in re.findall(r"\b\w+::(?:specs|proofs)(?:::\w+)+", line)}
         if head:
-            here = declare(file, number, head.group(2), bool(head.group(1)))
+            here = declare(file, number, head.group(2), head.group(2) == "main" or bool(head.group(1)) and bool(CALLS.fullmatch(crate)))
             functions[here.name].append(here)
+            here.words.update(before)
+            before = set()
         elif re.match(r"[^\s{})]", line):
-            here = None
-        if here is not None:
-            here.words.update(WORD.findall(line), re.findall(r"\w+", line))
-            here.words.update("%s::%s" % call for call in re.findall(r"(\w*)(?:::|\.)(\w+)\(", line))
+            here = around
+        if re.match(r"\s*#\[", line):  # it belongs to the function below
+            before |= cited
+            continue
+        here.words.update(WORD.findall(line), re.findall(r"\w+", line), cited)
+        here.words.update("%s::%s" % call for call in re.findall(r"(\w*)(?:::|\.)(\w+)\(", line))
+    needed_anyway.append(around)
 
 
 def named_by(thing):
     """The things that a thing names."""
     names, aliases = scopes[thing.file]
     for word in thing.words:
-        if word.startswith("Rattle·"):
+        if word.startswith("Rattle."):
             yield from known[module(word)]
         elif "::" in word:  # a function of another crate, or a method
             crate, name = word.split("::")
@@ -138,19 +166,10 @@ def named_by(thing):
         else:
             alias, _, name = word.partition(".")
             yield from known[aliases.get(alias), name]
+            yield from known[names.get(alias, (stem(thing.file), alias))]
             yield from known[names.get(word, (stem(thing.file), word))]
             if thing.folder == "src":
                 yield from (f for f in functions[word] if f.crate == thing.crate)
-
-
-def is_root(thing):
-    file = thing.file.split("/")[-1]
-    if (thing.file, thing.name) in ALLOWED:
-        return True
-    if thing.folder == "src":
-        return thing.name == "main" or thing.public and bool(CALLS.fullmatch(thing.crate))
-    stated = thing.crate == "demands" or file in ("Theorems.antt", "Clauses.antt", "Cases.antt")
-    return thing.public and stated or file == "Proof.antt" and thing.name.endswith("-spec")
 
 
 crates = {path.name for path in (ROOT / "crates").iterdir()}
@@ -162,7 +181,7 @@ for path in sorted((ROOT / "crates").glob("*/*/**/*")):
         scopes[file] = imports(text)
         (read_antt if path.suffix == ".antt" else read_rt)(file, text)
 
-needed, waiting = set(), [thing for thing in things if is_root(thing)]
+needed, waiting = set(), needed_anyway + [thing for thing in things if thing.is_root]
 while waiting:
     thing = waiting.pop()
     if id(thing) not in needed:

@@ -66,6 +66,7 @@ module _ (m : ℕ) where
     fails-fine e (this _ _ h i) = rw i (rw (h, J.over_limit) refl)
     fails-fine e (later _ _ h (this _ _ k i)) = rw i (rw (h, J.over_limit) (rw k refl))
     fails-fine e (later _ _ h (later _ _ k (this _ _ l i))) = rw i (rw (h, J.over_limit) (rw (k, l) refl))
+    fails-fine e (later _ _ h (later _ _ k (later _ _ _ x))) = elim x [ ]
 
   module _ (s : List ℕ) (e p : ℕ) where
     why-form : F.Outcome m s (accept_form m s) → accept_form m s ≡ refused_at e p → FormRefused m s e p

@@ -2,6 +2,8 @@
 #![tactic(auto)]
 
 use code::TABLE;
+use std::io;
+use std::io::{Read, Write};
 
 // Puts one more byte behind the fill bytes of a line, and returns how many they then are: one more than there is room for, where it is too
 // long.
@@ -14,10 +16,9 @@ fn keep(b: u8, fill: usize, line: &mut [u8]) -> usize {
 }
 
 // Answers the request of the first fill bytes. A line that is too long is a wrong request.
-fn answer(fill: usize, line: &[u8], out: &mut [u8]) {
+fn answer(fill: usize, line: &[u8], out: &mut [u8], output: &mut impl Write) -> io::Result<()> {
     if line.len() < fill {
-        io::write_all(1, b"? 0\n");
-        return;
+        return output.write_all(b"? 0\n");
     }
     let mut a = [0u32; TABLE];
     let mut b = [0u32; TABLE];
@@ -25,54 +26,74 @@ fn answer(fill: usize, line: &[u8], out: &mut [u8]) {
     let mut d = [0u32; TABLE];
     let n = desk_answer::answer_line(&line[..fill], out, &mut a, &mut b, &mut c, &mut d);
     if n < out.len() {
-        let e = n + 1;
         out[n] = b'\n';
-        io::write_all(1, &out[..e]);
+        output.write_all(&out[..=n])?;
     }
+    Ok(())
 }
 
 // Goes on with one byte of the input: a line feed ends the line, which is answered. Returns how many bytes of an unfinished line are kept.
-fn take_byte(x: u8, fill: usize, line: &mut [u8], out: &mut [u8]) -> usize {
+fn take_byte(
+    x: u8,
+    fill: usize,
+    line: &mut [u8],
+    out: &mut [u8],
+    output: &mut impl Write,
+) -> io::Result<usize> {
     if x == b'\n' {
-        answer(fill, line, out);
-        return 0;
+        answer(fill, line, out, output)?;
+        return Ok(0);
     }
-    keep(x, fill, line)
+    Ok(keep(x, fill, line))
 }
 
 // Goes on with the bytes of a piece of the input.
-fn take_piece(piece: &[u8], kept: usize, line: &mut [u8], out: &mut [u8]) -> usize {
+fn take_piece(
+    piece: &[u8],
+    kept: usize,
+    line: &mut [u8],
+    out: &mut [u8],
+    output: &mut impl Write,
+) -> io::Result<usize> {
     let mut fill = kept;
-    let mut i = 0;
-    while i < piece.len() {
-        fill = take_byte(piece[i], fill, line, out);
-        i += 1;
+    for x in piece {
+        fill = take_byte(*x, fill, line, out, output)?;
     }
-    fill
+    Ok(fill)
 }
 
-// Reads to the end of the input. A proved loop has to end, and nothing says that an input does, so the loop counts its turns down from a
-// number that no run uses up.
-fn serve(piece: &mut [u8], line: &mut [u8], out: &mut [u8]) {
-    let mut turns = u64::MAX;
+// Reads to the end of the input, and answers what is left of it too. A proved loop has to end, and nothing says that an input does, so the
+// loop has a number of turns that no run uses up.
+fn serve(
+    input: &mut impl Read,
+    output: &mut impl Write,
+    piece: &mut [u8],
+    line: &mut [u8],
+    out: &mut [u8],
+) -> io::Result<()> {
     let mut fill = 0;
-    while turns > 0 {
-        let got = libc::read(0, piece);
-        let n = io::count(got, piece);
+    for _ in 0..u64::MAX {
+        let n = input.read(piece)?;
         if n == 0 {
             break;
         }
-        fill = take_piece(&piece[..n], fill, line, out);
-        turns -= 1;
+        fill = take_piece(&piece[..n], fill, line, out, output)?;
     }
     if 0 < fill {
-        answer(fill, line, out);
+        answer(fill, line, out, output)?;
     }
+    Ok(())
 }
 
-fn main() {
+fn main(rt: HostRuntime) -> io::Result<()> {
     let mut piece = [0u8; 65536];
     let mut line = [0u8; 140000];
     let mut out = [0u8; 65541];
-    serve(&mut piece, &mut line, &mut out);
+    serve(
+        &mut rt.stdin(),
+        &mut rt.stdout(),
+        &mut piece,
+        &mut line,
+        &mut out,
+    )
 }

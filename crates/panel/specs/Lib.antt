@@ -1,3 +1,2 @@
 -- The answers that cross to C.
 pub mod Panel
-pub mod Laws

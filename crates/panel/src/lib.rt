@@ -1,5 +1,5 @@
-// The calls that the panel's build tool makes from C: compare, form and remainder, on numbers and slices. An enum cannot cross, so each
-// answers a struct of numbers; specs/Panel says which. include/panel.h is the same for C.
+// The calls that the panel's build tool makes: compare, form and remainder, on numbers and slices. An enum cannot cross to C, so each
+// answers a struct of numbers; specs/Panel says which. The crate panel_c hands them to C, and include/panel.h is the same for C.
 #![tactic(auto)]
 
 ghost use Rattle.std.specs.Prelude.{◌≡◌};
@@ -47,8 +47,7 @@ fn refused(bad: Refusal) -> PanelAnswer
 }
 
 // The call `compare`.
-#[unsafe(no_mangle)]
-pub extern "C" fn panel_compare(
+pub fn panel_compare(
     row: &[u8],
     s: &[u8],
     t: &[u8],
@@ -85,8 +84,7 @@ pub extern "C" fn panel_compare(
 }
 
 // The call `form`: the length of the text stands in `place`.
-#[unsafe(no_mangle)]
-pub extern "C" fn panel_form(
+pub fn panel_form(
     row: &[u8],
     s: &[u8],
     res: &mut [u8],
@@ -114,8 +112,7 @@ pub extern "C" fn panel_form(
 }
 
 // The call `remainder`: the remainder stands in `left`.
-#[unsafe(no_mangle)]
-pub extern "C" fn panel_remainder(
+pub fn panel_remainder(
     row: &[u8],
     s: &[u8],
     point: &[i32],

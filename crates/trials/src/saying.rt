@@ -1,171 +1,130 @@
 // What came back, on standard output.
+use crate::calls::Call;
 use refusal::{Refusal, Side};
 use reply::{Compared, Counted, Judged, Remaindered, Written};
+use std::io;
 
 // How many words are not 0.
-pub fn dirty(t: &[u32]) -> u64 {
-    let mut n = 0u64;
-    let mut i = 0;
-    while i < t.len() {
-        if t[i] != 0 {
-            n = std::num::wrapping_add_u64(n, 1);
-        }
-        i += 1;
-    }
-    n
+pub fn dirty(t: &[u32]) -> usize {
+    t.iter().filter(|word| **word != 0).count()
 }
 
-fn say_side(side: Side) -> bool {
+fn say_side(rt: &impl Print, side: Side) -> io::Result<()> {
     match side {
-        Side::Left => io::write_all(1, b" left "),
-        Side::Right => io::write_all(1, b" right "),
-        Side::Neither => io::write_all(1, b" neither "),
+        Side::Left => print!(rt; " left "),
+        Side::Right => print!(rt; " right "),
+        Side::Neither => print!(rt; " neither "),
     }
 }
 
-pub fn say_refused(bad: Refusal) {
-    let side = bad.side;
-    io::write_all(1, b"REFUSED ");
-    io::print_decimal(1, bad.number as u64);
-    say_side(side);
-    io::print_decimal(1, bad.place as u64);
+pub fn say_refused(rt: &impl Print, bad: Refusal) -> io::Result<()> {
+    let number = bad.number;
+    let place = bad.place;
+    print!(rt; "REFUSED {number}")?;
+    say_side(rt, bad.side)?;
+    print!(rt; "{place}")
 }
 
-pub fn say_written(answer: Written) {
+pub fn say_written(rt: &impl Print, answer: Written) -> io::Result<()> {
     match answer {
-        Written::Text(n) => {
-            io::write_all(1, b"TEXT ");
-            io::print_decimal(1, n as u64);
-        }
-        Written::Refused(bad) => say_refused(bad),
+        Written::Text(n) => print!(rt; "TEXT {n}"),
+        Written::Refused(bad) => say_refused(rt, bad),
     }
 }
 
-pub fn say_remainder(answer: Remaindered) {
+pub fn say_remainder(rt: &impl Print, answer: Remaindered) -> io::Result<()> {
     match answer {
-        Remaindered::Remainder(n) => {
-            io::write_all(1, b"REMAINDER ");
-            io::print_decimal(1, n as u64);
-        }
-        Remaindered::Refused(bad) => say_refused(bad),
+        Remaindered::Remainder(n) => print!(rt; "REMAINDER {n}"),
+        Remaindered::Refused(bad) => say_refused(rt, bad),
     }
 }
 
-pub fn say_compared(answer: Compared) {
+pub fn say_compared(rt: &impl Print, answer: Compared) -> io::Result<()> {
     match answer {
-        Compared::Same => {
-            io::write_all(1, b"SAME");
-        }
-        Compared::Different(l, r) => {
-            io::write_all(1, b"DIFF ");
-            io::print_decimal(1, l as u64);
-            io::write_all(1, b" ");
-            io::print_decimal(1, r as u64);
-        }
-        Compared::Refused(bad) => say_refused(bad),
+        Compared::Same => print!(rt; "SAME"),
+        Compared::Different(l, r) => print!(rt; "DIFF {l} {r}"),
+        Compared::Refused(bad) => say_refused(rt, bad),
     }
 }
 
-pub fn say_counted(answer: Counted) {
+pub fn say_counted(rt: &impl Print, answer: Counted) -> io::Result<()> {
     match answer {
-        Counted::Same => {
-            io::write_all(1, b"SAME");
-        }
-        Counted::Different => {
-            io::write_all(1, b"DIFF");
-        }
-        Counted::Refused(bad) => say_refused(bad),
+        Counted::Same => print!(rt; "SAME"),
+        Counted::Different => print!(rt; "DIFF"),
+        Counted::Refused(bad) => say_refused(rt, bad),
     }
 }
 
-pub fn say_judged(answer: Judged) {
+pub fn say_judged(rt: &impl Print, answer: Judged) -> io::Result<()> {
     match answer {
-        Judged::Form => {
-            io::write_all(1, b"YES");
-        }
-        Judged::Refused(bad) => say_refused(bad),
+        Judged::Form => print!(rt; "YES"),
+        Judged::Refused(bad) => say_refused(rt, bad),
     }
 }
 
-// The call's name, by its number; 10 is `judge`.
-fn say_call(call: u32) {
-    if call == 0 {
-        io::write_all(1, b"form");
-    }
-    if call == 1 {
-        io::write_all(1, b"negate");
-    }
-    if call == 2 {
-        io::write_all(1, b"add");
-    }
-    if call == 3 {
-        io::write_all(1, b"multiply");
-    }
-    if call == 4 {
-        io::write_all(1, b"raise");
-    }
-    if call == 5 {
-        io::write_all(1, b"remainder");
-    }
-    if call == 6 {
-        io::write_all(1, b"form_remainder");
-    }
-    if call == 7 {
-        io::write_all(1, b"compare");
-    }
-    if call == 8 {
-        io::write_all(1, b"counters");
-    }
-    if call == 9 {
-        io::write_all(1, b"print_book");
-    }
-    if call == 10 {
-        io::write_all(1, b"judge");
+// The call's name.
+fn say_call(rt: &impl Print, call: Call) -> io::Result<()> {
+    match call {
+        Call::Form => print!(rt; "form"),
+        Call::Negate => print!(rt; "negate"),
+        Call::Add => print!(rt; "add"),
+        Call::Multiply => print!(rt; "multiply"),
+        Call::Raise => print!(rt; "raise"),
+        Call::Remainder => print!(rt; "remainder"),
+        Call::FormRemainder => print!(rt; "form_remainder"),
+        Call::Compare => print!(rt; "compare"),
+        Call::Counters => print!(rt; "counters"),
+        Call::PrintBook => print!(rt; "print_book"),
+        Call::Judge => print!(rt; "judge"),
     }
 }
 
 // The call and the try's number, at the front of its line.
-pub fn begin(call: u32, k: u32) {
-    say_call(call);
-    io::write_all(1, b" ");
-    io::print_decimal(1, k as u64);
-    io::write_all(1, b": ");
+pub fn begin(rt: &impl Print, call: Call, k: u32) -> io::Result<()> {
+    say_call(rt, call)?;
+    print!(rt; " {k}: ")
 }
 
 // What the result buffer holds.
-pub fn say_result(res: &[u8]) {
-    io::write_all(1, b"; result ");
-    io::write_all(1, res);
+pub fn say_result(rt: &impl Print, res: &[u8]) -> io::Result<()> {
+    print!(rt; "; result ")?;
+    rt.write_all(res)
 }
 
-fn say_number(n: u32) {
-    io::write_all(1, b" ");
-    io::print_decimal(1, n as u64);
+fn say_number(rt: &impl Print, n: u32) -> io::Result<()> {
+    print!(rt; " {n}")
 }
 
 // What the point buffer holds.
-pub fn say_point(point: &[u32]) {
-    io::write_all(1, b"; point");
-    let mut i = 0;
-    while i < point.len() {
-        say_number(point[i]);
-        i += 1;
+pub fn say_point(rt: &impl Print, point: &[u32]) -> io::Result<()> {
+    print!(rt; "; point")?;
+    for n in point {
+        say_number(rt, *n)?;
     }
+    Ok(())
 }
 
 // What the buffers hold, at the end of the line.
-pub fn end(res: &[u8], point: &[u32], a: &[u32], b: &[u32], c: &[u32], d: &[u32]) {
-    say_result(res);
-    say_point(point);
-    io::write_all(1, b"; not 0");
-    say_dirty(a);
-    say_dirty(b);
-    say_dirty(c);
-    say_dirty(d);
-    io::write_all(1, b"\n");
+pub fn end(
+    rt: &impl Print,
+    res: &[u8],
+    point: &[u32],
+    a: &[u32],
+    b: &[u32],
+    c: &[u32],
+    d: &[u32],
+) -> io::Result<()> {
+    say_result(rt, res)?;
+    say_point(rt, point)?;
+    print!(rt; "; not 0")?;
+    say_dirty(rt, a)?;
+    say_dirty(rt, b)?;
+    say_dirty(rt, c)?;
+    say_dirty(rt, d)?;
+    println!(rt)
 }
 
-pub fn say_dirty(t: &[u32]) {
-    io::write_all(1, b" ");
-    io::print_decimal(1, dirty(t));
+pub fn say_dirty(rt: &impl Print, t: &[u32]) -> io::Result<()> {
+    let n = dirty(t);
+    print!(rt; " {n}")
 }

@@ -1,7 +1,9 @@
 // Each other call with work tables, on what is lent in try k.
+use crate::calls::Call;
 use crate::lent::{coordinates, given, width};
 use crate::saying::{say_compared, say_counted, say_remainder};
 use reply::{Compared, Counted, Remaindered};
+use std::io;
 
 fn try_remainder(
     k: u32,
@@ -79,9 +81,10 @@ fn try_counters(
     )
 }
 
-// A call that tells a number or a verdict: 5 to 8.
+// A call that tells a number or a verdict.
 pub fn try_telling(
-    call: u32,
+    rt: &impl Print,
+    call: Call,
     k: u32,
     row: &[u8],
     at: &[i32],
@@ -90,15 +93,11 @@ pub fn try_telling(
     b: &mut [u32],
     c: &mut [u32],
     d: &mut [u32],
-) {
-    if call == 5 {
-        return say_remainder(try_remainder(k, row, at, a, b, c, d));
+) -> io::Result<()> {
+    match call {
+        Call::Remainder => say_remainder(rt, try_remainder(k, row, at, a, b, c, d)),
+        Call::FormRemainder => say_remainder(rt, try_form_remainder(k, row, at, a, b, c, d)),
+        Call::Compare => say_compared(rt, try_compare(k, row, point, a, b, c, d)),
+        _ => say_counted(rt, try_counters(k, row, a, b, c, d)),
     }
-    if call == 6 {
-        return say_remainder(try_form_remainder(k, row, at, a, b, c, d));
-    }
-    if call == 7 {
-        return say_compared(try_compare(k, row, point, a, b, c, d));
-    }
-    say_counted(try_counters(k, row, a, b, c, d));
 }

@@ -1,4 +1,5 @@
 // Each call with a result text, on what is lent in try k.
+use crate::calls::Call;
 use crate::lent::{given, room};
 use reply::Written;
 
@@ -130,9 +131,9 @@ pub fn try_print(
     )
 }
 
-// A call with a result text: 0 to 4.
+// A call with a result text, but the printer's.
 pub fn try_writing(
-    call: u32,
+    call: Call,
     k: u32,
     row: &[u8],
     res: &mut [u8],
@@ -141,17 +142,11 @@ pub fn try_writing(
     c: &mut [u32],
     d: &mut [u32],
 ) -> Written {
-    if call == 0 {
-        return try_form(k, row, res, a, b, c, d);
+    match call {
+        Call::Form => try_form(k, row, res, a, b, c, d),
+        Call::Negate => try_negate(k, row, res, a, b, c, d),
+        Call::Add => try_add(k, row, res, a, b, c, d),
+        Call::Multiply => try_multiply(k, row, res, a, b, c, d),
+        _ => try_raise(k, row, res, a, b, c, d),
     }
-    if call == 1 {
-        return try_negate(k, row, res, a, b, c, d);
-    }
-    if call == 2 {
-        return try_add(k, row, res, a, b, c, d);
-    }
-    if call == 3 {
-        return try_multiply(k, row, res, a, b, c, d);
-    }
-    try_raise(k, row, res, a, b, c, d)
 }

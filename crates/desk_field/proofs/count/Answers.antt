@@ -27,8 +27,8 @@ loop-i-smaller c =
 pub loop-i-preserved : goal.loop-i-preserved
 loop-i-preserved c =
     elim c.if-line-i-eq-TAB.branch [
-      then-line-i-eq-TAB w ↦ omega (arith, tabs-tab c.args.line.now c.loop-i.i c.loop-i-test.true w.if-line-i-eq-TAB.true)
-    | else-line-i-eq-TAB w ↦ omega (arith, tabs-on c.args.line.now c.loop-i.i c.loop-i-test.true w.if-line-i-eq-TAB.false)
+      | then-line-i-eq-TAB w ↦ omega (arith, tabs-tab c.args.line.now c.loop-i.i c.loop-i-test.true w.if-line-i-eq-TAB.true)
+      | else-line-i-eq-TAB w ↦ omega (arith, tabs-on c.args.line.now c.loop-i.i c.loop-i-test.true w.if-line-i-eq-TAB.false)
     ]
 
 pub returns : goal.returns

@@ -43,10 +43,10 @@ loop-i-smaller c =
 
 pub loop-i-preserved : goal.loop-i-preserved
 loop-i-preserved c =
-    let e : c.if-value-gt4294967296.value ≡ min (c.loop-i.value * 10 + (get_or c.args.w.now c.loop-i.i 0 - 48)) 4294967296 = 
+    let e : c.if-value-gt4294967296.value ≡ min (c.loop-i.value * 10 + (get_or c.args.w.now c.loop-i.i 0 - 48)) 4294967296 =
     elim c.if-value-gt4294967296.branch [
-      then-value-gt4294967296 w ↦ omega arith
-    | else-value-gt4294967296 w ↦ omega arith
+      | then-value-gt4294967296 w ↦ omega arith
+      | else-value-gt4294967296 w ↦ omega arith
     ] in (
       omega arith,
       (

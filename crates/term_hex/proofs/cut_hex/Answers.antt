@@ -36,8 +36,8 @@ pub loop-i-preserved : goal.loop-i-preserved
 loop-i-preserved c =
     let e : c.if-value-gt1073741824.value ≡ min (c.loop-i.value * 16 + hex_value (get_or c.args.w.now c.loop-i.i 0)) 1073741824 =
     elim c.if-value-gt1073741824.branch [
-      then-value-gt1073741824 w ↦ omega (arith, c.value_of.ensures.0)
-    | else-value-gt1073741824 w ↦ omega (arith, c.value_of.ensures.0)
+      | then-value-gt1073741824 w ↦ omega (arith, c.value_of.ensures.0)
+      | else-value-gt1073741824 w ↦ omega (arith, c.value_of.ensures.0)
     ] in (
       omega arith,
       (

@@ -43,7 +43,7 @@ loop-i-smaller c =
 
 pub loop-i-preserved : goal.loop-i-preserved
 loop-i-preserved c =
-    let e : c.if-top-value.value ≡ min (c.loop-i.value * 10 + (get_or c.args.w.now c.loop-i.i 0 - 48)) c.args.limit = 
+    let e : c.if-top-value.value ≡ min (c.loop-i.value * 10 + (get_or c.args.w.now c.loop-i.i 0 - 48)) c.args.limit =
     elim c.if-top-value.branch [ then-top-value w ↦ omega arith | else-top-value w ↦ omega arith ] in (
       omega arith,
       (

@@ -1,0 +1,2 @@
+-- What the printer writes for what it reads.
+pub mod Printer
