@@ -12,7 +12,7 @@ import collections, pathlib, re, sys
 
 # Statements that stand for their own sake, and why.
 ALLOWED = {
-    ("crates/term_tree/specs/Codes.antt", "dec-enc"): "the words of a tree show what they are said to show",
+    ("crates/term_tree/proofs/Codes.antt", "dec-enc"): "the words of a tree show what they are said to show",
     ("crates/text_laws/specs/laws/FormNodes.antt", "wrong-stands"): "`nodes` counts bytes: at the place of a node stands its text",
     ("crates/dialect/src/lib.rt", "with_hex"): "the dialect of request 106, which no call reads yet",
     ("crates/dialect/src/lib.rt", "panel_terms"): "the dialect of request 101, which no call reads yet",
