@@ -14,6 +14,9 @@ import collections, pathlib, re, sys
 ALLOWED = {
     ("crates/term_tree/proofs/Codes.antt", "dec-enc"): "the words of a tree show what they are said to show",
     ("crates/text_laws/specs/laws/FormNodes.antt", "wrong-stands"): "`nodes` counts bytes: at the place of a node stands its text",
+    ("crates/panel/specs/Laws.antt", "compared_is"): "the struct of the enum that `compare` answers is that of its reply",
+    ("crates/panel/specs/Laws.antt", "written_is"): "so it is of what `form` answers",
+    ("crates/panel/specs/Laws.antt", "remaindered-is"): "and of what `remainder` answers",
     ("crates/dialect/src/lib.rt", "with_hex"): "the dialect of request 106, which no call reads yet",
     ("crates/dialect/src/lib.rt", "panel_terms"): "the dialect of request 101, which no call reads yet",
 }
@@ -123,10 +126,10 @@ def read_antt(file, text):
                 here.words.update(word for header in headers.values() for word in header)
         elif kind == "data" and indent == level + 2 and head:  # a constructor stands for its type
             known[stem(file), head.group(4)].append(here)
-        if here is None:
-            headers[sections[-1]].extend(words)
-        else:
+        if here is not None:
             here.words.update(words)
+        elif sections:
+            headers[sections[-1]].extend(words)
 
 
 def read_rt(file, text):

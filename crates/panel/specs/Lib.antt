@@ -1,2 +1,3 @@
 -- The answers that cross to C.
 pub mod Panel
+pub mod Laws
