@@ -2,7 +2,7 @@
 -- POW the number of words that its p takes; its parts follow.
 use Rattle.std.specs.Prelude.{◌≡◌, ℕ, zero, suc, ◌+◌, ◌-◌, ◌*◌, ◌/◌, ◌%◌, ◌≤◌, cond, List, [], ◌∷◌, ◌++◌, length, take, drop, ◌==◌, nat_lt}
 use Rattle.horner.specs.definitions.Form.{Form, int, pop, pow, Normal}
-use Rattle.horner.proofs.laws.Degree.{Bounded}
+use Rattle.horner.specs.laws.Degree.{Bounded}
 use Rattle.code.specs.Widths.{Leaf, ring_of, leaf}
 
 unfoldable pub enc : (w : ℕ) → Form (Leaf w) → List ℕ

@@ -1,7 +1,7 @@
 -- The product of two forms in the ring of a width, and which two forms fit: document 01's limits on the product, of bounds on its factors.
 use Rattle.std.specs.Prelude.{List, ◌≡◌, ℕ, ◌+◌, ◌*◌, ◌≤◌, min, length}
 use Rattle.horner.specs.definitions.Form.{Form, prod, Normal}
-use Rattle.horner.proofs.laws.Degree.{Bounded}
+use Rattle.horner.specs.laws.Degree.{Bounded}
 use Rattle.horner.specs.definitions.Measures.{first_or0, sums, box, AllLe, count}
 use Rattle.code.specs.Coding.{enc, Good}
 use Rattle.code.specs.Operations.{pop_of, pow_of, zero_of}

@@ -2,7 +2,7 @@
 -- made again, so that the result is normal also where a leaf has become 0.
 use Rattle.std.specs.Prelude.{ℕ}
 use Rattle.horner.specs.definitions.Form.{Form, int, pop, pow, mkpop, mkpow}
-use Rattle.horner.proofs.laws.Residues.{lift}
+use Rattle.horner.specs.laws.Residues.{lift}
 use Rattle.horner.specs.definitions.Rings.{red_ℤ, Ring}
 use Rattle.code.specs.Widths.{modulus, modulus-pos, Leaf, ring_of, leaf}
 

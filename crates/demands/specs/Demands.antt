@@ -9,7 +9,7 @@ use Rattle.refusal.specs.declared.Side.TheVariants.{Left, Right}
 use Rattle.horner.specs.definitions.Measures.{coef_at, multiples_of}
 use Rattle.horner.specs.definitions.Form.{Form, evalh}
 use Rattle.horner.specs.definitions.Rings.{ℤ_ring, prime, remainder_by}
-use Rattle.horner.proofs.laws.Within.{Within}
+use Rattle.horner.specs.laws.Within.{Within}
 use Rattle.horner.specs.definitions.Points.{IsPoint, point_of, leaves}
 use Rattle.horner.specs.definitions.Term.{Term, diff, norm_ℤ, norm_p, eval_ℤ}
 use Rattle.horner.proofs.laws.Answer.{same-iff, point-is}

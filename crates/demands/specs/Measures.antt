@@ -8,7 +8,8 @@ use Rattle.horner.specs.definitions.Points.{InBox}
 use Rattle.horner.specs.definitions.Rings.{ℤ_ring}
 use Rattle.horner.proofs.laws.Cancel.{zero_is}
 use Rattle.horner.proofs.laws.Coefficients.{val-sum_box, weight-sum_box, count-sum_box, coef_at-zero}
-use Rattle.horner.proofs.laws.Degree.{Bounded, length-degrees, bounded-degrees}
+use Rattle.horner.proofs.laws.Degree.{length-degrees, bounded-degrees}
+use Rattle.horner.specs.laws.Degree.{Bounded}
 use Rattle.horner.proofs.laws.Evalh.{evalh-val}
 use Rattle.horner.proofs.laws.Highest.{in_bounds, reaches, zeros-zero}
 

@@ -8,7 +8,7 @@ use Rattle.horner.specs.definitions.Form.{Form, Normal, evalh, nats}
 use Rattle.horner.specs.definitions.Rings.{ℤ_ring, nat}
 use Rattle.horner.specs.definitions.Term.{Term, norm_ℤ, eval_ℤ}
 use Rattle.horner.proofs.laws.Term.{evalh-norm, normal-norm, only-form}
-use Rattle.horner.proofs.laws.Within.{Over}
+use Rattle.horner.specs.laws.Within.{Over}
 use Rattle.text.specs.definitions.Bytes.{is_row}
 use Rattle.text.specs.definitions.FormMeaning.{IsForm}
 use Rattle.text.specs.definitions.FormReading.{text}

@@ -8,7 +8,7 @@ use Rattle.horner.specs.definitions.Form.{Form, sum, negate, prod, raise, Normal
 use Rattle.horner.specs.definitions.Rings.{ℤ_ring, power}
 use Rattle.horner.proofs.laws.Evalh.{evalh-sum, evalh-negate, evalh-prod, evalh-raise}
 use Rattle.horner.proofs.laws.Normal.{normal-sum, normal-negate, normal-prod, normal-raise}
-use Rattle.horner.proofs.laws.Table as Table
+use Rattle.horner.specs.laws.Table as Table
 use Rattle.horner.proofs.laws.Table.{sum_fits, prod-fits, raise-fits}
 use Rattle.text.specs.definitions.Bytes.{Reading, read}
 use Rattle.text.specs.definitions.FormMeaning.{IsForm}

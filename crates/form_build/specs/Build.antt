@@ -3,7 +3,7 @@ use Rattle.std.specs.Prelude.{true, false, List, ◌≡◌, ℕ, ◌-◌, ◌≤
 use Rattle.horner.specs.definitions.Form.{Form}
 use Rattle.horner.specs.definitions.Measures.{weight}
 use Rattle.horner.specs.definitions.Rings.{red_ℤ, prime, prime-pos}
-use Rattle.horner.proofs.laws.Hom.{map_form}
+use Rattle.horner.specs.laws.Hom.{map_form}
 use Rattle.code.specs.Coding.{Good, Made, enc}
 use Rattle.code.specs.Widths.{Leaf}
 use Rattle.text.specs.definitions.Bytes.{read}

@@ -1,9 +1,9 @@
 -- The text of a form over the remainders by P, and what it is to write a text at the front of a buffer.
 use Rattle.std.specs.Prelude.{List, [], ◌∷◌, ◌++◌, ◌≡◌, ℕ, ◌≤◌, length, drop}
 use Rattle.horner.specs.definitions.Form.{Form, int}
-use Rattle.horner.proofs.laws.Residues.{lift}
+use Rattle.horner.specs.laws.Residues.{lift}
 use Rattle.horner.specs.definitions.Rings.{prime, prime-pos}
-use Rattle.horner.proofs.laws.Hom.{map_form}
+use Rattle.horner.specs.laws.Hom.{map_form}
 use Rattle.text.specs.definitions.FormReading.{text}
 use Rattle.text.specs.definitions.Bytes.{decimal}
 use Rattle.code.specs.Widths.{Leaf, leaf}

@@ -5,30 +5,35 @@ use Rattle.horner.specs.definitions.Measures.{coef_at, maxs, sums, multiples, bo
 use Rattle.horner.specs.definitions.Measures.{one_if, count, terms, degrees, nest, sum_box, monomial}
 use Rattle.horner.specs.definitions.Form.{Form, pop, pow, size, is_zero, mkpop, mkpow, sum, negate, prod, raise, Normal, evalh, nats}
 use Rattle.horner.specs.definitions.Rings.{ℤ_ring, Res, red_ℤ, prime, prime-pos, p_ring, Ring, power}
-use Rattle.horner.proofs.laws.Within.{Within, Over}
-use Rattle.horner.proofs.laws.Degree.{Bounded}
+use Rattle.horner.specs.laws.Within.{Within, Over}
+use Rattle.horner.specs.laws.Degree.{Bounded}
 use Rattle.horner.specs.definitions.Points.{InBox, Before, leaves, IsPoint, point_of}
-use Rattle.horner.proofs.laws.Residues.{lift}
+use Rattle.horner.specs.laws.Residues.{lift}
 use Rattle.horner.specs.definitions.Term.{Term, evalp, norm, norm_ℤ, eval_ℤ, norm_p}
-use Rattle.horner.proofs.laws.Answer.{gap, same-iff, gap-zero, degrees-norm_p, point-is}
+use Rattle.horner.proofs.laws.Answer.{same-iff, gap-zero, degrees-norm_p, point-is}
+use Rattle.horner.specs.laws.Answer.{gap}
 use Rattle.horner.proofs.laws.Cancel.{cancel}
 use Rattle.horner.proofs.laws.Canonical.{canon-ℤ}
-use Rattle.horner.proofs.laws.Carry.{carry, carry-sum, carry-negate, carry-prod, carry-raise, lift-carry}
+use Rattle.horner.proofs.laws.Carry.{carry-sum, carry-negate, carry-prod, carry-raise, lift-carry}
+use Rattle.horner.specs.laws.Carry.{carry}
 use Rattle.horner.proofs.laws.Coefficients.{val-sum_box, weight-sum_box, count-sum_box}
-use Rattle.horner.proofs.laws.Decide.{equal-ℤ, equal-res, is_normal-is, eq_form, eq_ℤ, eq_res, is_normal}
+use Rattle.horner.proofs.laws.Decide.{equal-ℤ, equal-res, is_normal-is, eq_form, is_normal}
+use Rattle.horner.specs.laws.Decide.{eq_ℤ, eq_res}
 use Rattle.horner.proofs.laws.Evalh.{evalh-val, evalh-mkpop, evalh-mkpow, evalh-sum, evalh-negate, evalh-prod, evalh-raise}
 use Rattle.horner.specs.laws.First.{first_point}
 use Rattle.horner.proofs.laws.First.{first-is, IsFirst}
 use Rattle.horner.proofs.laws.Grid.{grid}
 use Rattle.horner.proofs.laws.Highest.{in_bounds, Reaches, reaches}
-use Rattle.horner.proofs.laws.Hom.{map_form}
+use Rattle.horner.specs.laws.Hom.{map_form}
 use Rattle.horner.proofs.laws.Lifting.{residue, exact}
 use Rattle.horner.proofs.laws.Normal.{normal-mkpop, normal-mkpow, normal-sum, normal-negate, normal-prod, normal-raise}
 use Rattle.horner.proofs.laws.Points.{point-unique, point-before}
 use Rattle.horner.proofs.laws.Roots.{Regular}
-use Rattle.horner.proofs.laws.Room.{size-pows, pows-count, pows-box, words-3073, nest-255, pows}
+use Rattle.horner.proofs.laws.Room.{size-pows, pows-count, pows-box, words-3073, nest-255}
+use Rattle.horner.specs.laws.Room.{pows}
 use Rattle.horner.proofs.laws.Words.{norm-words}
-use Rattle.horner.proofs.laws.Table.{Fits, sum_fits, prod-fits, negate-fits, raise-fits, norm-fits}
+use Rattle.horner.proofs.laws.Table.{sum_fits, prod-fits, negate-fits, raise-fits, norm-fits}
+use Rattle.horner.specs.laws.Table.{Fits}
 use Rattle.horner.proofs.laws.Term.{evalh-norm, normal-norm, theorem-1, only-form}
 use Rattle.horner.proofs.laws.Value.{Zero, val}
 

@@ -1,3 +1,15 @@
 pub mod Integers
 pub mod Modulus
 pub mod First
+pub mod Degree
+pub mod Hom
+pub mod Residues
+pub mod Within
+pub mod Table
+pub mod Answer
+pub mod Room
+pub mod Grid
+pub mod Carry
+pub mod Decide
+pub mod Measure
+pub mod Prime

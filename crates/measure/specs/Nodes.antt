@@ -4,7 +4,7 @@ use Rattle.std.proofs.Common.{sym, ap, ap₂, ◌∙◌, subst, add-one, arith, 
 use Rattle.std.proofs.Math.Nat as NatL
 use Rattle.std.proofs.lemmas.Bool.{eqb-false}
 use Rattle.horner.specs.definitions.Measures.{degrees_of, terms_of, AllLe, box, sums, multiples, maxs, zeros}
-use Rattle.horner.proofs.laws.Within.{Over}
+use Rattle.horner.specs.laws.Within.{Over}
 use Rattle.horner.specs.definitions.Term.{Term}
 use Rattle.horner.specs.definitions.Form.{tl}
 use Rattle.horner.proofs.laws.Highest.{tl-get_d, first-get_d, zeros-zero, maxs-get_d}

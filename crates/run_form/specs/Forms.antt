@@ -3,7 +3,7 @@ use Rattle.std.specs.Prelude.{List, ◌≡◌, ℕ, ◌≤◌, length}
 use Rattle.horner.specs.definitions.Form.{Form, Normal}
 use Rattle.horner.specs.definitions.Measures.{AllLe}
 use Rattle.horner.specs.definitions.Rings.{Res, prime, p_ring}
-use Rattle.horner.proofs.laws.Degree.{Bounded}
+use Rattle.horner.specs.laws.Degree.{Bounded}
 use Rattle.run.specs.Runs.{to_run}
 use Rattle.run_merge.specs.Words.{code_of, flat}
 

@@ -1,2 +1,3 @@
 -- The words of a form's run.
 pub mod Forms
+pub mod laws

@@ -3,7 +3,8 @@
 use Rattle.std.specs.Prelude.{◌≡◌, ℕ, zero, suc, ◌-◌, ◌<◌, ◌≤◌, [], ◌∷◌, refl}
 use Rattle.std.proofs.Common.{sym, ap, subst, ◌∙◌, arith}
 use Rattle.horner.specs.definitions.Form.{Form, int, pop, pow, Normal, after}
-use Rattle.horner.proofs.laws.Degree.{Bounded, Below, below-refl, bounded-mono}
+use Rattle.horner.proofs.laws.Degree.{below-refl, bounded-mono}
+use Rattle.horner.specs.laws.Degree.{Bounded, Below}
 use Rattle.horner.specs.definitions.Rings.{Ring}
 use Rattle.horner.proofs.laws.Bounds.{bounded-sum, bounded-negate, bounded-scale}
 use Rattle.horner.proofs.laws.Normal.{pow-level, normal-sum, normal-negate, normal-scale}

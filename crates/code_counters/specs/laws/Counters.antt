@@ -5,10 +5,10 @@ use Rattle.std.proofs.Common.{◌∙◌, ap, ap₂}
 use Rattle.horner.specs.definitions.Measures.{multiples_of}
 use Rattle.horner.specs.definitions.Form.{Form, int, pop, pow, mkpop, mkpow, is_zero, sum, negate, Normal}
 use Rattle.horner.specs.definitions.Rings.{ℤ_ring, red_ℤ, prime, prime-pos, Ring}
-use Rattle.horner.proofs.laws.Within.{Within}
-use Rattle.horner.proofs.laws.Residues.{lift}
+use Rattle.horner.specs.laws.Within.{Within}
+use Rattle.horner.specs.laws.Residues.{lift}
 use Rattle.horner.specs.definitions.Term.{Term, diff, norm_ℤ, norm_p}
-use Rattle.horner.proofs.laws.Hom.{map_form}
+use Rattle.horner.specs.laws.Hom.{map_form}
 use Rattle.horner.proofs.laws.Lifting.{exact}
 use Rattle.horner.proofs.laws.Term.{normal-norm}
 use Rattle.code.specs.Operations.{negate_of, sum_of}

@@ -7,8 +7,9 @@ use Rattle.horner.specs.definitions.Form.{Form, int, pop, pow, is_zero, zero_for
 use Rattle.horner.specs.definitions.Rings.{Ring}
 use Rattle.horner.proofs.laws.Cancel.{zero_is}
 use Rattle.horner.proofs.laws.Coefficients.{coef_at-zero, normal-coef_of, constant-is}
-use Rattle.horner.proofs.laws.Grid.{All, zero-coefs}
-use Rattle.horner.proofs.laws.Hom.{map_form}
+use Rattle.horner.proofs.laws.Grid.{zero-coefs}
+use Rattle.horner.specs.laws.Grid.{All}
+use Rattle.horner.specs.laws.Hom.{map_form}
 use Rattle.horner.proofs.laws.Ring.{nil-add, neg-nil, neg-of-add}
 use Rattle.horner.proofs.laws.Value.{Zero}
 use Rattle.code_walk.specs.Carrying.{map_normal}

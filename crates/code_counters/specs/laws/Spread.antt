@@ -10,7 +10,7 @@ use Rattle.horner.proofs.laws.Compare.{cmp-cases}
 use Rattle.horner.proofs.laws.Tests.{cond_cases}
 use Rattle.horner.proofs.laws.Value.{size-pos, lower-fits}
 use Rattle.code_walk.specs.Carrying.{map_normal}
-use Rattle.horner.proofs.laws.Hom.{map_form}
+use Rattle.horner.specs.laws.Hom.{map_form}
 
 pub record Spread {A : Type 0} (R : Ring A) (G : Type 0) : Type 0 where
   pub plus : G → G → G

@@ -3,7 +3,7 @@ use Rattle.std.specs.Prelude.{Bool, true, false, List, [], ◌∷◌, ◌≡◌,
 use Rattle.std.proofs.Math.Path.{sym, ap}
 use Rattle.std.proofs.Common.{subst, ◌∙◌, arith}
 use Rattle.horner.specs.definitions.Form.{Form, is_zero, Normal, nats}
-use Rattle.horner.proofs.laws.Degree.{Bounded}
+use Rattle.horner.specs.laws.Degree.{Bounded}
 use Rattle.horner.specs.definitions.Measures.{AllLe}
 use Rattle.horner.specs.laws.First.{least, at_first, first_point}
 use Rattle.horner.specs.definitions.Rings.{Ring, nat}

@@ -2,12 +2,13 @@
 use Rattle.std.specs.Prelude.{false, List, ◌⊎◌, ◌≡◌, refl, ℕ, ◌≤◌, length}
 use Rattle.std.proofs.Common.{inl, inr, sym, subst, ◌∙◌}
 use Rattle.horner.specs.definitions.Form.{is_zero, negate, Normal}
-use Rattle.horner.proofs.laws.Within.{Within}
+use Rattle.horner.specs.laws.Within.{Within}
 use Rattle.horner.specs.definitions.Points as H
 use Rattle.horner.specs.definitions.Points.{Before, IsPoint}
 use Rattle.horner.specs.definitions.Rings.{red_ℤ, prime, prime-pos, p_ring}
 use Rattle.horner.specs.definitions.Term.{Term, norm_p}
-use Rattle.horner.proofs.laws.Answer.{gap, gap-nil, point-is}
+use Rattle.horner.proofs.laws.Answer.{gap-nil, point-is}
+use Rattle.horner.specs.laws.Answer.{gap}
 use Rattle.horner.proofs.laws.Canonical.{length-box}
 use Rattle.horner.proofs.laws.First.{first-is, IsFirst}
 use Rattle.horner.proofs.laws.Normal.{normal-sum, normal-negate}

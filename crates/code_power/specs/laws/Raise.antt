@@ -6,7 +6,8 @@ use Rattle.horner.specs.definitions.Form.{Form, raise}
 use Rattle.horner.specs.definitions.Measures.{sums, multiples, box, AllLe, one_if}
 use Rattle.horner.proofs.laws.Bounds.{bounded-raise, sums-multiples}
 use Rattle.horner.proofs.laws.Count.{count-size, one-if-le}
-use Rattle.horner.proofs.laws.Degree.{Below, all-le-below}
+use Rattle.horner.proofs.laws.Degree.{all-le-below}
+use Rattle.horner.specs.laws.Degree.{Below}
 use Rattle.horner.proofs.laws.Measure.{meas-raise}
 use Rattle.horner.proofs.laws.Normal.{normal-raise}
 use Rattle.code.specs.Widths.{Leaf, ring_of}

@@ -18,7 +18,8 @@ use Rattle.code.specs.laws.Good.{good-at}
 use Rattle.code.specs.laws.Sizes.{size-enc}
 use Rattle.code_room.specs.Fit.{prod_of, Within, Fit, Held}
 use Rattle.code_room.proofs.laws.Lists.{sums-left, first-left, all_after, first-le, box-below, below-limits}
-use Rattle.code_room.proofs.laws.Lists.{cut, length_cut, below-cut, first-cut}
+use Rattle.code_room.proofs.laws.Lists.{length_cut, below-cut, first-cut}
+use Rattle.code_room.specs.laws.Lists.{cut}
 use Rattle.code_room.proofs.laws.Parts.{under-pop, under-lower, under_pow, within-cut, exponent-le}
 
 -- the terms, cut to the box, do not grow where the box does not

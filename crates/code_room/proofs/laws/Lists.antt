@@ -6,8 +6,10 @@ use Rattle.horner.specs.definitions.Measures.{first_or0, sums, box, AllLe}
 use Rattle.horner.specs.definitions.Form.{after}
 use Rattle.horner.proofs.laws.Bounds.{sums-comm, sums-right}
 use Rattle.horner.proofs.laws.Count.{box-pos}
-use Rattle.horner.proofs.laws.Degree.{Below, below-refl}
+use Rattle.horner.proofs.laws.Degree.{below-refl}
+use Rattle.horner.specs.laws.Degree.{Below}
 use Rattle.code.specs.Coding.{limits}
+use Rattle.code_room.specs.laws.Lists.{cut}
 
 -- ---- two lists of bounds, added up
 pub sums-left : (ds es : List ℕ) → Below ds (sums ds es)
@@ -40,11 +42,6 @@ pub below-limits : (n : ℕ) (ds : List ℕ) → length ds ≡ n → AllLe 63 ds
 below-limits n [] l a = tt
 below-limits zero (d ∷ ds) l a = absurd (omega arith)
 below-limits (suc n) (d ∷ ds) l a = (a.0, below-limits n ds (omega arith) a.1)
-
--- ---- the first bound less i: what the p of a (POW i p q) has
-abbrev pub cut : ℕ → List ℕ → List ℕ
-cut i [] = []
-cut i (d ∷ ds) = (d - i) ∷ ds
 
 pub length_cut : (i : ℕ) (ds : List ℕ) → length (cut i ds) ≡ length ds
 length_cut i [] = refl

@@ -2,12 +2,12 @@
 use Rattle.std.specs.Prelude.{List, [], ◌∷◌, ◌≡◌, ℕ, zero, suc, ◌+◌, ◌-◌, ◌≤◌}
 use Rattle.std.proofs.Common.{◌∙◌, ap, subst, arith}
 use Rattle.horner.specs.definitions.Form.{Form, pop, pow, lower, Normal, after}
-use Rattle.horner.proofs.laws.Degree.{Bounded}
+use Rattle.horner.specs.laws.Degree.{Bounded}
 use Rattle.horner.specs.definitions.Measures.{first_or0}
 use Rattle.horner.proofs.laws.Value.{after-add}
 use Rattle.code.specs.Widths.{Leaf, ring_of}
 use Rattle.code_room.specs.Fit.{Within}
-use Rattle.code_room.proofs.laws.Lists.{cut}
+use Rattle.code_room.specs.laws.Lists.{cut}
 
 module _ {w n c : ℕ} {ds : List ℕ} where
   -- the p of a POP

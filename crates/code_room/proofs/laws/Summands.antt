@@ -3,7 +3,8 @@ use Rattle.std.specs.Prelude.{List, [], ◌∷◌, ◌≡◌, ℕ, ◌+◌, ◌-
 use Rattle.std.proofs.Common.{ap, subst, arith}
 use Rattle.std.proofs.Math.Nat as NatL
 use Rattle.horner.specs.definitions.Form.{Form, pow, mkpop, mkpow, zero_form, prod}
-use Rattle.horner.proofs.laws.Degree.{Bounded, below-refl, bounded-mono}
+use Rattle.horner.proofs.laws.Degree.{below-refl, bounded-mono}
+use Rattle.horner.specs.laws.Degree.{Bounded}
 use Rattle.horner.specs.definitions.Measures.{sums, one_if, count}
 use Rattle.horner.specs.definitions.Rings.{Ring}
 use Rattle.horner.proofs.laws.Bounds.{bounded-mkpop, bounded-mkpow, bounded-sum, bounded-prod}

@@ -4,7 +4,7 @@ use Rattle.std.specs.Prelude.{cond, List, [], ◌∷◌, ◌≡◌, ℕ, suc, �
 use Rattle.std.proofs.Common.{ap, ap₂, ◌∙◌, arith, lt-ltb, le-ltb, ltb-false}
 use Rattle.std.proofs.Math.Nat as NatL
 use Rattle.horner.specs.definitions.Form.{Form, int, pop, pow, size, mkpop, mkpow, Normal, after}
-use Rattle.horner.proofs.laws.Degree.{Bounded}
+use Rattle.horner.specs.laws.Degree.{Bounded}
 use Rattle.code.specs.Widths.{neg_by, modulus, modulus-pos, Leaf, ring_of, leaf}
 use Rattle.horner.specs.definitions.Rings.{red_ℤ, res-ext, Ring}
 use Rattle.horner.proofs.laws.Bounds.{bounded-mkpop, bounded-mkpow}

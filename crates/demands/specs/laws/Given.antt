@@ -5,7 +5,7 @@ use Rattle.refusal.specs.declared.Side.{Side}
 use Rattle.horner.specs.definitions.Form.{Form, negate}
 use Rattle.horner.specs.definitions.Measures.{box}
 use Rattle.horner.specs.definitions.Rings.{ℤ_ring}
-use Rattle.horner.proofs.laws.Table as Table
+use Rattle.horner.specs.laws.Table as Table
 use Rattle.horner.proofs.laws.Table.{negate-fits}
 use Rattle.text.specs.definitions.Bytes.{Reading, read, refused, is_row, all}
 use Rattle.text.specs.definitions.FormMeaning.{IsForm}

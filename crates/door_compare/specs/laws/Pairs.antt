@@ -3,7 +3,7 @@ use Rattle.std.specs.Prelude.{Bool, true, false, ◌⊎◌, List, ◌++◌, ◌�
 use Rattle.std.proofs.Common.{true≢false, inl, inr, sym, ap, ap₂, ◌∙◌, subst, arith}
 use Rattle.refusal.specs.declared.Refusal.{Refusal}
 use Rattle.refusal.specs.declared.Side.TheVariants.{Left, Right}
-use Rattle.horner.proofs.laws.Within.{Within}
+use Rattle.horner.specs.laws.Within.{Within}
 use Rattle.horner.specs.definitions.Term.{Term, norm_p}
 use Rattle.code.specs.Coding.{Good}
 use Rattle.code.specs.Operations.{sum_of, negate_of, value_of}

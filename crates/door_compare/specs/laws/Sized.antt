@@ -3,7 +3,7 @@ use Rattle.std.specs.Prelude.{Bool, true, false, List, ◌≡◌, refl, ℕ, len
 use Rattle.std.proofs.Common.{true≢false, sym, ◌∙◌}
 use Rattle.refusal.specs.declared.Side.TheVariants.{Left, Right}
 use Rattle.refusal.specs.declared.Refusal.{Refusal}
-use Rattle.horner.proofs.laws.Within.{Within}
+use Rattle.horner.specs.laws.Within.{Within}
 use Rattle.horner.specs.definitions.Term.{Term, norm_ℤ}
 use Rattle.horner.proofs.laws.Answer.{point-is}
 use Rattle.text.specs.definitions.Bytes.{Reading, read, refused, same}

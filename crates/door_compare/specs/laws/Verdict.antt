@@ -3,14 +3,15 @@ use Rattle.std.specs.Prelude.{Bool, true, false, List, [], ◌∷◌, map, ◌�
 use Rattle.std.proofs.Math.Path.{refl, ap}
 use Rattle.std.proofs.Common.{sym, ap₂, ◌∙◌, subst, arith}
 use Rattle.horner.specs.definitions.Form.{is_zero, nats, evalh}
-use Rattle.horner.proofs.laws.Within.{Within}
+use Rattle.horner.specs.laws.Within.{Within}
 use Rattle.horner.specs.definitions.Points as H
 use Rattle.horner.specs.definitions.Points.{leaves}
-use Rattle.horner.proofs.laws.Residues.{lift}
+use Rattle.horner.specs.laws.Residues.{lift}
 use Rattle.horner.specs.definitions.Rings.{red_ℤ, prime, prime-pos, p_ring}
 use Rattle.horner.specs.definitions.Term.{Term, norm_ℤ, norm_p}
-use Rattle.horner.proofs.laws.Answer.{gap, gap-zero, eval-leaves}
-use Rattle.horner.proofs.laws.Hom.{map_form}
+use Rattle.horner.proofs.laws.Answer.{gap-zero, eval-leaves}
+use Rattle.horner.specs.laws.Answer.{gap}
+use Rattle.horner.specs.laws.Hom.{map_form}
 use Rattle.horner.proofs.laws.Lifting.{residue, exact}
 use Rattle.horner.proofs.laws.Term.{evalh-norm}
 use Rattle.code.specs.Coding.{Good}

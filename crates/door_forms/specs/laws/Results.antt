@@ -3,12 +3,13 @@ use Rattle.std.specs.Prelude.{Bool, true, false, cond, List, ◌≡◌, refl, �
 use Rattle.std.proofs.Common.{ap, ◌∙◌, arith}
 use Rattle.horner.specs.definitions.Form.{Form, int, pop, pow, size, Normal}
 use Rattle.horner.specs.definitions.Rings.{ℤ_ring, red_ℤ, prime, prime-pos}
-use Rattle.horner.proofs.laws.Degree.{Bounded, bounded-mono, bounded-degrees, length-degrees}
+use Rattle.horner.proofs.laws.Degree.{bounded-mono, bounded-degrees, length-degrees}
+use Rattle.horner.specs.laws.Degree.{Bounded}
 use Rattle.horner.specs.definitions.Measures.{AllLe, box, degrees, weight, one_if, count, terms}
-use Rattle.horner.proofs.laws.Hom.{map_form}
+use Rattle.horner.specs.laws.Hom.{map_form}
 use Rattle.horner.proofs.laws.Lifting.{bounded-map, normal-red}
 use Rattle.horner.proofs.laws.Room.{words-3073}
-use Rattle.horner.proofs.laws.Table.{Fits}
+use Rattle.horner.specs.laws.Table.{Fits}
 use Rattle.code.specs.Coding.{limits, Good, Codes, Made, enc, dec}
 use Rattle.code.specs.Widths.{Leaf, ring_of}
 use Rattle.code.specs.laws.Codes.{dec-enc}

@@ -4,9 +4,10 @@ use Rattle.std.proofs.Common.{sym, ap, ap₂, ◌∙◌, arith}
 use Rattle.std.proofs.lemmas.List.{length-map}
 use Rattle.horner.specs.definitions.Form.{Form, int, pop, pow, evalh}
 use Rattle.horner.specs.definitions.Rings.{ℤ_ring, Res, red_ℤ, prime, prime-pos, p_ring, Ring, power}
-use Rattle.horner.proofs.laws.Within.{Within}
+use Rattle.horner.specs.laws.Within.{Within}
 use Rattle.horner.specs.definitions.Term.{Term, norm_p, eval_ℤ}
-use Rattle.horner.proofs.laws.Hom.{Hom, map_form, map-power}
+use Rattle.horner.proofs.laws.Hom.{map-power}
+use Rattle.horner.specs.laws.Hom.{Hom, map_form}
 use Rattle.horner.proofs.laws.Lifting.{red-hom}
 use Rattle.horner.proofs.laws.Term.{evalh-norm, eval-map}
 use Rattle.code.specs.Operations.{value_of}

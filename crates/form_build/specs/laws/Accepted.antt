@@ -3,9 +3,10 @@ use Rattle.std.specs.Prelude.{List, [], ◌∷◌, ◌≡◌, refl, ℕ, zero, s
 use Rattle.std.proofs.Common.{append-nil, sym, ap, ◌∙◌, arith}
 use Rattle.horner.specs.definitions.Form.{Form, int, pop, pow, size, Normal}
 use Rattle.horner.specs.definitions.Rings.{ℤ_ring, red_ℤ, prime, prime-pos}
-use Rattle.horner.proofs.laws.Degree.{Bounded, Below, bounded-mono, bounded-degrees, length-degrees}
+use Rattle.horner.proofs.laws.Degree.{bounded-mono, bounded-degrees, length-degrees}
+use Rattle.horner.specs.laws.Degree.{Bounded, Below}
 use Rattle.horner.specs.definitions.Measures.{AllLe, degrees}
-use Rattle.horner.proofs.laws.Hom.{map_form}
+use Rattle.horner.specs.laws.Hom.{map_form}
 use Rattle.horner.proofs.laws.Lifting.{bounded-map, normal-red}
 use Rattle.horner.proofs.laws.Room.{words-3073}
 use Rattle.code.specs.Coding.{limits, Good, Coded, Made, enc}

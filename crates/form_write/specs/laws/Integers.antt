@@ -4,9 +4,9 @@ use Rattle.std.proofs.Common.{ap, arith}
 use Rattle.horner.specs.definitions.Form.{Form}
 use Rattle.horner.specs.definitions.Measures.{AllLe, weight_of, degrees_of, weight}
 use Rattle.horner.specs.definitions.Rings.{red_ℤ, prime, prime-pos}
-use Rattle.horner.proofs.laws.Within.{Over}
+use Rattle.horner.specs.laws.Within.{Over}
 use Rattle.horner.specs.definitions.Term.{Term, norm_ℤ, norm_p}
-use Rattle.horner.proofs.laws.Hom.{map_form}
+use Rattle.horner.specs.laws.Hom.{map_form}
 use Rattle.horner.proofs.laws.Lifting.{lift-form, exact}
 use Rattle.text.specs.definitions.FormReading.{text}
 use Rattle.form_write.specs.Write.{text_of}

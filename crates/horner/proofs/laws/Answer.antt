@@ -4,9 +4,10 @@
 use Rattle.std.specs.Prelude.{false, List, [], ◌∷◌, map, ◌↔◌, ◌≡◌, refl, ℕ, ◌+◌, ◌-◌, ℤ, pos, length}
 use Rattle.std.proofs.Common.{sym, ◌∙◌, ap, ap₂, subst, arith}
 use Rattle.std.proofs.Math.Path.{◌≡⟨◌⟩◌, ◌∎}
-use Rattle.horner.specs.definitions.Form.{Form, int, pop, pow, is_zero, sum, negate, Normal, tl, nats}
-use Rattle.horner.proofs.laws.Within.{Within}
-use Rattle.horner.proofs.laws.Degree.{Bounded, bounded-mono, length-maxs, maxs-left, maxs-right, length-degrees, bounded-degrees}
+use Rattle.horner.specs.definitions.Form.{Form, int, pop, pow, is_zero, negate, Normal, tl, nats}
+use Rattle.horner.specs.laws.Within.{Within}
+use Rattle.horner.proofs.laws.Degree.{bounded-mono, length-maxs, maxs-left, maxs-right, length-degrees, bounded-degrees}
+use Rattle.horner.specs.laws.Degree.{Bounded}
 use Rattle.horner.proofs.laws.Degree.{degrees-least, all-le-below}
 use Rattle.horner.specs.definitions.Measures.{zeros, first_or0, maxs, AllLe, degrees_of, weight, degrees}
 use Rattle.horner.specs.definitions.Points.{InBox, leaves, highest, IsPoint, point_of}
@@ -18,28 +19,18 @@ use Rattle.horner.proofs.laws.Canonical.{length-box, val-difference}
 use Rattle.horner.specs.laws.First.{first_point}
 use Rattle.horner.proofs.laws.First.{first-is, IsFirst}
 use Rattle.horner.proofs.laws.Grid.{grid}
-use Rattle.horner.proofs.laws.Hom.{map_form}
+use Rattle.horner.specs.laws.Hom.{map_form}
 use Rattle.horner.proofs.laws.Lifting.{red-hom, residue, exact}
 use Rattle.horner.proofs.laws.Limits.{length-degrees_of, bounded-norm}
 use Rattle.horner.proofs.laws.Normal.{normal-sum, normal-negate}
 use Rattle.horner.proofs.laws.Points.{point-found}
 use Rattle.horner.proofs.laws.Prime.{P-regular}
 use Rattle.horner.proofs.laws.Ring.{neg_unique, neg-neg}
-use Rattle.horner.proofs.laws.Residues.{lift, nat-red}
+use Rattle.horner.proofs.laws.Residues.{nat-red}
+use Rattle.horner.specs.laws.Residues.{lift}
 use Rattle.horner.proofs.laws.Term.{val-norm, normal-norm, theorem-1, eval-map}
 use Rattle.horner.proofs.laws.Value.{Zero, val}
-
--- ---- over the remainders by P
--- the difference of two terms' forms, and in each variable the higher of their degrees
-abbrev pub gap : Term → Term → Form (Res prime)
-gap f g = sum p_ring (norm_p f) (negate p_ring (norm_p g))
-
-abbrev pub sides : ℕ → Term → Term → List ℕ
-sides n f g = maxs (degrees n (norm_p f)) (degrees n (norm_p g))
-
--- a term's value there, at a point of natural numbers: the remainder of its value
-abbrev pub eval_p : Term → List ℕ → Res prime
-eval_p t N = evalp p_ring (red_ℤ prime prime-pos) t (nats p_ring N)
+use Rattle.horner.specs.laws.Answer.{gap, sides, eval_p}
 
 nats-P : (N : List ℕ) → nats p_ring N ≡ map (red_ℤ prime prime-pos) (map pos N)
 nats-P [] = refl

@@ -4,7 +4,8 @@ use Rattle.std.proofs.Common.{sym, ◌∙◌, ap, ap₂, subst, arith}
 use Rattle.std.proofs.Math.Nat as NatL
 use Rattle.horner.specs.definitions.Form.{Form, int, pop, pow, size, mkpop, lower, is_zero, zero_form, mkpow, add_int, sum_f, sum}
 use Rattle.horner.specs.definitions.Form.{negate, scale, prod_f, prod, raise, tl, after}
-use Rattle.horner.proofs.laws.Degree.{Bounded, Below, below-refl, bounded-mono}
+use Rattle.horner.proofs.laws.Degree.{below-refl, bounded-mono}
+use Rattle.horner.specs.laws.Degree.{Bounded, Below}
 use Rattle.horner.specs.definitions.Measures.{first_or0, sums, multiples}
 use Rattle.horner.specs.definitions.Rings.{Ring}
 use Rattle.horner.proofs.laws.Compare.{cmp-cases}

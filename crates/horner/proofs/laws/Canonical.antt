@@ -5,7 +5,8 @@ use Rattle.std.proofs.Math.Path.{◌≡⟨◌⟩◌, ◌∎}
 use Rattle.std.proofs.Math.Nat as NatL
 use Rattle.horner.specs.definitions.Form.{Form, sum, negate, Normal, nats}
 use Rattle.horner.specs.definitions.Rings.{ℤ_ring, Ring, nat}
-use Rattle.horner.proofs.laws.Degree.{Bounded, length-degrees, bounded-degrees, all-le-total, total}
+use Rattle.horner.proofs.laws.Degree.{length-degrees, bounded-degrees, all-le-total}
+use Rattle.horner.specs.laws.Degree.{Bounded, total}
 use Rattle.horner.specs.definitions.Measures.{AllLe, degrees}
 use Rattle.horner.specs.definitions.Points.{InBox}
 use Rattle.horner.proofs.laws.Bounds.{bounded-sum, bounded-negate}

@@ -5,13 +5,14 @@ use Rattle.std.proofs.Common.{sym, ◌∙◌, ap, ap₂, subst, arith}
 use Rattle.std.proofs.Math.Path.{◌≡⟨◌⟩◌, ◌∎}
 use Rattle.std.proofs.lemmas.List.{length-map}
 use Rattle.horner.specs.definitions.Form.{Form, int, pop, pow, sum, negate, prod, raise, Normal, nats}
-use Rattle.horner.specs.definitions.Rings.{ℤ_ring, Res, red_ℤ, prime, prime-pos, p_ring, power}
-use Rattle.horner.proofs.laws.Degree.{Bounded}
+use Rattle.horner.specs.definitions.Rings.{ℤ_ring, Res, prime, prime-pos, p_ring, power}
+use Rattle.horner.specs.laws.Degree.{Bounded}
 use Rattle.horner.specs.definitions.Measures.{sums, multiples, AllLe, weight}
-use Rattle.horner.proofs.laws.Residues.{lift}
+use Rattle.horner.specs.laws.Residues.{lift}
 use Rattle.horner.proofs.laws.Bounds.{bounded-sum, bounded-prod, bounded-raise}
 use Rattle.horner.proofs.laws.Canonical.{canon-box}
-use Rattle.horner.proofs.laws.Hom.{Hom, map_form, map-power, val-map}
+use Rattle.horner.proofs.laws.Hom.{map-power, val-map}
+use Rattle.horner.specs.laws.Hom.{Hom, map_form}
 use Rattle.horner.proofs.laws.Lifting.{bounded-map, red-hom, normal-red, lift-form}
 use Rattle.horner.proofs.laws.Measure.{meas-sum, meas-prod, meas-raise}
 use Rattle.horner.proofs.laws.Normal.{normal-sum, normal-prod, normal-raise}
@@ -20,15 +21,10 @@ use Rattle.horner.proofs.laws.Term.{map-nats}
 use Rattle.horner.proofs.laws.Product.{val-prod, val-raise}
 use Rattle.horner.proofs.laws.Value.{val-sum, val}
 use Rattle.horner.proofs.laws.Weight.{weight-size}
-
-abbrev pub ρ : ℤ → Res prime
-ρ z = red_ℤ prime prime-pos z
+use Rattle.horner.specs.laws.Carry.{ρ, carry}
 
 ρ-hom : Hom ℤ_ring p_ring ρ
 ρ-hom = red-hom prime prime-pos
-
-abbrev pub carry : Form ℤ → Form (Res prime)
-carry x = map_form (red_ℤ prime prime-pos) x
 
 pub carry-negate : (x : Form ℤ) → carry (negate ℤ_ring x) ≡ negate p_ring (carry x)
 carry-negate (int c) = ap int ((red-hom prime prime-pos).keeps-neg c)

@@ -7,9 +7,10 @@ use Rattle.std.proofs.Math.Path.{◌≡⟨◌⟩◌, ◌∎}
 use Rattle.horner.specs.definitions.Measures.{shift, coefs, coef_of, constant, coef_at, sum_to, sum_box, monomial, meas, weight, one_if, count}
 use Rattle.horner.specs.definitions.Form.{Form, int, pop, pow, zero_form, Normal, tl, hd}
 use Rattle.horner.specs.definitions.Rings.{ℤ_ring, Ring, power}
-use Rattle.horner.proofs.laws.Degree.{Bounded}
+use Rattle.horner.specs.laws.Degree.{Bounded}
 use Rattle.horner.proofs.laws.Count.{count-size}
-use Rattle.horner.proofs.laws.Grid.{All, vals, val-coefs, normal-coefs, bounded-coefs, length-coefs}
+use Rattle.horner.proofs.laws.Grid.{vals, val-coefs, normal-coefs, bounded-coefs, length-coefs}
+use Rattle.horner.specs.laws.Grid.{All}
 use Rattle.horner.proofs.laws.Measure.{meas-lower}
 use Rattle.horner.proofs.laws.Ring.{unit-mul, mul-nil}
 use Rattle.horner.proofs.laws.Roots.{horner}

@@ -3,10 +3,10 @@ use Rattle.std.specs.Prelude.{false, cond, List, [], ◌∷◌, ◌≡◌, refl,
 use Rattle.std.proofs.Common.{true≢false, sym, ◌∙◌, ap, ap₂, arith}
 use Rattle.std.proofs.Math.Nat as NatL
 use Rattle.horner.specs.definitions.Form.{Form, int, pop, pow, is_zero, Normal, after}
-use Rattle.horner.proofs.laws.Degree.{Bounded}
+use Rattle.horner.specs.laws.Degree.{Bounded}
 use Rattle.horner.specs.definitions.Measures.{box, one_if, count}
 use Rattle.horner.specs.definitions.Rings.{Ring}
-use Rattle.horner.proofs.laws.Measure.{Size}
+use Rattle.horner.specs.laws.Measure.{Size}
 use Rattle.horner.proofs.laws.Normal.{lead-not-zero, pow-not-zero}
 use Rattle.horner.proofs.laws.Ring.{mul-nil, nil-mul, neg-neg, neg-nil}
 use Rattle.horner.proofs.laws.Tests.{cond_cases}

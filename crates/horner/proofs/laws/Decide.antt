@@ -5,6 +5,7 @@ use Rattle.std.proofs.Math.Dec.{eqb_refl}
 use Rattle.horner.specs.definitions.Form.{Form, int, pop, pow, is_zero, Lead, Normal, is_pow, leads}
 use Rattle.horner.specs.definitions.Rings.{Res, res-ext, Ring}
 use Rattle.horner.proofs.laws.Tests.{is_false, and_both, and_intro}
+use Rattle.horner.specs.laws.Decide.{eq_ℤ, eq_res}
 
 -- ---- equality, by a test of coefficients
 module _ {A : Type 0} (eq : A → A → Bool) where
@@ -44,12 +45,6 @@ module _ {A : Type 0} (eq : A → A → Bool) where
   eq_form-refl r (pow i p q) =
       and_intro (eqb i i) (eq_form p p && eq_form q q) (eqb_refl i) (and_intro (eq_form p p) (eq_form q q) (eq_form-refl r p) (eq_form-refl r q))
 
-abbrev pub eq_ℤ : ℤ → ℤ → Bool
-eq_ℤ (pos a) (pos b) = eqb a b
-eq_ℤ (pos a) (negsuc b) = false
-eq_ℤ (negsuc a) (pos b) = false
-eq_ℤ (negsuc a) (negsuc b) = eqb a b
-
 pub eq_ℤ-eq : (a b : ℤ) → T (eq_ℤ a b) → a ≡ b
 eq_ℤ-eq (pos a) (pos b) t = ap pos (eqb→eq a b t)
 eq_ℤ-eq (pos a) (negsuc b) t = absurd t
@@ -59,9 +54,6 @@ eq_ℤ-eq (negsuc a) (negsuc b) t = ap negsuc (eqb→eq a b t)
 pub eq_ℤ-refl : (a : ℤ) → T (eq_ℤ a a)
 eq_ℤ-refl (pos a) = eqb_refl a
 eq_ℤ-refl (negsuc a) = eqb_refl a
-
-abbrev pub eq_res : (m : ℕ) → Res m → Res m → Bool
-eq_res m a b = eqb a.0 b.0
 
 -- forms over the integers, and over the remainders by m
 pub equal-ℤ : (x y : Form ℤ) → T (eq_form eq_ℤ x y) ↔ (x ≡ y)

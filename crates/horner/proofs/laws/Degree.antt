@@ -5,20 +5,7 @@ use Rattle.horner.specs.definitions.Form.{Form, int, pop, pow, Normal, tl, after
 use Rattle.horner.specs.definitions.Measures.{zeros, first_or0, maxs, AllLe, degrees}
 use Rattle.horner.specs.definitions.Rings.{Ring}
 use Rattle.horner.proofs.laws.Normal.{pow-level}
-
-module _ {A : Type 0} where
-  -- no power is above ds, variable by variable
-  abbrev pub Bounded : List ℕ → Form A → Type 0
-  Bounded ds (int c) = Unit {0}
-  Bounded ds (pop i p) = Bounded (after i ds) p
-  Bounded [] (pow i p q) = ⊥
-  Bounded (d ∷ ds) (pow i p q) = (i ≤ d) × Bounded ((d - i) ∷ ds) p × Bounded ds q
-
--- ---- longer bounds
-abbrev pub Below : List ℕ → List ℕ → Type 0
-Below [] es = Unit {0}
-Below (d ∷ ds) [] = ⊥
-Below (d ∷ ds) (e ∷ es) = (d ≤ e) × Below ds es
+use Rattle.horner.specs.laws.Degree.{Bounded, Below, total}
 
 pub below-refl : (ds : List ℕ) → Below ds ds
 below-refl [] = tt
@@ -148,11 +135,6 @@ module _ {A : Type 0} (R : Ring A) where
         omega (arith, r.0, b.0),
         below-maxs (tl (degrees n p)) (degrees (n - 1) q) ds r.1 (degrees-least (n - 1) ds q h.4 (omega arith) b.2),
       )
-
--- ---- all at most one number: their sum is one
-abbrev pub total : List ℕ → ℕ
-total [] = 0
-total (d ∷ ds) = d + total ds
 
 pub all-le-mono : (K L : ℕ) (ds : List ℕ) → K ≤ L → AllLe K ds → AllLe L ds
 all-le-mono K L [] h a = tt

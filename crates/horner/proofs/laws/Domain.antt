@@ -9,7 +9,8 @@ use Rattle.horner.specs.definitions.Rings.{is_zero_ℤ, ℤ_ring, Ring, nat}
 use Rattle.horner.proofs.laws.Canonical.{pos-mul-nil, ℤ-regular}
 use Rattle.horner.proofs.laws.Compare.{cmp-cases}
 use Rattle.horner.proofs.laws.Equations.{prod-pop-int, prod-pop-pop, prod-pop-pow}
-use Rattle.horner.proofs.laws.Grid.{All, vals, val-coefs, normal-coefs, zero-coefs}
+use Rattle.horner.proofs.laws.Grid.{vals, val-coefs, normal-coefs, zero-coefs}
+use Rattle.horner.specs.laws.Grid.{All}
 use Rattle.horner.proofs.laws.Normal.{normal-lower, lead-not-zero, lower-not-zero}
 use Rattle.horner.proofs.laws.Ring.{nil-add, add_left_comm, mul_left_comm, add-mul, mul-nil, nil-mul}
 use Rattle.horner.proofs.laws.Roots.{horner, Regular, roots}

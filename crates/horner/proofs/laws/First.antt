@@ -5,7 +5,7 @@ use Rattle.std.proofs.Common.{true≢false, inl, inr, sym, ◌∙◌, ap, subst,
 use Rattle.std.proofs.Math.Path.{◌≡⟨◌⟩◌, ◌∎}
 use Rattle.std.proofs.Math.Nat as NatL
 use Rattle.horner.specs.definitions.Form.{Form, int, pop, pow, is_zero, sum, scale, Normal, nats}
-use Rattle.horner.proofs.laws.Degree.{Bounded}
+use Rattle.horner.specs.laws.Degree.{Bounded}
 use Rattle.horner.specs.definitions.Measures.{AllLe}
 use Rattle.horner.specs.definitions.Points.{InBox, Before}
 use Rattle.horner.specs.definitions.Rings.{Ring, power, nat}
@@ -16,14 +16,7 @@ use Rattle.horner.proofs.laws.Roots.{Regular}
 use Rattle.horner.proofs.laws.Product.{val-scale}
 use Rattle.horner.proofs.laws.Value.{val-lower, is_zero-val, val-sum, val}
 use Rattle.horner.specs.laws.First.{least, at_first, first_point}
-
--- ---- the least number that fails a test
--- what it finds: a number below the end, that fails, and before which all pass
-pub record Least (t : ℕ → Bool) (a e r : ℕ) : Type 0 where
-  pub low : a ≤ r
-  pub high : r < e
-  pub fails : t r ≡ false
-  pub before : (b : ℕ) → a ≤ b → b < r → t b ≡ true
+use Rattle.horner.specs.laws.First.{Least}
 
 -- a test that passes at a and from a + 1 on passes from a on
 pass-from : (t : ℕ → Bool) (a e : ℕ) → t a ≡ true → ((b : ℕ) → suc a ≤ b → b < e → t b ≡ true)

@@ -6,18 +6,14 @@ use Rattle.std.proofs.Math.Path.{◌≡⟨◌⟩◌, ◌∎}
 use Rattle.std.proofs.lemmas.List.{length-map}
 use Rattle.horner.specs.definitions.Measures.{shift, coefs, AllLe}
 use Rattle.horner.specs.definitions.Form.{Form, int, pop, pow, lower, zero_form, Normal, tl, after, hd, nats}
-use Rattle.horner.proofs.laws.Degree.{Bounded}
+use Rattle.horner.specs.laws.Degree.{Bounded}
 use Rattle.horner.specs.definitions.Points.{InBox}
 use Rattle.horner.specs.definitions.Rings.{Ring, power, nat}
 use Rattle.horner.proofs.laws.Normal.{normal-lower, lead-not-zero, lower-not-zero}
 use Rattle.horner.proofs.laws.Ring.{nil-add, unit-mul, mul-nil}
 use Rattle.horner.proofs.laws.Roots.{horner, AllNil, Regular, roots}
 use Rattle.horner.proofs.laws.Value.{val-lower, Zero, val}
-
-module _ {A : Type 0} where
-  abbrev pub All : (Form A → Type 0) → List (Form A) → Type 0
-  All P [] = Unit {0}
-  All P (p ∷ ps) = P p × All P ps
+use Rattle.horner.specs.laws.Grid.{All}
 
 module _ {A : Type 0} (R : Ring A) where
   open R use {◌⊞◌, ◌·◌, nil, is_nil, add_comm, add-nil, mul_assoc, is_nil-nil}

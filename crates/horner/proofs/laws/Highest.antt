@@ -6,7 +6,8 @@ use Rattle.std.proofs.Math.Nat as NatL
 use Rattle.std.proofs.Math.ListN.{get_or-eq_default}
 use Rattle.horner.specs.definitions.Measures.{shift, coefs, coef_of, coef_at, zeros, first_or0, maxs, degrees}
 use Rattle.horner.specs.definitions.Form.{Form, int, pop, pow, is_zero, zero_form, Normal, tl}
-use Rattle.horner.proofs.laws.Degree.{Bounded, length-zeros, length-tl, length-degrees}
+use Rattle.horner.proofs.laws.Degree.{length-zeros, length-tl, length-degrees}
+use Rattle.horner.specs.laws.Degree.{Bounded}
 use Rattle.horner.specs.definitions.Points.{InBox}
 use Rattle.horner.specs.definitions.Rings.{Ring}
 use Rattle.horner.proofs.laws.Coefficients.{coef_at-zero, bounded-coef_of}

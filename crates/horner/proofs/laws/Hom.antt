@@ -8,14 +8,7 @@ use Rattle.horner.specs.definitions.Rings.{ℤ_ring, Ring, power, nat}
 use Rattle.horner.specs.laws.Integers.{ℤ-step}
 use Rattle.horner.proofs.laws.Ring.{nil-add, neg-add, add-mul, unit-mul, neg_unique, nil-mul, mul-neg, neg-of-add}
 use Rattle.horner.proofs.laws.Value.{val}
-
--- a map that keeps sums, products and 0 and 1
-pub record Hom {A B : Type 0} (R : Ring A) (S : Ring B) (f : A → B) : Type 0 where
-  pub keeps-add : (a b : A) → f (R.◌⊞◌ a b) ≡ S.◌⊞◌ (f a) (f b)
-  pub keeps-mul : (a b : A) → f (R.◌·◌ a b) ≡ S.◌·◌ (f a) (f b)
-  pub keeps-neg : (a : A) → f (R.neg a) ≡ S.neg (f a)
-  pub keeps-nil : f R.nil ≡ S.nil
-  pub keeps-unit : f R.unit ≡ S.unit
+use Rattle.horner.specs.laws.Hom.{Hom, map_form}
 
 module _ {A : Type 0} (R : Ring A) where
   open R use {◌⊞◌, neg, ◌·◌, nil, unit, add_assoc, add_comm, add-nil, add-neg, mul_comm, mul-unit}
@@ -110,11 +103,6 @@ module _ {A : Type 0} (R : Ring A) where
 
 -- ---- forms and points carried over
 module _ {A B : Type 0} (f : A → B) where
-  abbrev pub map_form : Form A → Form B
-  map_form (int c) = int (f c)
-  map_form (pop i p) = pop i (map_form p)
-  map_form (pow i p q) = pow i (map_form p) (map_form q)
-
   map-tl : (N : List A) → map f (tl N) ≡ tl (map f N)
   map-tl [] = refl
   map-tl (a ∷ N) = refl

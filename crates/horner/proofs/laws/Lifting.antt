@@ -7,12 +7,14 @@ use Rattle.std.proofs.Math.Nat as NatL
 use Rattle.std.proofs.Math.Dec.{eqb-suc-zero}
 use Rattle.horner.specs.definitions.Form.{Form, int, pop, pow, is_zero, is_pow, Lead, Normal, after}
 use Rattle.horner.specs.definitions.Rings.{is_zero_ℤ, ℤ_ring, negᵐ, red_ℤ, mod_ring, prime, prime-pos, p_ring}
-use Rattle.horner.proofs.laws.Degree.{Bounded}
+use Rattle.horner.specs.laws.Degree.{Bounded}
 use Rattle.horner.specs.definitions.Measures.{AllLe, weight_of, degrees_of, weight, degrees}
-use Rattle.horner.proofs.laws.Residues.{lift, nat-red}
-use Rattle.horner.proofs.laws.Within.{Over}
+use Rattle.horner.proofs.laws.Residues.{nat-red}
+use Rattle.horner.specs.laws.Residues.{lift}
+use Rattle.horner.specs.laws.Within.{Over}
 use Rattle.horner.specs.definitions.Term.{Term, norm_ℤ, norm_p}
-use Rattle.horner.proofs.laws.Hom.{Hom, from_ℤ, from-hom, map_form}
+use Rattle.horner.proofs.laws.Hom.{from_ℤ, from-hom}
+use Rattle.horner.specs.laws.Hom.{Hom, map_form}
 use Rattle.horner.proofs.laws.Limits.{weight-norm, length-degrees_of, bounded-norm}
 use Rattle.horner.proofs.laws.Prime.{P-regular}
 use Rattle.horner.proofs.laws.Term.{normal-norm, transfer}

@@ -5,9 +5,10 @@ use Rattle.std.proofs.Math.Nat as NatL
 use Rattle.std.proofs.lemmas.List.{length-map}
 use Rattle.horner.specs.definitions.Form.{Form, int, pow, zero_form, sum, negate, letter}
 use Rattle.horner.specs.definitions.Rings.{ℤ_ring, Ring}
-use Rattle.horner.proofs.laws.Degree.{Bounded, bounded-mono, length-zeros, after-zeros, length-maxs, maxs-left, maxs-right}
+use Rattle.horner.proofs.laws.Degree.{bounded-mono, length-zeros, after-zeros, length-maxs, maxs-left, maxs-right}
+use Rattle.horner.specs.laws.Degree.{Bounded}
 use Rattle.horner.specs.definitions.Measures.{zeros, maxs, weight_of, degrees_of, box_of, terms_of, weight, one_if, count}
-use Rattle.horner.proofs.laws.Within.{Over}
+use Rattle.horner.specs.laws.Within.{Over}
 use Rattle.horner.specs.definitions.Term.{Term, num, var, minus, plus, diff, times, expt, norm, norm_ℤ}
 use Rattle.horner.proofs.laws.Bounds.{bounded-mkpop, bounded-sum, bounded-negate, length-sums, bounded-prod, bounded-raise}
 use Rattle.horner.proofs.laws.Count.{box-pos, one-if-le, count-size, count-box}

@@ -12,6 +12,7 @@ use Rattle.horner.specs.definitions.Rings.{Ring}
 use Rattle.horner.proofs.laws.Compare.{cmp-cases}
 use Rattle.horner.proofs.laws.Tests.{cond_cases}
 use Rattle.horner.proofs.laws.Value.{size-pos, lower-fits, lower-fits', size-mkpop}
+use Rattle.horner.specs.laws.Measure.{Size}
 
 module _ {A : Type 0} (ν : A → ℕ) where
   pub meas-mkpop : (i : ℕ) (p : Form A) → meas ν (mkpop i p) ≡ meas ν p
@@ -23,13 +24,6 @@ module _ {A : Type 0} (ν : A → ℕ) where
   pub meas-lower : (i : ℕ) (p : Form A) → meas ν (lower i p) ≡ meas ν p
   meas-lower zero p = refl
   meas-lower (suc i) p = refl
-
--- what is asked of the size of a coefficient
-pub record Size {A : Type 0} (R : Ring A) (ν : A → ℕ) : Type 0 where
-  pub of_nil : ν R.nil ≡ 0
-  pub of-add : (a b : A) → ν (R.◌⊞◌ a b) ≤ ν a + ν b
-  pub of-mul : (a b : A) → ν (R.◌·◌ a b) ≤ ν a * ν b
-  pub of-neg : (a : A) → ν (R.neg a) ≡ ν a
 
 module _ {A : Type 0} (R : Ring A) (ν : A → ℕ) (S : Size R ν) where
   open R use {is_nil, is_nil-true}

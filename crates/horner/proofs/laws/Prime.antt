@@ -1,12 +1,13 @@
 -- The prime 2,147,483,647: the numbers 1 to 63 have inverses, so the grid theorem holds for forms over its remainders with degrees up to
 -- 63.
-use Rattle.std.specs.Prelude.{Bool, true, ◌&&◌, List, [], ◌∷◌, ◌⊎◌, ◌≡◌, ℕ, zero, suc, ◌<◌, ◌*◌, ◌%◌, T, eqb, get_or}
+use Rattle.std.specs.Prelude.{Bool, List, [], ◌∷◌, ◌⊎◌, ◌≡◌, ℕ, zero, suc, ◌<◌, ◌*◌, ◌%◌, T, eqb, get_or}
 use Rattle.std.proofs.Common.{inl, inr, sym, ◌∙◌, ap, subst, arith, eqb→eq}
 use Rattle.std.proofs.Math.Nat as NatL
 use Rattle.horner.specs.definitions.Rings.{mulᵐ, prime, prime-pos, p_ring}
 use Rattle.horner.proofs.laws.Residues.{nat-red, unit-regular}
 use Rattle.horner.proofs.laws.Roots.{Regular}
 use Rattle.horner.proofs.laws.Tests.{and_both}
+use Rattle.horner.specs.laws.Prime.{all_below}
 
 -- the inverse of k, at place k
 abbrev inverses : List ℕ
@@ -19,11 +20,6 @@ inverses =
     912680550 ∷ 733287099 ∷ 2096353084 ∷ 299648881 ∷ 1024935377 ∷ 811271600 ∷ 420159844 ∷ 319837990 ∷
     760567125 ∷ 1796874072 ∷ 730144440 ∷ 84215045 ∷ 371679862 ∷ 1823335172 ∷ 1391887549 ∷ 1249445031 ∷
     1572264813 ∷ 1770732130 ∷ 1221844144 ∷ 436776335 ∷ 608453700 ∷ 1443390648 ∷ 2112846814 ∷ 2113396605 ∷ []
-
--- ---- a test at each number below n
-abbrev pub all_below : ℕ → (ℕ → Bool) → Bool
-all_below zero t = true
-all_below (suc n) t = t n && all_below n t
 
 pub all-at : (n : ℕ) (t : ℕ → Bool) → T (all_below n t) → (k : ℕ) → k < n → T (t k)
 all-at zero t h k g = absurd (omega arith)

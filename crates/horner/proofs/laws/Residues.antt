@@ -1,6 +1,6 @@
 -- The numbers below m, with sums and products by remainder, are a ring. A number comes with a computed test that it is below m, which is
 -- `tt` at literals.
-use Rattle.std.specs.Prelude.{cond, ◌≡◌, refl, ℕ, zero, suc, ◌+◌, ◌-◌, ◌<◌, ◌*◌, ◌%◌, ltb, ℤ, pos, negsuc}
+use Rattle.std.specs.Prelude.{◌≡◌, refl, ℕ, zero, suc, ◌+◌, ◌-◌, ◌<◌, ◌*◌, ◌%◌}
 use Rattle.std.proofs.Common.{sym, ◌∙◌, ap, arith}
 use Rattle.std.proofs.Math.Path.{◌≡⟨◌⟩◌, ◌∎}
 use Rattle.std.proofs.Math.Nat as NatL
@@ -9,10 +9,6 @@ use Rattle.horner.specs.laws.Modulus.{mul-mod-l, mul-mod-r}
 use Rattle.horner.proofs.laws.Ring.{mul-nil}
 
 module _ (m : ℕ) (m-pos : 0 < m) where
-  -- a remainder read as an integer: itself below half of m, else what it lacks of m, negative
-  abbrev pub lift : Res m → ℤ
-  lift a = cond (ltb (a.0 * 2) m) (pos a.0) (negsuc (m - suc a.0))
-
   pub red-of : (a : Res m) → red m m-pos a.0 ≡ a
   red-of a = res-ext m m-pos (red m m-pos a.0) a (NatL.mod-eq_of_lt (below m m-pos a))
 

@@ -4,24 +4,12 @@ use Rattle.std.specs.Prelude.{cond, List, [], ◌∷◌, ℕ, zero, suc, ◌+◌
 use Rattle.std.proofs.Common.{ap, arith}
 use Rattle.std.proofs.Math.Nat as NatL
 use Rattle.horner.specs.definitions.Form.{Form, int, pop, pow, size, Lead, Normal, after}
-use Rattle.horner.proofs.laws.Degree.{Bounded, total}
+use Rattle.horner.specs.laws.Degree.{Bounded, total}
 use Rattle.horner.specs.definitions.Measures.{box, AllLe, count, nest}
 use Rattle.horner.specs.definitions.Rings.{Ring}
 use Rattle.horner.proofs.laws.Count.{box-pos, box-after, count-pos}
 use Rattle.horner.proofs.laws.Normal.{pow-not-zero, pow-level}
-
-module _ {A : Type 0} where
-  -- how many POW
-  abbrev pub pows : Form A → ℕ
-  pows (int c) = 0
-  pows (pop i p) = pows p
-  pows (pow i p q) = suc (pows p + pows q)
-
-  -- how many POP
-  abbrev pub pops : Form A → ℕ
-  pops (int c) = 0
-  pops (pop i p) = suc (pops p)
-  pops (pow i p q) = pops p + pops q
+use Rattle.horner.specs.laws.Room.{pows, pops}
 
 module _ {A : Type 0} (R : Ring A) where
   -- ---- nodes by POWs: a leaf more than POWs, and at most one POP for each POW

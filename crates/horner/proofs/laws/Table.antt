@@ -1,16 +1,17 @@
 -- "Operations on forms are limited by the same table, with these numbers for x and y": each operation's result keeps within the row of
 -- document 01's table that is worked out from its operands' own measures.
-use Rattle.std.specs.Prelude.{List, ◌≡◌, refl, ℕ, ◌+◌, ◌≤◌, ◌*◌, ◌^◌, min, ℤ, nat_abs, length}
+use Rattle.std.specs.Prelude.{List, ◌≡◌, refl, ℕ, ◌+◌, ◌≤◌, ◌*◌, ◌^◌, ℤ, nat_abs, length}
 use Rattle.std.proofs.Common.{sym, ◌∙◌, arith}
 use Rattle.std.proofs.Math.Nat as NatL
 use Rattle.std.proofs.lemmas.List.{length-map}
 use Rattle.horner.specs.definitions.Form.{Form, sum, negate, prod, raise, Normal}
 use Rattle.horner.specs.definitions.Rings.{ℤ_ring}
-use Rattle.horner.specs.definitions.Measures.{maxs, sums, multiples, box, weight_of, degrees_of, terms_of, weight, one_if, count, terms}
+use Rattle.horner.specs.definitions.Measures.{maxs, sums, multiples, weight_of, degrees_of, terms_of, weight, one_if, count, terms}
 use Rattle.horner.specs.definitions.Measures.{degrees}
-use Rattle.horner.proofs.laws.Degree.{Bounded, Below, bounded-mono, length-maxs, maxs-left, maxs-right, length-degrees}
+use Rattle.horner.proofs.laws.Degree.{bounded-mono, length-maxs, maxs-left, maxs-right, length-degrees}
+use Rattle.horner.specs.laws.Degree.{Bounded}
 use Rattle.horner.proofs.laws.Degree.{bounded-degrees, degrees-least}
-use Rattle.horner.proofs.laws.Within.{Over}
+use Rattle.horner.specs.laws.Within.{Over}
 use Rattle.horner.specs.definitions.Term.{Term, norm_ℤ}
 use Rattle.horner.proofs.laws.Bounds.{bounded-sum, bounded-negate, length-sums, bounded-prod, bounded-raise}
 use Rattle.horner.proofs.laws.Count.{box-pos, count-size, count-box}
@@ -19,12 +20,7 @@ use Rattle.horner.proofs.laws.Measure.{meas-sum, meas-negate, meas-prod, meas-ra
 use Rattle.horner.proofs.laws.Normal.{normal-sum, normal-negate, normal-prod, normal-raise}
 use Rattle.horner.proofs.laws.Term.{normal-norm}
 use Rattle.horner.proofs.laws.Weight.{weight-size, mul-pos, pow_pos}
-
--- what is known of a result z: its weight, its degrees, and its terms, cut to the box
-pub record Fits (n w : ℕ) (ds : List ℕ) (t : ℕ) (z : Form ℤ) : Type 0 where
-  pub by-weight : weight z ≤ w
-  pub by-degrees : Below (degrees n z) ds
-  pub by-terms : terms ℤ_ring z ≤ min t (box ds)
+use Rattle.horner.specs.laws.Table.{Fits}
 
 -- from a bound of the degrees and one of the terms
 fits : (n w : ℕ) (ds : List ℕ) (t : ℕ) (z : Form ℤ) → Normal ℤ_ring n z → length ds ≡ n → Bounded ds z → 1 ≤ t → weight z ≤ w

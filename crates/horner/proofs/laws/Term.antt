@@ -6,13 +6,14 @@ use Rattle.std.proofs.Math.Path.{◌≡⟨◌⟩◌, ◌∎}
 use Rattle.std.proofs.lemmas.List.{length-map}
 use Rattle.horner.specs.definitions.Form.{Form, int, pow, zero_form, sum, negate, letter, Normal, after, evalh, hd, nats}
 use Rattle.horner.specs.definitions.Rings.{ℤ_ring, Ring, power, nat}
-use Rattle.horner.proofs.laws.Degree.{Bounded}
+use Rattle.horner.specs.laws.Degree.{Bounded}
 use Rattle.horner.specs.definitions.Measures.{AllLe}
-use Rattle.horner.proofs.laws.Within.{Over}
+use Rattle.horner.specs.laws.Within.{Over}
 use Rattle.horner.specs.definitions.Term.{Term, num, var, minus, plus, diff, times, expt, evalp, norm, norm_ℤ, eval_ℤ}
 use Rattle.horner.proofs.laws.Canonical.{canon-box, canon-ℤ}
 use Rattle.horner.proofs.laws.Evalh.{evalh-val}
-use Rattle.horner.proofs.laws.Hom.{Hom, map_form, map-after, map-hd, map-power, val-map}
+use Rattle.horner.proofs.laws.Hom.{map-after, map-hd, map-power, val-map}
+use Rattle.horner.specs.laws.Hom.{Hom, map_form}
 use Rattle.horner.proofs.laws.Normal.{normal-mkpop, normal-sum, normal-negate, normal-prod, normal-raise}
 use Rattle.horner.proofs.laws.Roots.{Regular}
 use Rattle.horner.proofs.laws.Product.{val-prod, val-raise}

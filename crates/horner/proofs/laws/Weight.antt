@@ -5,7 +5,7 @@ use Rattle.std.proofs.Common.{sym, subst, arith, ltb→lt}
 use Rattle.std.proofs.Math.Nat as NatL
 use Rattle.std.proofs.Math.IntN.{sub_ℕ}
 use Rattle.horner.specs.definitions.Rings.{ℤ_ring}
-use Rattle.horner.proofs.laws.Measure.{Size}
+use Rattle.horner.specs.laws.Measure.{Size}
 use Rattle.horner.proofs.laws.Tests.{cond_cases}
 
 abs_neg : (n : ℕ) → nat_abs (neg_ℤ (pos n)) ≡ n

@@ -4,7 +4,7 @@ use Rattle.std.proofs.Common.{arith}
 use Rattle.horner.specs.definitions.Form.{size}
 use Rattle.horner.specs.definitions.Measures.{terms_of}
 use Rattle.horner.specs.definitions.Rings.{Ring}
-use Rattle.horner.proofs.laws.Within.{Over}
+use Rattle.horner.specs.laws.Within.{Over}
 use Rattle.horner.specs.definitions.Term.{Term, norm}
 use Rattle.horner.proofs.laws.Limits.{count-norm}
 use Rattle.horner.proofs.laws.Term.{normal-norm}

@@ -1,6 +1,6 @@
 -- The first point, in the row's order, at which a form that is not 0 has a value that is not 0: what it is. That it is that, and that no
 -- earlier point serves, stands in proofs/laws/First.
-use Rattle.std.specs.Prelude.{Bool, true, false, List, [], ◌∷◌, ℕ, zero, suc}
+use Rattle.std.specs.Prelude.{Bool, true, false, List, [], ◌∷◌, ℕ, zero, suc, ◌≤◌, ◌<◌, ◌≡◌}
 use Rattle.horner.specs.definitions.Form.{Form, int, pop, pow, lower, is_zero, sum, scale}
 use Rattle.horner.specs.definitions.Rings.{Ring, power, nat}
 
@@ -24,3 +24,11 @@ module _ {A : Type 0} (R : Ring A) where
   first_point (d ∷ ds) x =
       let a = least (suc d) (λ b. is_zero R (at_first x (nat R b))) 0 in
       a ∷ first_point ds (at_first x (nat R a))
+
+-- ---- the least number that fails a test
+-- what it finds: a number below the end, that fails, and before which all pass
+pub record Least (t : ℕ → Bool) (a e r : ℕ) : Type 0 where
+  pub low : a ≤ r
+  pub high : r < e
+  pub fails : t r ≡ false
+  pub before : (b : ℕ) → a ≤ b → b < r → t b ≡ true

@@ -8,7 +8,7 @@ use Rattle.horner.specs.definitions.Measures.{zeros}
 use Rattle.horner.specs.definitions.Rings.{Ring}
 use Rattle.run.specs.Merging.{Order, over, level, under, is_level, cmpℕ, first, cmp_l, Each}
 use Rattle.run.specs.Runs.{Run, Long, raise_key, total, coef_r}
-use Rattle.run.proofs.laws.Keys.{Some}
+use Rattle.run.specs.laws.Keys.{Some}
 use Rattle.run.proofs.laws.Merging.{Linear, total-cong, total-nil}
 
 module _ {A : Type 0} (R : Ring A) where

@@ -16,7 +16,8 @@ use Rattle.run.specs.Merging.{over, cmpℕ, cmp_l, rekey, Each, Falls, Solid}
 use Rattle.run.specs.Runs.{Run, Long, raise_key, Sorted, coef_r, val_r, powered, single, to_form, to_run}
 use Rattle.run.proofs.laws.Coefficients.{hit, hit-first, ups-at, down-zero, plain-at, downs-cong, ups-cong, zeros-at, raise-at}
 use Rattle.run.proofs.laws.Coefficients.{linear-hit}
-use Rattle.run.proofs.laws.Keys.{one_less, Some, some-long, long-raise, cmp-zeros, cmp-raise, raised-over}
+use Rattle.run.proofs.laws.Keys.{one_less, some-long, long-raise, cmp-zeros, cmp-raise, raised-over}
+use Rattle.run.specs.laws.Keys.{Some}
 use Rattle.run.proofs.laws.Merging.{each_map, each-push, solid-push, each_append, solid-append, falls-append}
 use Rattle.run.proofs.laws.Merging.{each-rekey, solid-rekey, falls-rekey, total-append, total-rekey, total-push, canon-run}
 use Rattle.run.proofs.laws.Orders.{ordered_l}

@@ -5,14 +5,10 @@ use Rattle.horner.specs.definitions.Measures.{zeros}
 use Rattle.run.specs.Merging.{over, first, cmp_l}
 use Rattle.run.specs.Runs.{Long, raise_key}
 use Rattle.run.proofs.laws.Orders.{cmp-add, lt-over}
+use Rattle.run.specs.laws.Keys.{Some}
 
 pub one_less : (n : ℕ) → suc n - 1 ≡ n
 one_less n = omega arith
-
--- a key of one exponent or more
-abbrev pub Some : List ℕ → Type 0
-Some [] = ⊥
-Some (k ∷ ks) = Unit {0}
 
 -- a key of some variables has a first exponent
 pub some-long : (n : ℕ) (ks : List ℕ) → 1 ≤ n → Long n ks → Some ks

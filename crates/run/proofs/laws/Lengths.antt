@@ -7,7 +7,7 @@ use Rattle.horner.specs.definitions.Form.{Form, int, pop, pow}
 use Rattle.horner.specs.definitions.Measures.{zeros, box, count}
 use Rattle.horner.specs.definitions.Rings.{Ring}
 use Rattle.horner.proofs.laws.Count.{count-box}
-use Rattle.horner.proofs.laws.Degree.{Below}
+use Rattle.horner.specs.laws.Degree.{Below}
 use Rattle.horner.proofs.laws.Tests.{cond_cases}
 use Rattle.run.specs.Merging.{Order, rekey, Each, push, purge, merge}
 use Rattle.run.specs.Runs.{Run, raise_key, Sorted, to_form, to_run}

@@ -7,7 +7,8 @@ use Rattle.horner.proofs.laws.Ring.{nil-add, add_left_comm, add-cancel}
 use Rattle.horner.proofs.laws.Tests.{cond_cases}
 use Rattle.run.specs.Merging.{Order, over, level, under, is_level, rekey, Each, Falls, Solid, push, purge, merge}
 use Rattle.run.specs.Runs.{total}
-use Rattle.run.proofs.laws.Orders.{order-cases, level-over, Ordered}
+use Rattle.run.proofs.laws.Orders.{order-cases, level-over}
+use Rattle.run.specs.laws.Orders.{Ordered}
 
 module _ {K A : Type 0} where
   -- what holds of each key, and what follows from it

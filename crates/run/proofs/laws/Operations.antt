@@ -7,7 +7,7 @@ use Rattle.horner.specs.definitions.Measures.{monomial}
 use Rattle.horner.specs.definitions.Form.{int, mkpop, zero_form, sum, negate, prod, Normal, tl, hd, nats}
 use Rattle.horner.specs.definitions.Rings.{Res, prime, p_ring, Ring, power}
 use Rattle.horner.specs.definitions.Measures.{zeros, sums, AllLe}
-use Rattle.horner.proofs.laws.Degree.{Bounded, Below}
+use Rattle.horner.specs.laws.Degree.{Bounded, Below}
 use Rattle.horner.proofs.laws.Value.{val}
 use Rattle.horner.proofs.laws.Bounds.{bounded-mkpop, bounded-mkpow, bounded-sum, bounded-prod, sums-comm, length-sums}
 use Rattle.horner.proofs.laws.Canonical.{canon-box}

@@ -4,6 +4,7 @@ use Rattle.std.proofs.Common.{sym, ◌∙◌, ap, ap₂, subst, arith}
 use Rattle.std.proofs.Math.Nat as NatL
 use Rattle.horner.specs.definitions.Measures.{sums}
 use Rattle.run.specs.Merging.{Order, over, level, under, case_order, cmpℕ, first, cmp_l}
+use Rattle.run.specs.laws.Orders.{Ordered}
 
 -- what holds in each case holds of the case that is
 pub order-cases : {B : Type 0} (o : Order) (P : B → Type 0) (f g h : Unit {0} → B)
@@ -31,13 +32,6 @@ IsUnder under = Unit {0}
 
 pub level-under : level ≡ under → ⊥
 level-under e = subst IsUnder (sym e) tt
-
--- an order of keys
-pub record Ordered {K : Type 0} (cmp : K → K → Order) : Type 0 where
-  pub self : (k : K) → cmp k k ≡ level
-  pub same : (k l : K) → cmp k l ≡ level → k ≡ l
-  pub flip : (k l : K) → cmp k l ≡ under → cmp l k ≡ over
-  pub trans : (k l m : K) → cmp k l ≡ over → cmp l m ≡ over → cmp k m ≡ over
 
 -- ---- numbers
 selfℕ : (a : ℕ) → cmpℕ a a ≡ level

@@ -4,7 +4,7 @@ use Rattle.std.proofs.Common.{sym, ◌∙◌, ap, ap₂, subst, arith}
 use Rattle.std.proofs.Math.Nat as NatL
 use Rattle.code.specs.Coding.{limits}
 use Rattle.horner.specs.definitions.Measures.{zeros, AllLe}
-use Rattle.horner.proofs.laws.Degree.{Below}
+use Rattle.horner.specs.laws.Degree.{Below}
 use Rattle.run_merge.specs.Words.{key_of}
 use Rattle.run_merge.specs.laws.Coding.{key-order}
 use Rattle.run.specs.Merging.{cmpℕ, cmp_l}

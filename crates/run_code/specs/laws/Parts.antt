@@ -11,7 +11,7 @@ use Rattle.code.specs.laws.Sizes.{size-enc}
 use Rattle.code.specs.laws.Widths.{leaf-number}
 use Rattle.horner.specs.definitions.Form.{Form, int, pop, pow, size, mkpop, mkpow, is_zero, Lead, Normal}
 use Rattle.horner.specs.definitions.Measures.{zeros}
-use Rattle.horner.proofs.laws.Degree.{Below}
+use Rattle.horner.specs.laws.Degree.{Below}
 use Rattle.run_merge.specs.Words.{pairs, is_no, Fits}
 use Rattle.run.specs.Merging.{over, cmpℕ, cmp_l, rekey, Each, Falls, Solid}
 use Rattle.run.specs.Runs.{Run, Long, raise_key, Sorted, to_form, to_run}

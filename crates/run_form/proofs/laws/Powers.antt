@@ -21,9 +21,11 @@ use Rattle.run.proofs.laws.Operations.{sums-zeros}
 use Rattle.run_merge.specs.Words.{summed, produced}
 use Rattle.run_stack.specs.Stack.{multiplied, ProductRoom, raised, PowerRoom}
 use Rattle.run_form.specs.Forms.{run_words, Low}
-use Rattle.run_form.proofs.laws.Products.{product-run, multiply-run, Few, by-box, by_count, both-room}
+use Rattle.run_form.proofs.laws.Products.{product-run, multiply-run, by-box, by_count, both-room}
+use Rattle.run_form.specs.laws.Products.{Few}
 use Rattle.run_form.proofs.laws.Sums.{same-run, key-zeros}
 use Rattle.run_form.proofs.laws.Under.{run_length}
+use Rattle.run_form.specs.laws.Powers.{FewPowers}
 
 -- no degree is above 63 where none is above 0
 pub all-zeros : (n : ℕ) → AllLe 63 (zeros n [])
@@ -65,11 +67,6 @@ module _ {n : ℕ} {ds : List ℕ} {x : Form (Res prime)} (X : Low n ds x) where
       let b : AllLe 63 (multiples (suc j) ds) = all-lower ds (suc j) (suc (suc j)) (omega arith) a in
       ap (multiplied (run_words n x)) (raise-run j b)
       ∙ multiply-run X (raise-low (suc j) b) (subst (AllLe 63) (sym (sums-multiples (suc j) ds)) a)
-
--- ---- room: the box of the k-th power is at most 256, or c to the k, x having at most c coefficients
-pub data FewPowers (ds : List ℕ) (x : Form (Res prime)) (k : ℕ) : Type 0 where
-  in-box : box (multiples k ds) ≤ 256 → FewPowers ds x k
-  in_count : (c : ℕ) → 1 ≤ c → count p_ring x ≤ c → c ^ k ≤ 256 → FewPowers ds x k
 
 -- a lower power has no more
 few-lower : {ds : List ℕ} {x : Form (Res prime)} (j k : ℕ) → j ≤ k → FewPowers ds x k → FewPowers ds x j

@@ -11,7 +11,7 @@ use Rattle.horner.specs.definitions.Measures.{sums, AllLe, box, count}
 use Rattle.horner.specs.definitions.Rings.{Res, prime, p_ring}
 use Rattle.horner.proofs.laws.Bounds.{sums-comm}
 use Rattle.horner.proofs.laws.Compare.{lt-or-ge}
-use Rattle.horner.proofs.laws.Degree.{Below}
+use Rattle.horner.specs.laws.Degree.{Below}
 use Rattle.horner.proofs.laws.Prime.{P-regular}
 use Rattle.run.specs.Merging.{Each}
 use Rattle.run.specs.Runs.{Run, Long, to_run, times_r, prod_r}
@@ -26,6 +26,7 @@ use Rattle.run_stack.specs.Stack.{multiplied, ProductRoom}
 use Rattle.run_form.specs.Forms.{run_words, Low}
 use Rattle.run_form.proofs.laws.Sums.{run_of}
 use Rattle.run_form.proofs.laws.Under.{sorted, under, small}
+use Rattle.run_form.specs.laws.Products.{Few}
 
 -- more room serves too
 producing-more : (z : List ℕ) (r : List (ℕ × ℕ)) (y : List ℕ) (w v : ℕ) → w ≤ v → Producing z r y w → Producing z r y v
@@ -91,11 +92,6 @@ module _ {n : ℕ} {ds es : List ℕ} {x y : Form (Res prime)} (X : Low n ds x) 
           → multiplied (run_words n x) (run_words n y) ≡ run_words n (prod p_ring x y)
       by (inl h) = rw (lt-leb (length (run_words n x)) (length (run_words n y)) h) swapped-run
       by (inr h) = rw (le-leb (length (run_words n x)) (length (run_words n y)) h) product-run
-
--- ---- room: the box of the result, or the product of both counts, is at most 256
-pub data Few (ds es : List ℕ) (x y : Form (Res prime)) : Type 0 where
-  by-box : box (sums ds es) ≤ 256 → Few ds es x y
-  by_count : count p_ring x * count p_ring y ≤ 256 → Few ds es x y
 
 module _ {n : ℕ} {ds es : List ℕ} {x y : Form (Res prime)} (X : Low n ds x) (Y : Low n es y) (all : AllLe 63 (sums ds es))
     (few : Few ds es x y) where

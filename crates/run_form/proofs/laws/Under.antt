@@ -4,7 +4,8 @@ use Rattle.std.proofs.Common.{◌∙◌, ap, arith}
 use Rattle.horner.specs.definitions.Form.{Form, int, pop, pow, Normal, after}
 use Rattle.horner.specs.definitions.Measures.{zeros, count}
 use Rattle.horner.specs.definitions.Rings.{Ring, Res, prime, p_ring}
-use Rattle.horner.proofs.laws.Degree.{Bounded, Below, below-zeros, below-behind, length-after}
+use Rattle.horner.proofs.laws.Degree.{below-zeros, below-behind, length-after}
+use Rattle.horner.specs.laws.Degree.{Bounded, Below}
 use Rattle.horner.proofs.laws.Normal.{pow-level}
 use Rattle.run.specs.Merging.{Each, rekey}
 use Rattle.run.specs.Runs.{Run, Long, raise_key, Sorted, to_run}

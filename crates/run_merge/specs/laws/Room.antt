@@ -10,7 +10,8 @@ use Rattle.std.proofs.lemmas.List.{length-map}
 use Rattle.horner.specs.definitions.Measures.{sums, AllLe, box}
 use Rattle.horner.specs.definitions.Rings.{Res, prime, p_ring, below, prime-pos}
 use Rattle.code.specs.Widths.{add_by, mul_by}
-use Rattle.horner.proofs.laws.Degree.{Below, all-le-below}
+use Rattle.horner.proofs.laws.Degree.{all-le-below}
+use Rattle.horner.specs.laws.Degree.{Below}
 use Rattle.run.specs.Merging.{cmpℕ, cmp_l, Each}
 use Rattle.run.specs.Runs.{Run, Long, Sorted, sum_r, times_r}
 use Rattle.run.proofs.laws.Lengths.{length-merge, length-box}

@@ -8,7 +8,8 @@ use Rattle.horner.specs.definitions.Measures.{degrees_of, multiples, AllLe}
 use Rattle.horner.specs.definitions.Rings.{red_ℤ, prime, prime-pos, p_ring}
 use Rattle.horner.specs.definitions.Term.{Term, expt, norm_p}
 use Rattle.run_form.specs.Forms.{run_words, Low}
-use Rattle.run_form.proofs.laws.Powers.{raise-run, power-room, FewPowers}
+use Rattle.run_form.proofs.laws.Powers.{raise-run, power-room}
+use Rattle.run_form.specs.laws.Powers.{FewPowers}
 use Rattle.run_form.proofs.laws.Sums.{negate-run}
 use Rattle.run_form.proofs.laws.Under.{run_fits, run_length}
 use Rattle.run_merge.specs.Words.{pairs, pushed, Fits, Wrote, summed}

@@ -8,10 +8,12 @@ use Rattle.horner.specs.definitions.Term.{Term, num, var, minus, plus, diff, tim
 use Rattle.horner.proofs.laws.Compare.{lt-or-ge}
 use Rattle.horner.proofs.laws.Limits.{length-degrees_of, bounded-norm, terms_of-pos, count-norm}
 use Rattle.horner.proofs.laws.Term.{normal-norm}
-use Rattle.horner.proofs.laws.Within.{Over}
+use Rattle.horner.specs.laws.Within.{Over}
 use Rattle.run_form.specs.Forms.{Low}
-use Rattle.run_form.proofs.laws.Powers.{FewPowers, in-box, in_count, all-zeros}
-use Rattle.run_form.proofs.laws.Products.{Few, by-box, by_count}
+use Rattle.run_form.proofs.laws.Powers.{in-box, in_count, all-zeros}
+use Rattle.run_form.specs.laws.Powers.{FewPowers}
+use Rattle.run_form.proofs.laws.Products.{by-box, by_count}
+use Rattle.run_form.specs.laws.Products.{Few}
 use Rattle.dialect.specs.Dialects.{ordinary}
 use Rattle.dialect.specs.declared.Dialect.{Dialect}
 use Rattle.text.specs.definitions.Answer as A

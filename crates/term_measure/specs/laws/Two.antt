@@ -1,7 +1,7 @@
 -- Nodes with two operands.
 use Rattle.std.specs.Prelude.{true, List, ◌≡◌, refl, ℕ, ◌+◌, ◌≤◌, ◌<◌, eqb, length}
 use Rattle.std.proofs.Common.{sym, ap, ◌∙◌, subst, arith, eq-eqb, ne_eqb}
-use Rattle.horner.proofs.laws.Within.{Over as Within}
+use Rattle.horner.specs.laws.Within.{Over as Within}
 use Rattle.text.specs.definitions.Answer.{Reading, refused}
 use Rattle.text.specs.definitions.Bytes.{is_in_row}
 use Rattle.text.specs.definitions.Limits.{measured}

@@ -3,11 +3,12 @@ use Rattle.std.specs.Prelude.{List, [], ◌∷◌, ◌++◌, ◌⊎◌, ℕ, zer
 use Rattle.std.proofs.Common.{inl, inr, ap, ◌∙◌, mul-le-mul_right, arith, length-append}
 use Rattle.horner.specs.definitions.Form.{Form, int, pop, pow, Normal, after}
 use Rattle.horner.specs.definitions.Rings.{ℤ_ring}
-use Rattle.horner.proofs.laws.Degree.{Bounded}
+use Rattle.horner.specs.laws.Degree.{Bounded}
 use Rattle.horner.specs.definitions.Measures.{AllLe, weight, one_if, count}
 use Rattle.horner.proofs.laws.Compare.{lt-or-ge}
 use Rattle.horner.proofs.laws.Normal.{pow-level}
-use Rattle.horner.proofs.laws.Room.{pows, pops, pows-count, pops-first}
+use Rattle.horner.proofs.laws.Room.{pows-count, pops-first}
+use Rattle.horner.specs.laws.Room.{pows, pops}
 use Rattle.text.specs.definitions.FormReading.{text, pop_head, pow_head}
 use Rattle.text.specs.definitions.Bytes.{decimal, write_int}
 use Rattle.text_laws.specs.laws.Numerals.{decimal-short, decimal-long, short-or-long}

@@ -5,8 +5,9 @@ use Rattle.std.proofs.Common.{arith}
 use Rattle.horner.specs.definitions.Form.{Form, Normal}
 use Rattle.horner.specs.definitions.Measures.{AllLe, box, degrees}
 use Rattle.horner.specs.definitions.Rings.{ℤ_ring}
-use Rattle.horner.proofs.laws.Degree.{Bounded, bounded-mono, bounded-degrees, all-le-below}
-use Rattle.horner.proofs.laws.Table as Table
+use Rattle.horner.proofs.laws.Degree.{bounded-mono, bounded-degrees, all-le-below}
+use Rattle.horner.specs.laws.Degree.{Bounded}
+use Rattle.horner.specs.laws.Table as Table
 use Rattle.text.specs.definitions.FormReading.{text}
 use Rattle.text_laws.specs.laws.FormAccepted.{Fits}
 use Rattle.text_laws.specs.laws.Length.{first-length}

@@ -3,7 +3,7 @@ use Rattle.std.specs.Prelude.{Bool, true, false, ◌&&◌, ◌||◌, List, [], �
 use Rattle.std.proofs.Common.{true≢false, sym, arith, leb-true}
 use Rattle.dialect.specs.Dialects.{ordinary}
 use Rattle.dialect.specs.declared.Dialect.{Dialect}
-use Rattle.horner.proofs.laws.Within.{Within, Over}
+use Rattle.horner.specs.laws.Within.{Within, Over}
 use Rattle.text.specs.definitions.Answer as A
 use Rattle.text.specs.definitions.Bytes.{read, all, capital, is_in_row, distinct, is_row, index_in}
 use Rattle.text.specs.definitions.Limits.{accept, accept_term}
