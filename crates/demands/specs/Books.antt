@@ -15,8 +15,8 @@ use Rattle.reply.specs.definitions.Calls.{Verdict, equal, different, verdict_of,
 use Rattle.reply.specs.definitions.Reply.{gives, refuses, asked, enough}
 use Rattle.book.specs.definitions.Book.{read_book, line, numbers, verdict, entry_line, entry_lines, answer, book_lines, printed, print_reply}
 use Rattle.book.specs.definitions.Meaning.{Book, variables, count, row_of, panel_of, cloud_of, each, entry_of, IsBook, BookRefused}
-use Rattle.book.specs.laws.Lines.{each-parts, lines-each, entries-counted}
-use Rattle.book.specs.laws.Meaning as Laws
+use Rattle.book.proofs.laws.Lines.{each-parts, lines-each, entries-counted}
+use Rattle.book.proofs.laws.Meaning as Laws
 
 -- ---- which bytes are a book
 -- "Byte 0 is the number of variables; then the letters; one byte with the number of entries, 1 to 64; per entry four little-endian 16-bit

@@ -45,6 +45,7 @@ fn all_hex(w: &[u8]) -> bool
 }
 
 // One to eight digits without a leading zero, or `0`.
+#[tactic(auto, using(crate::specs::Laws::digits_long))]
 fn hex_digits(w: &[u8]) -> bool
     ensures { result ≡ hex_digits w.now }
 {

@@ -21,11 +21,12 @@ use Rattle.run.proofs.laws.Operations.{sums-zeros}
 use Rattle.run_merge.specs.Words.{summed, produced}
 use Rattle.run_stack.specs.Stack.{multiplied, ProductRoom, raised, PowerRoom}
 use Rattle.run_form.specs.Forms.{run_words, Low}
-use Rattle.run_form.proofs.laws.Products.{product-run, multiply-run, by-box, by_count, both-room}
+use Rattle.run_form.proofs.laws.Products.{product-run, multiply-run, both-room}
+use Rattle.run_form.specs.laws.Products.{by-box, by_count}
 use Rattle.run_form.specs.laws.Products.{Few}
 use Rattle.run_form.proofs.laws.Sums.{same-run, key-zeros}
 use Rattle.run_form.proofs.laws.Under.{run_length}
-use Rattle.run_form.specs.laws.Powers.{FewPowers}
+use Rattle.run_form.specs.laws.Powers.{FewPowers, in-box, in_count}
 
 -- no degree is above 63 where none is above 0
 pub all-zeros : (n : ℕ) → AllLe 63 (zeros n [])

@@ -26,7 +26,7 @@ use Rattle.run_stack.specs.Stack.{multiplied, ProductRoom}
 use Rattle.run_form.specs.Forms.{run_words, Low}
 use Rattle.run_form.proofs.laws.Sums.{run_of}
 use Rattle.run_form.proofs.laws.Under.{sorted, under, small}
-use Rattle.run_form.specs.laws.Products.{Few}
+use Rattle.run_form.specs.laws.Products.{Few, by-box, by_count}
 
 -- more room serves too
 producing-more : (z : List ℕ) (r : List (ℕ × ℕ)) (y : List ℕ) (w v : ℕ) → w ≤ v → Producing z r y w → Producing z r y v

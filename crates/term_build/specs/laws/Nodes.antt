@@ -17,8 +17,10 @@ use Rattle.run_stack.specs.Stack.{raised, PowerRoom}
 use Rattle.text.specs.definitions.Bytes.{index_in}
 use Rattle.text.specs.definitions.Tree.{nesting, Tree, power}
 use Rattle.text_laws.specs.laws.Rows.{index_below}
-use Rattle.term_tree.specs.Shapes.{Codes, long, head_of, tag_of, number_of, operand, IsNum, is-num, num_of, IsLetter, is-letter, letter-of}
-use Rattle.term_tree.specs.Shapes.{IsNeg, is-neg, neg_of, IsPower, is-power, power-of, IsOne, one-neg, one_power, OneTag, one_of}
+use Rattle.term_tree.specs.Shapes.{Codes, long, head_of, tag_of, number_of, operand, IsNum, is-num, IsLetter, is-letter}
+use Rattle.term_tree.proofs.Shapes.{num_of, letter-of}
+use Rattle.term_tree.specs.Shapes.{IsNeg, is-neg, IsPower, is-power, IsOne, one-neg, one_power, OneTag}
+use Rattle.term_tree.proofs.Shapes.{neg_of, power-of, one_of}
 use Rattle.term_build.specs.Build.{Env, Given, Built, term_in, SizedIn, run_in}
 use Rattle.term_build.specs.Terms.{AllSized}
 use Rattle.term_build.specs.laws.Leaves.{int-run, code_is, wrote-begins}

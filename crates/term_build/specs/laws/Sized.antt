@@ -10,9 +10,10 @@ use Rattle.horner.proofs.laws.Limits.{length-degrees_of, bounded-norm, terms_of-
 use Rattle.horner.proofs.laws.Term.{normal-norm}
 use Rattle.horner.specs.laws.Within.{Over}
 use Rattle.run_form.specs.Forms.{Low}
-use Rattle.run_form.proofs.laws.Powers.{in-box, in_count, all-zeros}
+use Rattle.run_form.proofs.laws.Powers.{all-zeros}
+use Rattle.run_form.specs.laws.Powers.{in-box, in_count}
 use Rattle.run_form.specs.laws.Powers.{FewPowers}
-use Rattle.run_form.proofs.laws.Products.{by-box, by_count}
+use Rattle.run_form.specs.laws.Products.{by-box, by_count}
 use Rattle.run_form.specs.laws.Products.{Few}
 use Rattle.dialect.specs.Dialects.{ordinary}
 use Rattle.dialect.specs.declared.Dialect.{Dialect}

@@ -12,7 +12,8 @@ use Rattle.run_form.proofs.laws.Under.{run_length}
 use Rattle.run_merge.specs.Words.{pairs, Fits, summed}
 use Rattle.run_stack.specs.Stack.{multiplied, ProductRoom}
 use Rattle.text.specs.definitions.Tree.{Sign, add, sub, mul, signed, term_of, nesting, Tree, two}
-use Rattle.term_tree.specs.Shapes.{tag_of, number_of, Operator, is-add, is-sub, is_mul, left_of, right_of, Pair, TwoTag, pair}
+use Rattle.term_tree.specs.Shapes.{tag_of, number_of, Operator, is-add, is-sub, is_mul, left_of, right_of, Pair, TwoTag}
+use Rattle.term_tree.proofs.Shapes.{pair}
 use Rattle.term_tree.specs.Shapes.{left-shorter, right-shorter}
 use Rattle.term_build.specs.Build.{Env, Given, Built, SizedIn, run_in, left_run, right_run, joined, Joining}
 use Rattle.term_build.specs.Terms.{put, AllSized}

@@ -1,7 +1,7 @@
 -- `term_hex::hex_digits` meets its contract, by the first byte and the length.
-use Rattle.std.proofs.Common.{sym, arith, ◌<◌, length}
+use Rattle.std.proofs.Common.{sym, arith, ◌<◌, ◌≤◌, length}
 use Rattle.std.proofs.Math.Path.{◌∙◌}
-use Rattle.term_hex.specs.Laws.{digits-none, digits-zero, digits_long, digits-all}
+use Rattle.term_hex.specs.Laws.{digits-none, digits-zero, digits-all}
 use Rattle.term_hex.proofs.hex_digits.Goals as goal
 
 pub returns-then-w-eq0 : goal.returns-then-w-eq0
@@ -13,11 +13,8 @@ returns-then-w-eq48 c =
     let l : 0 < length c.args.w.now = omega arith in
     sym (digits-zero c.args.w.now l c.if-w-eq48.true)
 
-pub returns-then-w-gt8 : goal.returns-then-w-gt8
-returns-then-w-gt8 c =
-    sym (digits_long c.args.w.now c.if-w-eq48.false c.if-w-gt8.true)
-
 pub returns : goal.returns
 returns c =
     let l : 0 < length c.args.w.now = omega arith in
-    c.all_hex.ensures ∙ sym (digits-all c.args.w.now l c.if-w-eq48.false c.if-w-gt8.false)
+    let few : length c.args.w.now ≤ 8 = omega arith in
+    c.all_hex.ensures ∙ sym (digits-all c.args.w.now l c.if-w-eq48.false few)

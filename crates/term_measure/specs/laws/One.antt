@@ -14,8 +14,10 @@ use Rattle.measure.specs.declared.Measures.{Measures}
 use Rattle.measure.specs.Limits.{Meets}
 use Rattle.measure.specs.Measure.{Small, pow_m}
 use Rattle.measure.specs.Nodes.{meets-num, meets-letter, meets-neg, meets-power}
-use Rattle.term_tree.specs.Shapes.{Codes, head_of, span_in, tag_of, number_of, operand, IsNum, is-num, num_of, IsLetter, is-letter, letter-of}
-use Rattle.term_tree.specs.Shapes.{IsNeg, is-neg, neg_of, IsPower, is-power, power-of, IsOne, one-neg, one_power, OneTag, one_of}
+use Rattle.term_tree.specs.Shapes.{Codes, head_of, span_in, tag_of, number_of, operand, IsNum, is-num, IsLetter, is-letter}
+use Rattle.term_tree.proofs.Shapes.{num_of, letter-of}
+use Rattle.term_tree.specs.Shapes.{IsNeg, is-neg, IsPower, is-power, IsOne, one-neg, one_power, OneTag}
+use Rattle.term_tree.proofs.Shapes.{neg_of, power-of, one_of}
 use Rattle.term_measure.specs.declared.Measured.{Measured}
 use Rattle.term_measure.specs.declared.Measured.TheVariants.{Fits, Over}
 use Rattle.term_measure.specs.Found.{Coded, weight_in, integer_m, letter_m, judged, judged_power, Finds, MeasuredAs}

@@ -13,7 +13,8 @@ use Rattle.measure.specs.declared.Measures.{Measures}
 use Rattle.measure.specs.Limits.{Meets}
 use Rattle.measure.specs.Measure.{measures_of, Small, add_m, mul_m}
 use Rattle.measure.specs.Nodes.{meets-add, meets-mul}
-use Rattle.term_tree.specs.Shapes.{Codes, span_in, tag_of, number_of, Operator, is-add, is-sub, is_mul, left_of, right_of, Pair, TwoTag, pair}
+use Rattle.term_tree.specs.Shapes.{Codes, span_in, tag_of, number_of, Operator, is-add, is-sub, is_mul, left_of, right_of, Pair, TwoTag}
+use Rattle.term_tree.proofs.Shapes.{pair}
 use Rattle.term_tree.specs.Shapes.{left-shorter, right-shorter}
 use Rattle.term_measure.specs.declared.Measured.{Measured}
 use Rattle.term_measure.specs.declared.Measured.TheVariants.{Fits, Over}

@@ -10,8 +10,8 @@ use Rattle.book.specs.definitions.Book.{must, headed, read_book}
 use Rattle.book.specs.definitions.Meaning.{Field, each, letter_field, count_field, number_fields, fields_of, variables, count, row_of}
 use Rattle.book.specs.definitions.Meaning.{Book, part, bodies_at, bodies_end, cloud_offset, cloud_length, panel_length, AllFine, IsBook}
 use Rattle.book.specs.definitions.Meaning.{BookRefused, too_long, wrong-field, cut_field, byte-too-many}
-use Rattle.book.specs.laws.Checked.{book_of, at_end, head-check}
-use Rattle.book.specs.laws.Fields.{Outcome, all-fine, wrong-at, cut_at, outcome, check, check-fine, check-wrong, check-cut}
+use Rattle.book.proofs.laws.Checked.{book_of, at_end, head-check}
+use Rattle.book.proofs.laws.Fields.{Outcome, all-fine, wrong-at, cut_at, outcome, check, check-fine, check-wrong, check-cut}
 use Rattle.text.specs.definitions.Bytes.{read, refused_at, is_row}
 
 module _ (s : List ℕ) where

@@ -5,7 +5,7 @@ use Rattle.book.specs.definitions.Book.{must, whole, letters, body, entries, con
 use Rattle.book.specs.definitions.Meaning.{Field, field, each, variables_field, letter_field, count_field, number_fields, fields_of}
 use Rattle.book.specs.definitions.Meaning.{Book, Entry, part, number16, variables, count, row_of, numbers_at, bodies_at, bodies_end}
 use Rattle.book.specs.definitions.Meaning.{panel_of, cloud_of, panel_length, cloud_length, entry_of}
-use Rattle.book.specs.laws.Fields.{check, check-onward, check-append, onward-must}
+use Rattle.book.proofs.laws.Fields.{check, check-onward, check-append, onward-must}
 use Rattle.text.specs.definitions.Bytes.{Reading, read, refused, onward}
 
 onward-onward :
