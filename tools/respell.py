@@ -1,7 +1,7 @@
 #!/usr/bin/env python3
 """Spells the repository's own definitions and lemmas as today's Rattle does: words in snake case, facts and modules in camel case.
 
-usage: python3 tools/respell.py        at the top, once, after /opt/rattle/port/port.py
+usage: python3 tools/respell.py        at the top, once, after port.py of the kit
 
 A name that a text of specs/ or proofs/ declares is cut at its dashes, and each part that begins with a small letter and has a capital
 inside becomes words with `_` between them. A dash that joins two names, as in `size-mkpop`, stays: lemmas are called so. The definitions
@@ -109,9 +109,8 @@ def main():
         if turned != text:
             with open(path, "w", encoding="utf-8") as file:
                 file.write(turned)
-    with open("/tmp/respelled.txt", "w", encoding="utf-8") as file:
-        file.writelines(f"{name} {new}\n" for name, new in sorted(table.items()))
-    print(f"respelled: {len(table)} names (/tmp/respelled.txt)")
+    print("\n".join(f"{name} {new}" for name, new in sorted(table.items())))
+    print(f"respelled: {len(table)} names")
     return 0
 
 
