@@ -11,8 +11,6 @@ cat > "$work/crates/bench_book/src/lib.rt" << 'END'
 // For bench.c alone: the printer's answer to a book, from C.
 #![tactic(auto)]
 
-use reply::Written;
-
 // How many bytes were written, or the refusal's number.
 #[repr(C)]
 #[derive(Drop)]
@@ -32,8 +30,8 @@ pub extern "C" fn bench_print(
 ) -> BenchAnswer {
     let answer = book_print::print_book(book, out, a, b, c, d);
     match answer {
-        Written::Text(length) => BenchAnswer { length, refused: 0 },
-        Written::Refused(bad) => BenchAnswer {
+        Ok(length) => BenchAnswer { length, refused: 0 },
+        Err(bad) => BenchAnswer {
             length: 0,
             refused: bad.number,
         },

@@ -34,11 +34,12 @@ cmp "$work/again.a" "$library" || fail 'the archive made once more is another on
 
 # divides_nowhere NAME LISTING ROUTINES: no instruction divides; routines move memory and set it, and no other is called
 divides_nowhere() {
-    local called
+    local other
     [ "$(wc -l < "$2")" -gt 1000 ] || fail "$1: no listing"
     ! grep -E '\<i?div[bwlq]?\>' "$2" >&2 || fail "$1 divides"
-    called=$(sort -u "$3" | tr '\n' ' ')
-    [ "$called" = 'memmove memset ' ] || fail "$1 calls $called"
+    [ -s "$3" ] || fail "$1: no list of what it calls"
+    other=$(sort -u "$3" | grep -vxE 'memmove|memset' | tr '\n' ' ') || true
+    [ -z "$other" ] || fail "$1 calls $other"
 }
 objdump -d "$library" > "$work/archive"
 nm -u "$library" | awk '$1 == "U" { print $2 }' > "$work/asked"

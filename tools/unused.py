@@ -153,7 +153,7 @@ def read_rt(file, text):
             before |= cited
             continue
         here.words.update(WORD.findall(line), re.findall(r"\w+", line), cited)
-        here.words.update("%s::%s" % call for call in re.findall(r"(\w*)(?:::|\.)(\w+)\(", line))
+        here.words.update("%s::%s" % call for call in re.findall(r"(\w*)(?:::|\.)(\w+)(?:::<[^>]*>)?\(", line))
     needed_anyway.append(around)
 
 

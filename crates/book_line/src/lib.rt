@@ -1,13 +1,13 @@
 // The lines of the printer's answer, each written at the front of a lent buffer.
 #![tactic(auto)]
 
-ghost use Rattle.std.specs.Prelude.{[], ◌∷◌, ◌++◌, ◌≤◌, length};
+ghost use Rattle.std.specs.Prelude.{[], ◌∷◌, ◌++◌, ◌+◌, ◌≤◌, length};
 ghost use Rattle.form_write.specs.Write.{numeral, Wrote};
 ghost use Rattle.text_line.specs.Line.{different_text};
-ghost use Rattle.book_line.specs.Lines.{refused_start, refused_text, answer_text, entry_text, head_text, refusal_text};
+ghost use Rattle.book_line.specs.Lines.{spaced, ended, refused_text, answer_text, entry_text, head_text, refusal_text};
 
 use refusal::{Fault, Refusal, Side};
-use reply::Compared;
+use reply::{Compared, Comparison};
 
 // A number and the byte behind it: a space, or a line feed.
 fn put_number(n: usize, last: u8, out: &mut [u8]) -> usize
@@ -32,16 +32,15 @@ fn put_different(point: &[u32], l: u32, r: u32, out: &mut [u8]) -> usize
     n + 1
 }
 
-// `REFUSED`, and E for panel or C for cloud.
-fn put_refused(side: Side, out: &mut [u8]) -> usize
-    requires { 10 ≤ length out.old }
-    ensures { Wrote result (refused_start side) out.old out.new }
+// Words, and two numbers behind them.
+fn put_two(words: &[u8], m: usize, n: usize, out: &mut [u8]) -> usize
+    requires { length words.now + 42 ≤ length out.old }
+    ensures wrote { Wrote result ((words.now ++ spaced m) ++ ended n) out.old out.new }
+    ensures upper_bound { result ≤ length words.now + 42 }
 {
-    match side {
-        Side::Left => form_write::put(b"REFUSED E ", out),
-        Side::Right => form_write::put(b"REFUSED C ", out),
-        Side::Neither => form_write::put(b"REFUSED  ", out),
-    }
+    let a = form_write::put(words, out);
+    let b = a + put_number(m, b' ', &mut out[a..]);
+    b + put_number(n, b'\n', &mut out[b..])
 }
 
 // `REFUSED`, E for panel or C for cloud, number, place.
@@ -50,12 +49,12 @@ fn refused(bad: Refusal, out: &mut [u8]) -> usize
     ensures wrote { Wrote result (refused_text bad) out.old out.new }
     ensures upper_bound { result ≤ 139 }
 {
-    let side = bad.side;
-    let a = put_refused(side, out);
-    let k = put_number(bad.number as usize, b' ', &mut out[a..]);
-    let b = a + k;
-    let m = put_number(bad.place, b'\n', &mut out[b..]);
-    b + m
+    let words: &[u8] = match bad.side {
+        Side::Left => b"REFUSED E ",
+        Side::Right => b"REFUSED C ",
+        Side::Neither => b"REFUSED  ",
+    };
+    put_two(words, bad.number as usize, bad.place, out)
 }
 
 // The answer to a comparison, where the first point that differs is point.
@@ -66,9 +65,9 @@ fn put_answer(answer: Compared, point: &[u32], out: &mut [u8]) -> usize
     ensures upper_bound { result ≤ 139 }
 {
     match answer {
-        Compared::Same => form_write::put(b"SAME\n", out),
-        Compared::Different(l, r) => put_different(point, l, r, out),
-        Compared::Refused(bad) => refused(bad, out),
+        Ok(Comparison::Same) => form_write::put(b"SAME\n", out),
+        Ok(Comparison::Different(l, r)) => put_different(point, l, r, out),
+        Err(bad) => refused(bad, out),
     }
 }
 
@@ -80,8 +79,7 @@ pub fn put_entry(i: usize, answer: Compared, point: &[u32], out: &mut [u8]) -> u
     ensures upper_bound { result ≤ 160 }
 {
     let a = put_number(i, b' ', out);
-    let m = put_answer(answer, point, &mut out[a..]);
-    a + m
+    a + put_answer(answer, point, &mut out[a..])
 }
 
 // The first line: `BOOK`, variables, entries.
@@ -90,11 +88,7 @@ pub fn put_head(variables: usize, entries: usize, out: &mut [u8]) -> usize
     ensures wrote { Wrote result (head_text variables entries) out.old out.new }
     ensures upper_bound { result ≤ 64 }
 {
-    let a = form_write::put(b"BOOK ", out);
-    let k = put_number(variables, b' ', &mut out[a..]);
-    let b = a + k;
-    let m = put_number(entries, b'\n', &mut out[b..]);
-    b + m
+    put_two(b"BOOK ", variables, entries, out)
 }
 
 // The only line of a refused book: `BOOK REFUSED`, number, place.
@@ -102,9 +96,5 @@ pub fn put_refusal(bad: Fault, out: &mut [u8]) -> usize
     requires { 64 ≤ length out.old }
     ensures { Wrote result (refusal_text bad) out.old out.new }
 {
-    let a = form_write::put(b"BOOK REFUSED ", out);
-    let k = put_number(bad.number as usize, b' ', &mut out[a..]);
-    let b = a + k;
-    let m = put_number(bad.place, b'\n', &mut out[b..]);
-    b + m
+    put_two(b"BOOK REFUSED ", bad.number as usize, bad.place, out)
 }

@@ -1,9 +1,8 @@
 -- The lines from the book's bytes, as the printing goes.
-use Rattle.std.specs.Prelude.{true, List, [], ◌≡◌, ℕ, ◌+◌, ◌*◌, ◌≤◌, length}
+use Rattle.std.specs.Prelude.{Ok, true, List, [], ◌≡◌, ℕ, ◌+◌, ◌*◌, ◌≤◌, length}
 use Rattle.text.specs.definitions.Bytes.{Reading, read, refused, is_row}
 use Rattle.book.specs.definitions.Book.{Entry, number16, part, entries, entry_line, entry_lines}
 use Rattle.book_read.specs.Heads.{head_of}
-use Rattle.book_read.specs.declared.Head.TheVariants.{Fine}
 
 -- the book's row: the n letters behind the first byte
 pub record Row (book : List ℕ) (n : ℕ) : Type 0 where
@@ -19,7 +18,7 @@ pub record Here (book : List ℕ) (p at : ℕ) : Type 0 where
 
 -- k entries with their fields from p on and their bodies from at on, the first of which has the number i
 pub record Left (book : List ℕ) (p at i k : ℕ) : Type 0 where
-  pub fine : head_of (entries book p at k) ≡ Fine
+  pub fine : head_of (entries book p at k) ≡ Ok tt
   pub fields : p + 8 * k ≤ 600
   pub start : at ≤ 70000
   pub number : i + k ≤ 64

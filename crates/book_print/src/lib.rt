@@ -1,16 +1,14 @@
 // The printer's answer to a book.
 #![tactic(auto)]
 
-ghost use Rattle.std.specs.Prelude.{◌≡◌, ◌+◌, ◌*◌, ◌≤◌, length};
+ghost use Rattle.std.specs.Prelude.{Ok, ◌≡◌, ◌+◌, ◌*◌, ◌≤◌, length};
 ghost use Rattle.code.specs.Lengths.{Full};
 ghost use Rattle.reply.specs.definitions.Reply.{work};
 ghost use Rattle.book.specs.definitions.Book.{printed, PrintCall, read_book};
 ghost use Rattle.form_write.specs.Write.{Wrote};
 ghost use Rattle.book_read.specs.Heads.{head_of};
-ghost use Rattle.book_read.specs.declared.Head.TheVariants.{Fine};
 ghost use Rattle.book_print.specs.Print.{Row, Here, Left, page, line_at, lines_from};
 
-use book_read::Head;
 use reply::Written;
 
 // No book's answer is longer: it has a first line, and at most 64 of at most 160 bytes.
@@ -78,8 +76,7 @@ fn print_entries(
     let mid = at + book_read::number_at(book, p + 2);
     let end = mid + book_read::number_at(book, p + 6);
     let h = print_entry(book, n, p, at, i, out, a, b, c, d);
-    let m = print_entries(book, n, p + 8, end, i + 1, k - 1, &mut out[h..], a, b, c, d);
-    h + m
+    h + print_entries(book, n, p + 8, end, i + 1, k - 1, &mut out[h..], a, b, c, d)
 }
 
 // The answer to a book that is fine.
@@ -91,7 +88,7 @@ fn print_fine(
     c: &mut [u32],
     d: &mut [u32],
 ) -> usize
-    requires book_value { head_of (read_book book.now) ≡ Fine }
+    requires book_value { head_of (read_book book.now) ≡ Ok tt }
     requires full { Full (length a.old) (length b.old) (length c.old) (length d.old) }
     requires page_in_bounds { page ≤ length out.old }
     ensures { Wrote result (printed book.now) out.old out.new }
@@ -101,8 +98,7 @@ fn print_fine(
     let k = book[q] as usize;
     let p = q + 1;
     let h = book_line::put_head(n, k, out);
-    let m = print_entries(book, n, p, p + 8 * k, 0, k, &mut out[h..], a, b, c, d);
-    h + m
+    h + print_entries(book, n, p, p + 8 * k, 0, k, &mut out[h..], a, b, c, d)
 }
 
 // The answer to any book.
@@ -118,10 +114,9 @@ fn print_any(
     requires page_in_bounds { page ≤ length out.old }
     ensures { Wrote result (printed book.now) out.old out.new }
 {
-    let head = book_read::read_book(book);
-    match head {
-        Head::Refused(fault) => book_line::put_refusal(fault, out),
-        Head::Fine => print_fine(book, out, a, b, c, d),
+    match book_read::read_book(book) {
+        Ok(()) => print_fine(book, out, a, b, c, d),
+        Err(fault) => book_line::put_refusal(fault, out),
     }
 }
 
@@ -139,14 +134,14 @@ pub fn print_book(
         (work a.new b.new c.new d.new) }
 {
     if !door::enough(a.len(), b.len(), c.len(), d.len()) {
-        return Written::Refused(refusal::of_neither(2));
+        return Err(refusal::of_neither(2));
     }
     let mut text = [0u8; PAGE];
     let n = print_any(book, &mut text, a, b, c, d);
     door::clear_tables(a, b, c, d);
     if out.len() < n {
-        return Written::Refused(refusal::of_neither(11));
+        return Err(refusal::of_neither(11));
     }
     form_write::put(&text[..n], out);
-    Written::Text(n)
+    Ok(n)
 }

@@ -1,20 +1,17 @@
 -- What the functions answer for each reading.
-use Rattle.std.specs.Prelude.{List, ℕ, ◌+◌, ◌≤◌}
+use Rattle.std.specs.Prelude.{Result, Ok, Err, List, ℕ, ◌+◌, ◌≤◌}
+use Rattle.refusal.specs.declared.Fault.{Fault}
 use Rattle.text.specs.definitions.Bytes.{onward, Reading, read, refused}
 use Rattle.book.specs.definitions.Book.{body}
-use Rattle.book_read.specs.declared.Head.{Head}
-use Rattle.book_read.specs.declared.Head.TheVariants as H
-use Rattle.book_read.specs.declared.Body.{Body}
-use Rattle.book_read.specs.declared.Body.TheVariants as B
 
 -- document 01's number and place, for each case of the enum
-abbrev pub head_of : {A : Type 0} → Reading A → Head
-head_of (read a) = H.Fine
-head_of (refused bad) = H.Refused bad
+abbrev pub head_of : {A : Type 0} → Reading A → Result (Unit {0}) Fault
+head_of (read a) = Ok tt
+head_of (refused bad) = Err bad
 
-abbrev pub body_of : Reading ℕ → Body
-body_of (read n) = B.Length n
-body_of (refused bad) = B.Refused bad
+abbrev pub body_of : Reading ℕ → Result ℕ Fault
+body_of (read n) = Ok n
+body_of (refused bad) = Err bad
 
 -- the length of the two bodies of an entry together
 abbrev pub both_of : List ℕ → ℕ → ℕ → Reading ℕ

@@ -2,3 +2,4 @@ pub mod Fields
 pub mod Bodies
 pub mod Entries
 pub mod Whole
+pub mod Theorems

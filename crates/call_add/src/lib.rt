@@ -1,63 +1,41 @@
 // The call `add`: two forms' texts in, the text of their sum out.
 #![tactic(auto)]
 
-ghost use Rattle.std.specs.Prelude.{true, ◌≡◌, ◌≤◌, length};
-ghost use Rattle.code.specs.Lengths.{table};
 ghost use Rattle.horner.specs.definitions.Form.{sum};
 ghost use Rattle.horner.specs.definitions.Rings.{ℤ_ring};
-ghost use Rattle.text.specs.definitions.Bytes.{is_row};
-ghost use Rattle.reply.specs.definitions.Reply.{result_after, work};
-ghost use Rattle.reply.specs.definitions.Calls.{of_sum, two_of, AddCall};
-ghost use Rattle.door_result.specs.Result.{written_of};
-ghost use Rattle.door_forms.specs.Forms.{IsPair};
+ghost use Rattle.reply.specs.definitions.Reply.{work};
+ghost use Rattle.reply.specs.definitions.Calls.{of_sum, AddCall};
+ghost use Rattle.measure.specs.Measure.{add_m};
+ghost use Rattle.call_add.specs.laws.Add.{sum_laws};
 
 use code::TABLE;
-use door::Entry;
-use door_forms::FormPair;
+use door_forms::{FormPair, Operation};
 use measure::Measures;
 use reply::Written;
 
-// The text of the sum of two forms that stand side by side at the front of the table a, with the measures x and y.
-fn write_sum(
-    row: &[u8],
-    s: &[u8],
-    t: &[u8],
-    x: Measures,
-    n: usize,
-    y: Measures,
-    k: usize,
-    res: &mut [u8],
-    a: &mut [u32],
-    b: &mut [u32],
-) -> Written
-    requires row_len_bound { (length row.now ≤ 4) × ((table ≤ length a.old) × (table ≤ length b.old)) }
-    requires pair { IsPair (length row.now) s.now t.now x n y k a.old }
-    ensures value { result ≡ written_of (two_of (of_sum (length row.now)) (sum ℤ_ring) row.now s.now
-        t.now (length res.old)) }
-    ensures res_after { res.new ≡ result_after (two_of (of_sum (length row.now)) (sum ℤ_ring) row.now
-        s.now t.now (length res.old)) res.old }
-{
-    let e = measure::limit_of(measure::add(x, y));
-    if e != 0 {
-        return Written::Refused(refusal::of_neither(e));
-    }
-    let words = code_pair::add(a, n, k, &mut b[..TABLE]);
-    door_result::write_result(&a[..words], res)
-}
+struct Sum;
 
-// The text of the sum of the forms s and t, where the row is proper and the tables are long enough.
-fn add_of(row: &[u8], s: &[u8], t: &[u8], res: &mut [u8], a: &mut [u32], b: &mut [u32]) -> Written
-    requires row_value { is_row row.now ≡ true }
-    requires table_in_bounds { (table ≤ length a.old) × (table ≤ length b.old) }
-    ensures value { result ≡ written_of (two_of (of_sum (length row.now)) (sum ℤ_ring) row.now s.now
-        t.now (length res.old)) }
-    ensures res_after { res.new ≡ result_after (two_of (of_sum (length row.now)) (sum ℤ_ring) row.now
-        s.now t.now (length res.old)) res.old }
-{
-    let pair = door_forms::read_pair(row.len(), s, t, a);
-    match pair {
-        FormPair::Refused(bad) => Written::Refused(bad),
-        FormPair::Forms(x, n, y, k) => write_sum(row, s, t, x, n, y, k, res, a, b),
+impl Operation for Sum {
+    ghost measured = { of_sum };
+
+    ghost found = { add_m };
+
+    ghost op = { sum ℤ_ring };
+
+    ghost laws = { sum_laws };
+
+    fn measure(x: Measures, y: Measures) -> Measures {
+        measure::add(x, y)
+    }
+
+    fn combine(
+        pair: FormPair,
+        a: &mut [u32],
+        b: &mut [u32],
+        _c: &mut [u32],
+        _d: &mut [u32],
+    ) -> usize {
+        code_pair::add(a, pair.left.words, pair.right.words, &mut b[..TABLE])
     }
 }
 
@@ -77,11 +55,5 @@ pub fn add(
         (work a.old b.old c.old d.old)
         (work a.new b.new c.new d.new) }
 {
-    let entry = door::ready(row, a.len(), b.len(), c.len(), d.len());
-    if let Entry::Refused(bad) = entry {
-        return Written::Refused(bad);
-    }
-    let answer = add_of(row, s, t, res, a, b);
-    door::clear_tables(a, b, c, d);
-    answer
+    door_forms::operate::<Sum>(row, s, t, res, a, b, c, d)
 }

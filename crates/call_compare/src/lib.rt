@@ -4,7 +4,6 @@
 ghost use Rattle.reply.specs.definitions.Reply.{work};
 ghost use Rattle.reply.specs.definitions.Calls.{CompareCall};
 
-use door::Entry;
 use reply::Compared;
 
 // Compares the terms s and t over the row. On 'different' the first point stands at the front of the point buffer. The work tables are
@@ -23,12 +22,9 @@ pub fn compare(
         (work a.old b.old c.old d.old)
         (work a.new b.new c.new d.new) }
 {
-    let entry = door::ready(row, a.len(), b.len(), c.len(), d.len());
-    if let Entry::Refused(bad) = entry {
-        return Compared::Refused(bad);
-    }
+    door::ready(row, a.len(), b.len(), c.len(), d.len())?;
     if point.len() < row.len() {
-        return Compared::Refused(refusal::of_neither(2));
+        return Err(refusal::of_neither(2));
     }
     let answer = door_compare::compare_of(row, s, t, point, a, b, c, d);
     door::clear_tables(a, b, c, d);

@@ -1,32 +1,34 @@
--- The enum that `counters` answers, for each reply.
-use Rattle.std.specs.Prelude.{Bool, true, false, ◌≡◌, refl}
+-- What `counters` answers for each reply, and what it makes of a width.
+use Rattle.std.specs.Prelude.{Result, Ok, Err, Bool, cond, List, ◌≡◌, refl, ℕ}
 use Rattle.std.proofs.Common.{ap, ◌∙◌}
-use Rattle.reply.specs.declared.Counted.{Counted}
-use Rattle.reply.specs.declared.Counted.TheVariants.{Same, Different, Refused}
-use Rattle.reply.specs.definitions.Calls.{told_counted, Counts}
-use Rattle.reply.specs.definitions.Reply.{Reply, gives, refuses, Work}
-
-abbrev pub answer_of : Bool → Counted
-answer_of true = Same
-answer_of false = Different
+use Rattle.refusal.specs.Refusal.{of_neither}
+use Rattle.refusal.specs.declared.Refusal.{Refusal}
+use Rattle.reply.specs.definitions.Calls.{Counts, is_width, bits, counters_of}
+use Rattle.reply.specs.definitions.Reply.{told, Counted, Reply, gives, refuses, asked, Work}
 
 abbrev pub counted_of : Reply Bool → Counted
-counted_of (gives b) = answer_of b
-counted_of (refuses bad) = Refused bad
+counted_of (gives b) = Ok b
+counted_of (refuses bad) = Err bad
 
 -- it is the one that tells the reply
-pub tells-counted : (x : Reply Bool) → told_counted (counted_of x) ≡ x
-tells-counted (gives true) = refl
-tells-counted (gives false) = refl
+pub tells-counted : (x : Reply Bool) → told (counted_of x) ≡ x
+tells-counted (gives b) = refl
 tells-counted (refuses bad) = refl
 
-enum_told : (r : Counted) → r ≡ counted_of (told_counted r)
-enum_told Same = refl
-enum_told Different = refl
-enum_told (Refused bad) = refl
+enum_told : (r : Counted) → r ≡ counted_of (told r)
+enum_told (Ok b) = refl
+enum_told (Err bad) = refl
 
-one-counted : {r : Counted} {x : Reply Bool} → told_counted r ≡ x → r ≡ counted_of x
+one-counted : {r : Counted} {x : Reply Bool} → told r ≡ x → r ≡ counted_of x
 one-counted {r} e = enum_told r ∙ ap counted_of e
 
 pub is-counted : {x : Reply Bool} {r : Counted} {w w' : Work} → Counts x r w w' → r ≡ counted_of x
 is-counted h = one-counted h.answer
+
+-- how many bits a width stands for, or 14
+abbrev pub width_of : ℕ → Result ℕ Refusal
+width_of w = cond (is_width w) (Ok (bits w)) (Err (of_neither 14))
+
+-- what the call replies where the row and the tables are not refused
+abbrev pub inner : (row : List ℕ) (w : ℕ) (s t : List ℕ) → Reply Bool
+inner row w s t = asked (is_width w) 14 (λ v. counters_of row w s t)

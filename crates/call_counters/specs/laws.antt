@@ -1,2 +1,3 @@
 pub mod Widths
 pub mod Whole
+pub mod Theorems

@@ -8,10 +8,8 @@ ghost use Rattle.reply.specs.definitions.Calls.{form_of, FormCall};
 ghost use Rattle.code.specs.Lengths.{Long};
 ghost use Rattle.door_result.specs.Result.{written_of};
 
-use door::Entry;
 use refusal::Side;
 use reply::Written;
-use term_read::TermReading;
 
 // The form's text of the term s, where the row is proper and the tables are long enough.
 fn form_of(
@@ -30,10 +28,8 @@ fn form_of(
         res.old }
 {
     let reading = term_read::read_term(row, s, a, b, c, d);
-    match reading {
-        TermReading::Refused(fault) => Written::Refused(refusal::on_side(Side::Left, fault)),
-        TermReading::Words(n) => door_result::write_result(&a[..n], res),
-    }
+    let n = reading.map_err(|fault| refusal::on_side(Side::Left, fault))?;
+    door_result::write_result(&a[..n], res)
 }
 
 // The form's text of the term s over the row, at the front of the result buffer; or a refusal. The work tables are cleared, but not where
@@ -51,10 +47,7 @@ pub fn form(
         (work a.old b.old c.old d.old)
         (work a.new b.new c.new d.new) }
 {
-    let entry = door::ready(row, a.len(), b.len(), c.len(), d.len());
-    if let Entry::Refused(bad) = entry {
-        return Written::Refused(bad);
-    }
+    door::ready(row, a.len(), b.len(), c.len(), d.len())?;
     let answer = form_of(row, s, res, a, b, c, d);
     door::clear_tables(a, b, c, d);
     answer

@@ -8,8 +8,6 @@ ghost use Rattle.reply.specs.definitions.Reply.{work};
 ghost use Rattle.reply.specs.definitions.Calls.{form_remainder_of, FormRemainderCall};
 ghost use Rattle.door_point.specs.Point.{remaindered_of};
 
-use door::Entry;
-use form_read::FormReading;
 use refusal::Side;
 use reply::Remaindered;
 
@@ -27,15 +25,10 @@ fn form_remainder_of(
     ensures { result ≡ remaindered_of (form_remainder_of row.now s.now point.now) }
 {
     let reading = form_read::read_form(row.len(), s, a);
-    match reading {
-        FormReading::Refused(fault) => Remaindered::Refused(refusal::on_side(Side::Left, fault)),
-        FormReading::Form(_, n) => {
-            door_point::put_point(point, b);
-            let k = point.len();
-            let v = code_walk::value(0, &a[..n], &b[..k]);
-            Remaindered::Remainder(v)
-        }
-    }
+    let form = reading.map_err(|fault| refusal::on_side(Side::Left, fault))?;
+    door_point::put_point(point, b);
+    let v = code_walk::value(0, &a[..form.words], &b[..point.len()]);
+    Ok(v)
 }
 
 // The remainder by P of the value of the form s over the row, at a point of signed coordinates; or a refusal. The work tables are cleared,
@@ -53,15 +46,10 @@ pub fn form_remainder(
         (work a.old b.old c.old d.old)
         (work a.new b.new c.new d.new) }
 {
-    let entry = door::ready(row, a.len(), b.len(), c.len(), d.len());
-    if let Entry::Refused(bad) = entry {
-        return Remaindered::Refused(bad);
-    }
-    let n = point.len();
-    let k = row.len();
-    if n != k {
+    door::ready(row, a.len(), b.len(), c.len(), d.len())?;
+    if point.len() != row.len() {
         door::clear_tables(a, b, c, d);
-        return Remaindered::Refused(refusal::of_neither(12));
+        return Err(refusal::of_neither(12));
     }
     let answer = form_remainder_of(row, s, point, a, b);
     door::clear_tables(a, b, c, d);

@@ -3,7 +3,6 @@
 
 ghost use Rattle.reply.specs.definitions.Calls.{JudgeCall};
 
-use form_build::FormJudged;
 use refusal::Side;
 use reply::Judged;
 
@@ -12,11 +11,8 @@ pub fn judge(row: &[u8], s: &[u8]) -> Judged
     ensures { JudgeCall row.now s.now result }
 {
     if !door::is_row(row) {
-        return Judged::Refused(refusal::of_neither(1));
+        return Err(refusal::of_neither(1));
     }
-    let judged = form_read::accept_form(row.len(), s);
-    match judged {
-        FormJudged::Refused(fault) => Judged::Refused(refusal::on_side(Side::Left, fault)),
-        FormJudged::Form(_) => Judged::Form,
-    }
+    form_read::accept_form(row.len(), s).map_err(|fault| refusal::on_side(Side::Left, fault))?;
+    Ok(())
 }

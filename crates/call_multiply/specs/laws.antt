@@ -1,1 +1,2 @@
 pub mod Multiply
+pub mod Theorems

@@ -1,1 +1,2 @@
 pub mod Negate
+pub mod Theorems

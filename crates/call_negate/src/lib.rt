@@ -8,8 +8,6 @@ ghost use Rattle.reply.specs.definitions.Reply.{result_after, work};
 ghost use Rattle.reply.specs.definitions.Calls.{negate_of, NegateCall};
 ghost use Rattle.door_result.specs.Result.{written_of};
 
-use door::Entry;
-use form_read::FormReading;
 use refusal::Side;
 use reply::Written;
 
@@ -22,13 +20,9 @@ fn negate_of(row: &[u8], s: &[u8], res: &mut [u8], a: &mut [u32], b: &mut [u32])
         res.old }
 {
     let reading = form_read::read_form(row.len(), s, a);
-    match reading {
-        FormReading::Refused(fault) => Written::Refused(refusal::on_side(Side::Left, fault)),
-        FormReading::Form(_, n) => {
-            let k = code_walk::negate(0, &a[..n], b);
-            door_result::write_result(&b[..k], res)
-        }
-    }
+    let form = reading.map_err(|fault| refusal::on_side(Side::Left, fault))?;
+    let k = code_walk::negate(0, &a[..form.words], b);
+    door_result::write_result(&b[..k], res)
 }
 
 // The text of the negative of the form s over the row, at the front of the result buffer; or a refusal. The work tables are cleared, but
@@ -46,10 +40,7 @@ pub fn negate(
         (work a.old b.old c.old d.old)
         (work a.new b.new c.new d.new) }
 {
-    let entry = door::ready(row, a.len(), b.len(), c.len(), d.len());
-    if let Entry::Refused(bad) = entry {
-        return Written::Refused(bad);
-    }
+    door::ready(row, a.len(), b.len(), c.len(), d.len())?;
     let answer = negate_of(row, s, res, a, b);
     door::clear_tables(a, b, c, d);
     answer

@@ -1,1 +1,2 @@
 pub mod Raise
+pub mod Theorems

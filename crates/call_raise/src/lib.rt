@@ -1,50 +1,16 @@
 // The call `raise`: a form's text in, the text of its power out.
 #![tactic(auto)]
 
-ghost use Rattle.std.specs.Prelude.{true, ◌≡◌, ◌≤◌, length};
+ghost use Rattle.std.specs.Prelude.{true, ◌≡◌, length};
 ghost use Rattle.text.specs.definitions.Bytes.{is_row};
 ghost use Rattle.reply.specs.definitions.Reply.{result_after, work};
 ghost use Rattle.reply.specs.definitions.Calls.{raise_of, RaiseCall};
 ghost use Rattle.code.specs.Lengths.{Long};
 ghost use Rattle.door_result.specs.Result.{written_of};
-ghost use Rattle.form_read.specs.Read.{IsForm};
 
 use code::TABLE;
-use door::Entry;
-use form_read::FormReading;
-use measure::Measures;
 use refusal::Side;
 use reply::Written;
-
-// The text of the k-th power of the form in the first n words of the table a, with the measures x.
-fn write_power(
-    row: &[u8],
-    s: &[u8],
-    x: Measures,
-    n: usize,
-    k: u32,
-    res: &mut [u8],
-    a: &mut [u32],
-    b: &mut [u32],
-    c: &mut [u32],
-    d: &mut [u32],
-) -> Written
-    requires row_len_bound { (length row.now ≤ 4) × Long (length a.old) (length b.old) (length c.old) (length d.old) }
-    requires form { IsForm (length row.now) s.now x n a.old }
-    ensures value { result ≡ written_of (raise_of row.now s.now k (length res.old)) }
-    ensures res_after { res.new ≡ result_after (raise_of row.now s.now k (length res.old))
-        res.old }
-{
-    if 63 < k {
-        return Written::Refused(refusal::of_neither(8));
-    }
-    let e = measure::limit_of(measure::raise(x, k));
-    if e != 0 {
-        return Written::Refused(refusal::of_neither(e));
-    }
-    let words = code_power::raise(0, a, n, k, &mut b[..TABLE], &mut c[..TABLE], &mut d[..6146]);
-    door_result::write_result(&a[..words], res)
-}
 
 // The text of the k-th power of the form s, where the row is proper and the tables are long enough.
 fn raise_of(
@@ -64,10 +30,15 @@ fn raise_of(
         res.old }
 {
     let reading = form_read::read_form(row.len(), s, a);
-    match reading {
-        FormReading::Refused(fault) => Written::Refused(refusal::on_side(Side::Left, fault)),
-        FormReading::Form(x, n) => write_power(row, s, x, n, k, res, a, b, c, d),
+    let form = reading.map_err(|fault| refusal::on_side(Side::Left, fault))?;
+    if 63 < k {
+        return Err(refusal::of_neither(8));
     }
+    let found = measure::raise(form.measures, k);
+    measure::within(found).map_err(refusal::of_neither)?;
+    let n = form.words;
+    let words = code_power::raise(0, a, n, k, &mut b[..TABLE], &mut c[..TABLE], &mut d[..6146]);
+    door_result::write_result(&a[..words], res)
 }
 
 // The text of the k-th power of the form s over the row, at the front of the result buffer; or a refusal. The work tables are cleared, but
@@ -86,10 +57,7 @@ pub fn raise(
         (work a.old b.old c.old d.old)
         (work a.new b.new c.new d.new) }
 {
-    let entry = door::ready(row, a.len(), b.len(), c.len(), d.len());
-    if let Entry::Refused(bad) = entry {
-        return Written::Refused(bad);
-    }
+    door::ready(row, a.len(), b.len(), c.len(), d.len())?;
     let answer = raise_of(row, s, k, res, a, b, c, d);
     door::clear_tables(a, b, c, d);
     answer

@@ -8,10 +8,8 @@ ghost use Rattle.reply.specs.definitions.Calls.{remainder_of, RemainderCall};
 ghost use Rattle.code.specs.Lengths.{Long};
 ghost use Rattle.door_point.specs.Point.{remaindered_of};
 
-use door::Entry;
 use refusal::Side;
 use reply::Remaindered;
-use term_read::TermReading;
 
 // The remainder of the term s at the point, where the row is proper, the tables are long enough and the point is as long as the row.
 fn remainder_of(
@@ -29,15 +27,10 @@ fn remainder_of(
     ensures { result ≡ remaindered_of (remainder_of row.now s.now point.now) }
 {
     let reading = term_read::read_term(row, s, a, b, c, d);
-    match reading {
-        TermReading::Refused(fault) => Remaindered::Refused(refusal::on_side(Side::Left, fault)),
-        TermReading::Words(n) => {
-            door_point::put_point(point, b);
-            let k = point.len();
-            let v = code_walk::value(0, &a[..n], &b[..k]);
-            Remaindered::Remainder(v)
-        }
-    }
+    let n = reading.map_err(|fault| refusal::on_side(Side::Left, fault))?;
+    door_point::put_point(point, b);
+    let v = code_walk::value(0, &a[..n], &b[..point.len()]);
+    Ok(v)
 }
 
 // The remainder by P of the value of the term s over the row, at a point of signed coordinates; or a refusal. The work tables are cleared,
@@ -55,15 +48,10 @@ pub fn remainder(
         (work a.old b.old c.old d.old)
         (work a.new b.new c.new d.new) }
 {
-    let entry = door::ready(row, a.len(), b.len(), c.len(), d.len());
-    if let Entry::Refused(bad) = entry {
-        return Remaindered::Refused(bad);
-    }
-    let n = point.len();
-    let k = row.len();
-    if n != k {
+    door::ready(row, a.len(), b.len(), c.len(), d.len())?;
+    if point.len() != row.len() {
         door::clear_tables(a, b, c, d);
-        return Remaindered::Refused(refusal::of_neither(12));
+        return Err(refusal::of_neither(12));
     }
     let answer = remainder_of(row, s, point, a, b, c, d);
     door::clear_tables(a, b, c, d);

@@ -1,4 +1,4 @@
 pub mod Lists
 pub mod Regions
-pub mod Leaves
 pub mod Making
+mod Placed

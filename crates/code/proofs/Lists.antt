@@ -1,9 +1,9 @@
 -- Laws of lists: parts of a slice as the borrow checker writes them, and what a slice begins with.
 -- Assumes nothing.
-use Rattle.std.proofs.Common.{◌≡◌, ℕ, zero, suc, ◌+◌, ◌-◌, ◌<◌, ◌≤◌, List, [], ◌∷◌, ◌++◌, length, get_or, take, drop, set, sym, refl}
-use Rattle.std.proofs.Common.{ap, ◌∙◌, subst, append_assoc, add-one, arith, length-append, length-drop, length-set, length-take}
-use Rattle.std.proofs.Common.{length-take-le, get_or-drop, drop-cons, take-suc, take-take, take_at, get_or-append-add}
-use Rattle.std.proofs.Math.Seq.{take-nil, take-append-add, set_at}
+use Rattle.std.proofs.Common.{◌≡◌, ℕ, zero, suc, ◌+◌, ◌-◌, ◌<◌, ◌≤◌, List, [], ◌∷◌, ◌++◌, length, take, drop, set, sym, refl}
+use Rattle.std.proofs.Common.{ap, ◌∙◌, subst, arith, length-append, length-drop, length-set, length-take}
+use Rattle.std.proofs.Common.{length-take-le, take-take, take_at}
+use Rattle.std.proofs.Math.Seq.{take-nil, take-append-add}
 use Rattle.std.proofs.lemmas.List.{take-append-le}
 use borrow.Rule.Slice.PartMut.{put_mid}
 use Rattle.code.specs.Coding.{Begins}
@@ -40,35 +40,6 @@ begins-tail {a} {b} {l} {l'} {w} {e} f g =
       size = omega (arith, f.size, g.size, length-append l l');
       is = rw (f.is, f.size, take-append-add l (e ++ post) b, take-append-le b e post, g.is);
     }
-
--- One more word of x is written over d, from the front.
-pub copy_more :
-    (x d : List ℕ) (k : ℕ) → k < length x → k < length d → set (take k x ++ drop k d) k (get_or x k 0) ≡ take (k + 1) x ++ drop (k + 1) d
-copy_more x d k h l =
-    rw (
-      add-one,
-      drop-cons d k 0,
-      set_at (take k x) (get_or d k 0) (drop (suc k) d) (get_or x k 0) k (length-take-le k x (omega arith)),
-      take-suc x k 0,
-      append_assoc,
-    )
-
--- A word at or after k is not changed yet.
-pub copy-ahead : (x d : List ℕ) (k i : ℕ) → k ≤ length x → get_or (take k x ++ drop k d) (i + k) 0 ≡ get_or d (i + k) 0
-copy-ahead x d k i h =
-    let e : i + k ≡ length (take k x) + i = omega (arith, length-take-le k x h) in
-    let f : length (take k x) + i ≡ k + i = omega (arith, length-take-le k x h) in
-    let g : k + i ≡ i + k = omega arith in
-    rw e (get_or-append-add (take k x) (drop k d) i 0 ∙ get_or-drop k d i 0 ∙ ap (λ n. get_or d n 0) (sym f))
-
--- One more word of d is moved down by gap.
-pub shift-more :
-    (d s : List ℕ) (gap k : ℕ) → gap + k < length d → s ≡ take k (drop gap d) ++ drop k d →
-    set s k (get_or s (gap + k) 0) ≡ take (k + 1) (drop gap d) ++ drop (k + 1) d
-shift-more d s gap k h e =
-    let l : k < length (drop gap d) = rw length-drop (omega arith) in
-    let f = copy-ahead (drop gap d) d k gap (omega arith) in
-    rw (e, f, ← get_or-drop gap d k 0) (copy_more (drop gap d) d k l (omega arith))
 
 -- the first n + m words, in two
 pub front_of : (n m : ℕ) (l : List ℕ) → take n (take (n + m) l) ≡ take n l

@@ -3,4 +3,5 @@ pub mod Widths
 pub mod Coding
 pub mod Operations
 pub mod Lengths
+pub mod Heads
 pub mod laws

@@ -1,5 +1,6 @@
 // Forms coded in slices: a form is a slice of words in prefix order (specs/Coding). Here are the sums and products of leaves, and what
-// puts a form together in place. Every function is handed the width of the ring; only those of leaves look at it.
+// puts a form together in place. Every function is handed the width of the ring; only those of leaves look at it. The width is the number
+// of bits of a counter, 0 for the remainders by P. It stays a number: the rings and their laws (specs/Widths) are over every number.
 #![tactic(auto)]
 
 ghost use Rattle.std.specs.Prelude.{◌≡◌, ◌+◌, ◌*◌, ◌%◌, ◌<◌, ◌≤◌, ◌∷◌, ◌++◌, length, take, drop};
@@ -7,14 +8,50 @@ ghost use Rattle.code.specs.Widths.{add_by, neg_by, mul_by, pow_by, modulus};
 ghost use Rattle.horner.specs.definitions.Form.{pow};
 ghost use Rattle.code.specs.Coding.{Coded, Good, Begins, Made, RoomUnder, dec};
 ghost use Rattle.code.specs.Operations.{pop_of, pow_of};
-
-use std::num::{wrapping_add_u16, wrapping_sub_u16};
+ghost use Rattle.code.specs.Heads.{HeadIs};
 
 // The fixed length of a work table, in words.
 pub const TABLE: usize = 16384;
 
 // A head word from here on is a node's; one below is a leaf.
 pub const NODE: u32 = 2147483648;
+
+// What the first word of a coded form says.
+#[derive(Clone, Copy, Debug, PartialEq, Eq)]
+pub enum Head {
+    Leaf(u32),
+    // its exponent
+    Pop(u32),
+    // its exponent, and how many words its p takes
+    Pow(u32, usize),
+}
+
+// What the word w says.
+#[inline(always)]
+pub fn head_of(w: u32) -> Head
+    ensures { HeadIs w result }
+{
+    if w < NODE {
+        return Head::Leaf(w);
+    }
+    let s = (w - NODE) / 64;
+    if s == 0 {
+        Head::Pop(w % 64)
+    } else {
+        Head::Pow(w % 64, s as usize)
+    }
+}
+
+// The number of leaves in the ring of a width.
+pub fn modulus_of(width: u32) -> u32
+    ensures { result ≡ modulus width }
+{
+    match width {
+        8 => 256,
+        16 => 65536,
+        _ => 2147483647,
+    }
+}
 
 // The low 8 bits of a counter.
 fn low8(a: u16) -> u16
@@ -27,25 +64,23 @@ fn low8(a: u16) -> u16
 pub fn leaf_of(width: u32, n: u64) -> u32
     ensures { (result ≡ n % modulus width) × (result < modulus width) }
 {
-    if width == 16 {
-        return (n % 65536) as u32;
+    match width {
+        8 => (n % 256) as u32,
+        16 => (n % 65536) as u32,
+        _ => code_remainder::by_p(n),
     }
-    if width == 8 {
-        return (n % 256) as u32;
-    }
-    code_remainder::by_p(n)
 }
 
-// The sum of two leaves: counters wrap.
+// The sum of two leaves. "Counter sums wrap at that many bits, on purpose."
 pub fn leaf_sum(width: u32, a: u32, b: u32) -> u32
     requires { (a < modulus width) × (b < modulus width) }
     ensures { (result ≡ add_by (modulus width) a b) × (result < modulus width) }
 {
     if width == 16 {
-        return wrapping_add_u16(a as u16, b as u16) as u32;
+        return (a as u16).wrapping_add(b as u16) as u32;
     }
     if width == 8 {
-        return low8(wrapping_add_u16(a as u16, b as u16)) as u32;
+        return low8((a as u16).wrapping_add(b as u16)) as u32;
     }
     code_remainder::by_p((a + b) as u64)
 }
@@ -56,10 +91,10 @@ pub fn leaf_negation(width: u32, a: u32) -> u32
     ensures { (result ≡ neg_by (modulus width) a) × (result < modulus width) }
 {
     if width == 16 {
-        return wrapping_sub_u16(0, a as u16) as u32;
+        return 0u16.wrapping_sub(a as u16) as u32;
     }
     if width == 8 {
-        return low8(wrapping_sub_u16(0, a as u16)) as u32;
+        return low8(0u16.wrapping_sub(a as u16)) as u32;
     }
     code_remainder::by_p((2147483647 - a) as u64)
 }
@@ -78,10 +113,8 @@ pub fn leaf_power(width: u32, a: u32, i: u32) -> u32
     ensures { (result ≡ pow_by (modulus width) a i) × (result < modulus width) }
 {
     let mut r = 1;
-    let mut k = 0;
-    while k < i {
+    for k in 0..i {
         r = leaf_product(width, a, r);
-        k += 1;
     }
     r
 }
@@ -91,11 +124,7 @@ fn shift(s: &mut [u32], gap: usize, n: usize)
     requires { gap + n ≤ length s.old }
     ensures { s.new ≡ take n (drop gap s.old) ++ drop n s.old }
 {
-    let mut k = 0;
-    while k < n {
-        s[k] = s[gap + k];
-        k += 1;
-    }
+    s.copy_within(gap..gap + n, 0);
 }
 
 // Writes x at the front of out. What lies after it stays.
@@ -103,11 +132,7 @@ pub fn copy(x: &[u32], out: &mut [u32])
     requires { length x.now ≤ length out.old }
     ensures { out.new ≡ x.now ++ drop (length x.now) out.old }
 {
-    let mut k = 0;
-    while k < x.len() {
-        out[k] = x[k];
-        k += 1;
-    }
+    out[..x.len()].copy_from_slice(x);
 }
 
 // out holds a free word, and then a form of n words. Makes it pop(i, the form) (Definition 7), in place, and returns its length.
@@ -118,19 +143,21 @@ pub fn make_pop(width: u32, out: &mut [u32], i: u32, n: usize) -> usize
     requires good { Good width (pop_of width i (dec width (take n (drop 1 out.old)))) }
     ensures { Made width (pop_of width i (dec width (take n (drop 1 out.old)))) result out.new }
 {
-    let w = out[1];
-    if w < NODE {
-        out[0] = w;
-        return 1;
+    match head_of(out[1]) {
+        Head::Leaf(a) => {
+            out[0] = a;
+            1
+        },
+        Head::Pop(j) => {
+            out[0] = NODE + (i + j);
+            shift(&mut out[1..], 1, n - 1);
+            n
+        },
+        Head::Pow(..) => {
+            out[0] = NODE + i;
+            1 + n
+        },
     }
-    if (w - NODE) / 64 == 0 {
-        out[0] = w + i;
-        let m = n - 1;
-        shift(&mut out[1..], 1, m);
-        return 1 + m;
-    }
-    out[0] = NODE + i;
-    1 + n
 }
 
 // Moves s words from 2 to 1, and b words from 3 + s to 1 + s.
@@ -165,26 +192,19 @@ pub fn make_pow(width: u32, out: &mut [u32], i: u32, a: usize, b: usize) -> usiz
     ensures { Made width (pow_of width i (dec width (take a (drop 1 out.old)))
         (dec width (take b (drop (1 + a) out.old)))) result out.new }
 {
-    let w = out[1];
-    if w == 0 {
-        let n = make_pop(width, &mut out[1..], 1, b);
-        shift(out, 1, n);
-        return n;
+    match head_of(out[1]) {
+        Head::Leaf(0) => {
+            let n = make_pop(width, &mut out[1..], 1, b);
+            shift(out, 1, n);
+            n
+        },
+        Head::Pow(j, s) if out[2 + s] == 0 => {
+            out[0] = NODE + 64 * (s as u32) + (i + j);
+            join(out, s, b);
+            1 + s + b
+        },
+        _ => plain_pow(width, out, i, a, b),
     }
-    if w < NODE {
-        return plain_pow(width, out, i, a, b);
-    }
-    let s = ((w - NODE) / 64) as usize;
-    if s == 0 {
-        return plain_pow(width, out, i, a, b);
-    }
-    let e = 2 + s;
-    if out[e] == 0 {
-        out[0] = w + i;
-        join(out, s, b);
-        return 1 + s + b;
-    }
-    plain_pow(width, out, i, a, b)
 }
 
 // Writes the head word of a pow of exponent i and its p, and returns how many words those are.

@@ -1,50 +1,85 @@
 -- The code of a product, from the codes of its parts: what the functions that multiply forms return.
 -- Assumes nothing.
-use Rattle.std.proofs.Common.{sym, ap, subst, arith, length-take-le, List, ◌∷◌, ℕ, suc, ◌+◌, ◌-◌, ◌/◌, ◌%◌, ◌≤◌, ◌<◌, length}
+use Rattle.std.proofs.Common.{refl, sym, ap, subst, arith, length-take-le, List, ◌∷◌, ℕ, suc, ◌+◌, ◌-◌, ◌≤◌, ◌<◌, length}
 use Rattle.std.proofs.Math.Path.{◌≡◌, ◌∙◌}
 use Rattle.std.specs.Prelude.{take, drop, set}
 use Rattle.std.proofs.Math.ListN.{get_or}
-use Rattle.std.proofs.lemmas.List.{take-set-le}
+use Rattle.std.proofs.lemmas.List.{take-set-le, drop-drop}
 use Rattle.std.proofs.Math.Seq.{set_split, drop_at}
 use borrow.Rule.Slice.PartMut.{put_mid, take_put}
-use Rattle.horner.specs.definitions.Form.{Form, pop, lower, mkpop}
+use Rattle.horner.specs.definitions.Form.{Form, pop, pow, mkpop}
 use Rattle.code.specs.Coding.{enc, dec, Good, Coded, Codes, Begins, RoomUnder}
 use Rattle.code.specs.Operations.{pop_of, pow_of, sum_of, scale_of, zero_of}
 use Rattle.code.specs.Widths.{Leaf}
-use Rattle.code.specs.laws.Codes.{IsInt, coded, dec-enc}
-use Rattle.code.specs.laws.Parts.{inner, first, rest, PopAt, PowAt, pop-at, pow-at}
-use Rattle.code.proofs.Lists.{begins-as}
-use Rattle.code.proofs.Making.{made-codes, one-put, zero-codes}
+use Rattle.code.specs.Heads.{SaysLeaf, SaysPop, SaysPow}
+use Rattle.code.specs.laws.Codes.{IsInt, int_view, coded, dec-enc, tail-part}
+use Rattle.code.specs.laws.Good.{scale-good}
+use Rattle.code.specs.laws.Parts.{span, inner, first, rest, PopAt, PowAt, pop-at, pow-at}
+use Rattle.code.proofs.Lists.{begins-as, length-tail-part}
+use Rattle.code.proofs.Making.{made-codes, front-codes, pow-gives, one-put, zero-codes}
 use Rattle.code.proofs.Regions.{region-sub}
 use Rattle.code_room.specs.Fit.{prod_of, cross_of, Held}
 use Rattle.code_room.specs.Tables.{CrossSpace}
-use Rattle.code_room.proofs.laws.Equations.{int-any, any-int, pop-pow, pow-pop}
+use Rattle.code_room.proofs.laws.Equations.{int-any, any-int}
 use Rattle.code_room.proofs.laws.Fit.{fit-prod}
 
--- a POP and a POW, by the head word
-module _ {w : ℕ} {l : List ℕ} (c : Coded w l) where
-  pub pop-of-word : 2147483648 ≤ get_or l 0 0 → get_or l 0 0 < 2147483712 → PopAt w l
-  pop-of-word a b = pop-at c a (omega (arith, a, b))
+-- ---- what a head says of a code
+pub leaf-of-head : {w a : ℕ} {l : List ℕ} → Coded w l → SaysLeaf (get_or l 0 0) a → IsInt w (dec w l) a
+leaf-of-head {w} {a} {l} c h = subst (IsInt w (dec w l)) (sym h.is) (int_view c h.below)
 
-  pub pow-of-word : 2147483712 ≤ get_or l 0 0 → PowAt w l
-  pow-of-word a = pow-at c (omega (arith, a)) (λ e. omega (arith, a, e))
-
--- what the slices of the parts ask of the lengths, and no more, so that omega has little to read
-pub record PopSizes (l : List ℕ) : Type 0 where
+-- l is the code of (POP i p), with the p in `&l[1..]`
+pub record PopIn (w i : ℕ) (l : List ℕ) : Type 0 where
+  pub is : dec w l ≡ pop i (dec w (inner l))
+  pub node : Good w (pop i (dec w (inner l)))
+  pub part : Coded w (inner l)
   pub len : length l ≡ suc (length (inner l))
   pub some : 0 < length (inner l)
 
-pub pop-sizes : {w : ℕ} {l : List ℕ} → PopAt w l → PopSizes l
-pop-sizes v = record { len = v.len; some = v.some }
+pub pop-of-head : {w i : ℕ} {l : List ℕ} → Coded w l → SaysPop (get_or l 0 0) i → PopIn w i l
+pop-of-head {w} {i} {l} c h =
+    let v : PopAt w l = pop-at c h.node h.none in
+    record {
+      is = v.is ∙ ap (λ k. pop k (dec w (inner l))) (sym h.exponent);
+      node = subst (λ k. Good w (pop k (dec w (inner l)))) (sym h.exponent) v.node;
+      part = v.part;
+      len = v.len;
+      some = v.some;
+    }
 
-pub record PowSizes (l : List ℕ) : Type 0 where
-  pub size : (get_or l 0 0 - 2147483648) / 64 ≡ length (first l)
-  pub len : length l ≡ suc (length (first l) + length (rest l))
-  pub some_left : 0 < length (first l)
-  pub some_right : 0 < length (rest l)
+-- l is the code of (POW i p q), with the p in x and the q in y
+pub record PowIn (w i : ℕ) (l x y : List ℕ) : Type 0 where
+  pub is : dec w l ≡ pow i (dec w x) (dec w y)
+  pub node : Good w (pow i (dec w x) (dec w y))
+  pub left : Coded w x
+  pub right : Coded w y
+  pub len : length l ≡ suc (length x + length y)
 
-pub pow-sizes : {w : ℕ} {l : List ℕ} → PowAt w l → PowSizes l
-pow-sizes v = record { size = v.size; len = v.len; some_left = v.some_left; some_right = v.some_right }
+module _ {w i n : ℕ} {l : List ℕ} (c : Coded w l) (h : SaysPow (get_or l 0 0) i n) where
+  at-head : PowAt w l
+  at-head = pow-at c h.node (λ e. omega (arith, h.some, h.size, e))
+
+  pub pow-span : n ≤ length (inner l)
+  pow-span = omega (arith, h.size, at-head.size, at-head.len, length-tail-part 1 l)
+
+  by-first : PowIn w i l (first l) (rest l)
+  by-first =
+      let v : PowAt w l = at-head in
+      record {
+        is = v.is ∙ ap (λ k. pow k (dec w (first l)) (dec w (rest l))) (sym h.exponent);
+        node = subst (λ k. Good w (pow k (dec w (first l)) (dec w (rest l)))) (sym h.exponent) v.node;
+        left = v.left;
+        right = v.right;
+        len = v.len;
+      }
+
+  -- the parts as `l[1..].split_at(n)` gives them
+  pub pow-of-head : {x y : List ℕ} → x ≡ take n (inner l) → y ≡ drop n (inner l) → PowIn w i l x y
+  pow-of-head {x} {y} e f =
+      let k : 1 + span l - 1 ≡ n = omega (arith, h.size) in
+      let m : 1 + n ≡ 1 + span l = omega (arith, h.size) in
+      let e' : x ≡ first l = e ∙ ap (take n) (tail-part 1 l) ∙ ap (λ z. take z (drop 1 l)) (sym k) in
+      let f' : y ≡ rest l = f ∙ ap (drop n) (tail-part 1 l) ∙ drop-drop n 1 l ∙ ap (λ z. drop z l) m ∙ sym (tail-part (1 + span l) l) in
+      subst (PowIn w i l x) (sym f') (subst (λ z. PowIn w i l z (rest l)) (sym e') by-first)
 
 -- (1) and (2)
 module _ {w : ℕ} {h : Form (Leaf w)} {x : ℕ} (v : IsInt w h x) (y : Form (Leaf w)) where
@@ -53,18 +88,6 @@ module _ {w : ℕ} {h : Form (Leaf w)} {x : ℕ} (v : IsInt w h x) (y : Form (Le
 
   pub times-int : enc w (scale_of w x y) ≡ enc w (prod_of w y h)
   times-int = ap (enc w) (sym (any-int w x y) ∙ ap (λ z. prod_of w y z) (sym v.is))
-
--- (4) and (5)
-module _ {w : ℕ} {l : List ℕ} (v : PowAt w l) (i : ℕ) (p : Form (Leaf w)) (pos : 0 < i) where
-  pub pop-times : prod_of w (pop i p) (dec w l) ≡ pow_of w (get_or l 0 0 % 64) (prod_of w (pop i p) (dec w (first l)))
-      (prod_of w (lower (i - 1) p) (dec w (rest l)))
-  pop-times = ap (prod_of w (pop i p)) v.is ∙ pop-pow w i (get_or l 0 0 % 64) p (dec w (first l)) (dec w (rest l)) pos
-
-  pub times-swap : prod_of w (pop i p) (dec w l) ≡ prod_of w (dec w l) (pop i p)
-  times-swap =
-      ap (prod_of w (pop i p)) v.is
-      ∙ sym (pow-pop w i (get_or l 0 0 % 64) p (dec w (first l)) (dec w (rest l)) pos)
-      ∙ ap (λ h. prod_of w h (pop i p)) (sym v.is)
 
 -- what stands before a part that is lent is kept
 kept-codes :
@@ -76,11 +99,11 @@ pub up-int : {w : ℕ} {h : Form (Leaf w)} {x : ℕ} → IsInt w h x → pop_of 
 unfolding pop_of
 up-int v = rw v.is
 
-pub up-pop : {w : ℕ} {l : List ℕ} → PopAt w l → pop_of w 1 (dec w l) ≡ pop (1 + get_or l 0 0 % 64) (dec w (inner l))
+pub up-pop : {w i : ℕ} {l : List ℕ} → PopIn w i l → pop_of w 1 (dec w l) ≡ pop (1 + i) (dec w (inner l))
 unfolding pop_of
 up-pop v = ap (mkpop 1) v.is
 
-pub up-pow : {w : ℕ} {l : List ℕ} → PowAt w l → pop_of w 1 (dec w l) ≡ pop 1 (dec w l)
+pub up-pow : {w i : ℕ} {l x y : List ℕ} → PowIn w i l x y → pop_of w 1 (dec w l) ≡ pop 1 (dec w l)
 unfolding pop_of
 up-pow v = ap (mkpop 1) v.is ∙ ap (pop 1) (sym v.is)
 
@@ -116,6 +139,20 @@ pub with-zero :
     {w : ℕ} {h : Form (Leaf w)} (n : ℕ) (d : List ℕ) → 2 + n ≤ length d → Codes w h (take n (drop 1 d)) →
     Codes w h (take n (drop 1 (set d (1 + n) 0))) × Codes w (zero_of w) (take 1 (drop (1 + n) (set d (1 + n) 0)))
 with-zero {w} n d l c = (stored-before 1 n (1 + n) 0 d (omega arith) c, stored-zero w (1 + n) d (omega arith))
+
+-- that pow(i, x, 0) in e, of b words
+pub cross-made :
+    {w b : ℕ} (i n : ℕ) (d : List ℕ) {e : List ℕ} → 2 + n ≤ length d → Coded w (take n (drop 1 d)) →
+    Good w (pow_of w i (dec w (take n (drop 1 d))) (zero_of w)) →
+    Begins b (enc w (pow_of w i (dec w (take n (drop 1 (set d (1 + n) 0)))) (dec w (take 1 (drop (1 + n) (set d (1 + n) 0)))))) e →
+    Codes w (pow_of w i (dec w (take n (drop 1 d))) (zero_of w)) (take b e)
+cross-made {w} {b} i n d {e} l c g m = front-codes {n = b} {d = e} (pow-gives i (with-zero n d l c) refl m) g
+
+-- a leaf times p, made behind the first word of d
+pub scale-made :
+    {w n : ℕ} (a : ℕ) {p : Form (Leaf w)} (d : List ℕ) {e : List ℕ} → 1 ≤ length d → Begins n (enc w (scale_of w a p)) e → Good w p →
+    Codes w (scale_of w a p) (take n (drop 1 (one-put d e)))
+scale-made {w} {n} a d {e} l m g = made-codes 1 d e n l m (scale-good a g)
 
 -- What sum_cross asks and gives, where the form at the front of o was kept, of a words, and where x is p pop(1, s), made in d behind its
 -- first word

@@ -1,5 +1,5 @@
 // What the functions that multiply forms rest on: a summand pow(i, x, 0) added to the form that stands at the front of a table, and a leaf
-// times (POP i p).
+// times (POP i p). The length of what stands in a table is handed on beside it, since memory is fixed: there is no heap for a Vec of it.
 #![tactic(auto)]
 
 ghost use Rattle.std.specs.Prelude.{◌+◌, ◌<◌, ◌≤◌, length, take, drop};

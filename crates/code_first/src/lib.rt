@@ -6,7 +6,7 @@ ghost use Rattle.code.specs.Widths.{modulus};
 ghost use Rattle.code.specs.Coding.{Coded, Made, RoomUnder, dec};
 ghost use Rattle.code_first.specs.First.{lower_of, at_first_of};
 
-use code::NODE;
+use code::{Head, NODE};
 
 // Writes (POP i-1 p) at the front of out, or p itself where that exponent is 0, and returns its length.
 fn put_lower(width: u32, i: u32, p: &[u32], out: &mut [u32]) -> usize
@@ -33,18 +33,18 @@ pub fn at_first(width: u32, x: &[u32], a: u32, out: &mut [u32], spare: &mut [u32
     requires room_under { RoomUnder (1 + length x.now) out.old × RoomUnder (1 + length x.now) spare.old }
     ensures { Made width (at_first_of width (dec width x.now) a) result out.new }
 {
-    let w = x[0];
-    if w < NODE {
-        out[0] = w;
-        return 1;
+    match code::head_of(x[0]) {
+        Head::Leaf(b) => {
+            out[0] = b;
+            1
+        },
+        Head::Pop(i) => put_lower(width, i, &x[1..], out),
+        Head::Pow(i, s) => {
+            let e = 1 + s;
+            let n = at_first(width, &x[1..e], a, out, spare);
+            let c = code::leaf_power(width, a, i);
+            let m = code_walk::scale(width, c, &out[..n], spare);
+            code_sum::sum(width, &spare[..m], &x[e..], out)
+        },
     }
-    let s = ((w - NODE) / 64) as usize;
-    if s == 0 {
-        return put_lower(width, w % 64, &x[1..], out);
-    }
-    let e = 1 + s;
-    let n = at_first(width, &x[1..e], a, out, spare);
-    let c = code::leaf_power(width, a, w % 64);
-    let m = code_walk::scale(width, c, &out[..n], spare);
-    code_sum::sum(width, &spare[..m], &x[e..], out)
 }

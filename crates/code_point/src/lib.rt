@@ -7,7 +7,7 @@ ghost use Rattle.code_first.specs.First.{at_first_of};
 ghost use Rattle.code_point.specs.Points.{point_of, Ready, vanishes, IsLeast, Fails};
 
 // A number put for the first variable, and how many words the form takes that it leaves.
-#[derive(Drop)]
+#[derive(Clone, Copy)]
 struct Found {
     value: u32,
     words: usize,
@@ -22,6 +22,7 @@ fn least_value(x: &[u32], out: &mut [u32], spare: &mut [u32]) -> Found
         × Made 0 (at_first_of 0 (dec 0 x.now) result.value) result.words out.new }
 {
     let mut a = 0;
+    // A `for` would need an end of its range, and an answer behind it, that no form reaches.
     loop {
         let m = code_first::at_first(0, x, a, out, spare);
         if !code_walk::is_zero(0, &out[..m]) {
@@ -32,7 +33,7 @@ fn least_value(x: &[u32], out: &mut [u32], spare: &mut [u32]) -> Found
 }
 
 // Writes the first point in n variables at which the form in the first k words of x is not 0 to the front of point. The other tables are
-// work space: as many words as the form has are enough in each.
+// work space: as many words as the form has are enough in each. k stays beside x: each next form is copied into x (fixed memory).
 pub fn first_point(
     n: usize,
     x: &mut [u32],

@@ -1,6 +1,7 @@
-// The product of two coded forms (Definition 11). `product` goes by the first form's head word. The functions below it take a POP in its
-// parts, its exponent and its p, so that (POP i-j p) and pop(1, s) are never written out. Each writes its result at the front of out and
-// returns its length; t and u are for work. A head word below 2,147,483,648 is a leaf, one below 2,147,483,712 a POP's, any other a POW's.
+// The product of two coded forms (Definition 11). `product` goes by the head words. The functions below it take a POP in its parts, its
+// exponent and its p, so that (POP i-j p) and pop(1, s) are never written out, and a POW in its three. Each writes its result at the front
+// of out and returns its length; t and u are for work. The three are no struct of `&mut`s: `out` is handed on from behind a word or a form,
+// and t and out change places, so that every call would put another struct together.
 #![tactic(auto)]
 
 ghost use Rattle.std.specs.Prelude.{◌+◌, ◌-◌, ◌≤◌, length, take};
@@ -8,7 +9,9 @@ ghost use Rattle.horner.specs.definitions.Form.{pop, pow, lower};
 ghost use Rattle.code.specs.Coding.{Coded, Made, dec};
 ghost use Rattle.code.specs.Operations.{pop_of, sum_of};
 ghost use Rattle.code_room.specs.Fit.{prod_of, lead_of, cross_of, Held};
-ghost use Rattle.code_room.specs.Tables.{Space, PopSpace, CrossSpace, PowWord};
+ghost use Rattle.code_room.specs.Tables.{Space, PopSpace, CrossSpace};
+
+use code::Head;
 
 // The product of the forms x and y.
 #[cycle(products)]
@@ -24,14 +27,21 @@ pub fn product(
     requires space { Space width (dec width x.now) (dec width y.now) (length out.old) (length t.old) (length u.old) }
     ensures { Made width (prod_of width (dec width x.now) (dec width y.now)) result out.new }
 {
-    let w = x[0];
-    if w < 2147483648 {
-        return code_walk::scale(width, w, y, out);
+    match code::head_of(x[0]) {
+        Head::Leaf(a) => code_walk::scale(width, a, y, out),
+        Head::Pop(i) => mul_pop(width, i, &x[1..], y, out, t, u),
+        Head::Pow(i, m) => {
+            let (p, q) = x[1..].split_at(m);
+            match code::head_of(y[0]) {
+                Head::Leaf(b) => code_walk::scale(width, b, x, out),
+                Head::Pop(j) => mul_pop_pow(width, j, &y[1..], i, p, q, out, t, u),
+                Head::Pow(j, n) => {
+                    let (r, s) = y[1..].split_at(n);
+                    mul_pows(width, i, p, q, j, r, s, out, t, u)
+                }
+            }
+        }
     }
-    if w < 2147483712 {
-        return mul_pop(width, w % 64, &x[1..], y, out, t, u);
-    }
-    mul_pow(width, x, y, out, t, u)
 }
 
 // (POP i p) and y
@@ -49,17 +59,17 @@ fn mul_pop(
     requires pop_space { PopSpace width (pop i (dec width p.now)) (dec width y.now) (length out.old) (length t.old) (length u.old) }
     ensures { Made width (prod_of width (pop i (dec width p.now)) (dec width y.now)) result out.new }
 {
-    let w = y[0];
-    if w < 2147483648 {
-        return code_cross::scale_pop(width, w, i, p, out);
+    match code::head_of(y[0]) {
+        Head::Leaf(b) => code_cross::scale_pop(width, b, i, p, out),
+        Head::Pop(j) => mul_pops(width, i, p, j, &y[1..], out, t, u),
+        Head::Pow(j, n) => {
+            let (r, s) = y[1..].split_at(n);
+            mul_pop_pow(width, i, p, j, r, s, out, t, u)
+        }
     }
-    if w < 2147483712 {
-        return mul_pops(width, i, p, w % 64, &y[1..], out, t, u);
-    }
-    mul_pop_pow(width, i, p, y, out, t, u)
 }
 
-// x and (POP i p)
+// x and (POP i p). No twin of `mul_pop`: that the product is the same with its factors exchanged is no theorem here.
 #[cycle(products)]
 fn mul_any_pop(
     width: u32,
@@ -74,14 +84,14 @@ fn mul_any_pop(
     requires pop_space { PopSpace width (dec width x.now) (pop i (dec width p.now)) (length out.old) (length t.old) (length u.old) }
     ensures { Made width (prod_of width (dec width x.now) (pop i (dec width p.now))) result out.new }
 {
-    let w = x[0];
-    if w < 2147483648 {
-        return code_cross::scale_pop(width, w, i, p, out);
+    match code::head_of(x[0]) {
+        Head::Leaf(a) => code_cross::scale_pop(width, a, i, p, out),
+        Head::Pop(j) => mul_pops(width, j, &x[1..], i, p, out, t, u),
+        Head::Pow(j, n) => {
+            let (q, r) = x[1..].split_at(n);
+            mul_pop_pow(width, i, p, j, q, r, out, t, u)
+        }
     }
-    if w < 2147483712 {
-        return mul_pops(width, w % 64, &x[1..], i, p, out, t, u);
-    }
-    mul_pop_pow(width, i, p, x, out, t, u)
 }
 
 // (POP i p) and (POP j q)
@@ -103,9 +113,10 @@ fn mul_pops(
         out.new }
 {
     if j <= i {
-        return mul_pops_ge(width, i, p, j, q, out, t, u);
+        mul_pops_ge(width, i, p, j, q, out, t, u)
+    } else {
+        mul_pops_ge(width, j, q, i, p, out, t, u)
     }
-    mul_pops_ge(width, j, q, i, p, out, t, u)
 }
 
 // (POP i p) and (POP j q), with j at most i
@@ -131,28 +142,29 @@ fn mul_pops_ge(
     code::make_pop(width, out, j, n)
 }
 
-// (POP i p) and y, a POW
+// (POP i p) and (POW j r s)
 #[cycle(products)]
 fn mul_pop_pow(
     width: u32,
     i: u32,
     p: &[u32],
-    y: &[u32],
+    j: u32,
+    r: &[u32],
+    s: &[u32],
     out: &mut [u32],
     t: &mut [u32],
     u: &mut [u32],
 ) -> usize
-    requires coded { Coded width p.now × Coded width y.now }
-    requires pop_space { PopSpace width (pop i (dec width p.now)) (dec width y.now) (length out.old) (length t.old) (length u.old) }
-    requires pow_word { PowWord y.now }
-    ensures { Made width (prod_of width (pop i (dec width p.now)) (dec width y.now)) result out.new }
+    requires coded { Coded width p.now × (Coded width r.now × Coded width s.now) }
+    requires pop_space { PopSpace width (pop i (dec width p.now)) (pow j (dec width r.now) (dec width s.now)) (length out.old)
+        (length t.old) (length u.old) }
+    ensures { Made width (prod_of width (pop i (dec width p.now)) (pow j (dec width r.now) (dec width s.now))) result
+        out.new }
 {
-    let w = y[0];
-    let e = 1 + ((w - 2147483648) / 64) as usize;
-    let a = mul_pop(width, i, p, &y[1..e], &mut out[1..], t, u);
+    let a = mul_pop(width, i, p, r, &mut out[1..], t, u);
     let f = 1 + a;
-    let b = mul_lower(width, i - 1, p, &y[e..], &mut out[f..], t, u);
-    code::make_pow(width, out, w % 64, a, b)
+    let b = mul_lower(width, i - 1, p, s, &mut out[f..], t, u);
+    code::make_pow(width, out, j, a, b)
 }
 
 // (POP k p) and y, or p and y where k is 0
@@ -171,41 +183,10 @@ fn mul_lower(
     ensures { Made width (prod_of width (lower k (dec width p.now)) (dec width y.now)) result out.new }
 {
     if k == 0 {
-        return product(width, p, y, out, t, u);
+        product(width, p, y, out, t, u)
+    } else {
+        mul_pop(width, k, p, y, out, t, u)
     }
-    mul_pop(width, k, p, y, out, t, u)
-}
-
-// x, a POW, and y
-#[cycle(products)]
-fn mul_pow(width: u32, x: &[u32], y: &[u32], out: &mut [u32], t: &mut [u32], u: &mut [u32]) -> usize
-    requires coded { Coded width x.now × Coded width y.now }
-    requires space { Space width (dec width x.now) (dec width y.now) (length out.old) (length t.old) (length u.old) }
-    requires pow_word { PowWord x.now }
-    ensures { Made width (prod_of width (dec width x.now) (dec width y.now)) result out.new }
-{
-    let w = y[0];
-    if w < 2147483648 {
-        return code_walk::scale(width, w, x, out);
-    }
-    if w < 2147483712 {
-        return mul_pop_pow(width, w % 64, &y[1..], x, out, t, u);
-    }
-    let f = 1 + ((w - 2147483648) / 64) as usize;
-    let v = x[0];
-    let e = 1 + ((v - 2147483648) / 64) as usize;
-    mul_pows(
-        width,
-        v % 64,
-        &x[1..e],
-        &x[e..],
-        w % 64,
-        &y[1..f],
-        &y[f..],
-        out,
-        t,
-        u,
-    )
 }
 
 // (POW i p q) and (POW j r s): the first summand of case (6) in out, and the others added to it
@@ -298,12 +279,9 @@ fn mul_by_pop(
     ensures { Made width (prod_of width (dec width p.now) (pop_of width 1 (dec width s.now))) result
         out.new }
 {
-    let w = s[0];
-    if w < 2147483648 {
-        return code_walk::scale(width, w, p, out);
+    match code::head_of(s[0]) {
+        Head::Leaf(b) => code_walk::scale(width, b, p, out),
+        Head::Pop(j) => mul_any_pop(width, p, 1 + j, &s[1..], out, t, u),
+        Head::Pow(..) => mul_any_pop(width, p, 1, s, out, t, u),
     }
-    if w < 2147483712 {
-        return mul_any_pop(width, p, 1 + w % 64, &s[1..], out, t, u);
-    }
-    mul_any_pop(width, p, 1, s, out, t, u)
 }

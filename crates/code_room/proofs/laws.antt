@@ -4,3 +4,4 @@ pub mod Fit
 pub mod Summands
 pub mod Tables
 pub mod Equations
+pub mod Theorems

@@ -1,5 +1,5 @@
 -- How many words the product asks of its tables. o, t and u are the lengths of the table that it is written to, and of two for work.
-use Rattle.std.specs.Prelude.{List, ℕ, ◌+◌, ◌*◌, ◌-◌, ◌<◌, ◌≤◌, get_or}
+use Rattle.std.specs.Prelude.{ℕ, ◌+◌, ◌*◌, ◌-◌, ◌<◌, ◌≤◌}
 use Rattle.horner.specs.definitions.Form.{Form}
 use Rattle.code.specs.Operations.{pop_of}
 use Rattle.code.specs.Widths.{Leaf}
@@ -44,7 +44,3 @@ pub record CrossSpace (w i : ℕ) (p s : Form (Leaf w)) (o t u : ℕ) : Type 0 w
   pub pos-i : 0 < i
   pub held : Held w (cross_of w i p s)
   pub tables : Tables (1 + words_for n k) (words_for (n - 1) 63) o t u
-
--- a code whose head word is a POW's: 2,147,483,648, its exponent, and 64 times the words of its p
-abbrev pub PowWord : List ℕ → Type 0
-PowWord l = 2147483712 ≤ get_or l 0 0

@@ -1,6 +1,6 @@
 -- The code of a sum, from the codes of its parts: what the functions that add forms return.
 -- Assumes nothing.
-use Rattle.std.proofs.Common.{ap₂, arith, length-append, List, [], ◌∷◌, ◌++◌, ℕ, ◌+◌, ◌*◌, ◌-◌, ◌%◌, ◌<◌, length}
+use Rattle.std.proofs.Common.{ap₂, arith, length-append, List, [], ◌∷◌, ◌++◌, ℕ, ◌+◌, ◌*◌, ◌-◌, ◌<◌, length}
 use Rattle.std.proofs.Math.Path.{◌≡◌, sym, ap, ◌∙◌}
 use Rattle.std.proofs.Math.ListN.{get_or}
 use Rattle.horner.specs.definitions.Form.{Form, int, pop, pow}
@@ -9,7 +9,7 @@ use Rattle.horner.proofs.laws.Equations.{sum-int}
 use Rattle.code.specs.Coding.{enc, dec, Good, Coded}
 use Rattle.code.specs.Operations.{sum_of, zero_of}
 use Rattle.code.specs.laws.Codes.{IsInt}
-use Rattle.code.specs.laws.Parts.{inner, first, rest, PopAt, PowAt, pop-made, pow-put}
+use Rattle.code.specs.laws.Parts.{inner, left_of, right_of, PopOf, PowOf, pop-made, pow-put}
 use Rattle.code.specs.laws.Widths.{leaf-number}
 use Rattle.code_sum.proofs.Equations.{int-pop, int_pow, pop-int, pow-int, pop-pow-1, pop-pow}
 
@@ -25,20 +25,20 @@ module _ {w : ℕ} (a : ℕ) where
       ∙ rw v.is (ap (enc w) (sym (sum-int (ring_of w) (leaf w a) (int (leaf w x)))))
 
   pub add-int-pop :
-      {l : List ℕ} → PopAt w l →
+      {l : List ℕ} {i : ℕ} → PopOf w l i →
       (get_or l 0 0 ∷ []) ++ enc w (sum_of w (int (leaf w a)) (dec w (inner l))) ≡ enc w (sum_of w (int (leaf w a)) (dec w l))
-  add-int-pop {l} v =
+  add-int-pop {l} {i} v =
       pop-made v (sum_of w (int (leaf w a)) (dec w (inner l)))
-      ∙ ap (enc w) (sym (ap (sum_of w (int (leaf w a))) v.is ∙ int-pop w (leaf w a) (get_or l 0 0 % 64) (dec w (inner l))))
+      ∙ ap (enc w) (sym (ap (sum_of w (int (leaf w a))) v.is ∙ int-pop w (leaf w a) i (dec w (inner l))))
 
   pub add-int-pow :
-      {l : List ℕ} → PowAt w l →
-      ((2147483648 + 64 * length (first l) + get_or l 0 0 % 64) ∷ first l) ++ enc w (sum_of w (int (leaf w a)) (dec w (rest l)))
+      {l : List ℕ} {i s : ℕ} → PowOf w l i s →
+      ((2147483648 + 64 * length (left_of s l) + i) ∷ left_of s l) ++ enc w (sum_of w (int (leaf w a)) (dec w (right_of s l)))
       ≡ enc w (sum_of w (int (leaf w a)) (dec w l))
-  add-int-pow {l} v =
-      pow-put (get_or l 0 0 % 64) v.left (sum_of w (int (leaf w a)) (dec w (rest l)))
+  add-int-pow {l} {i} {s} v =
+      pow-put i v.left (sum_of w (int (leaf w a)) (dec w (right_of s l)))
       ∙ ap (enc w)
-      (sym (ap (sum_of w (int (leaf w a))) v.is ∙ int_pow w (leaf w a) (get_or l 0 0 % 64) (dec w (first l)) (dec w (rest l))))
+      (sym (ap (sum_of w (int (leaf w a))) v.is ∙ int_pow w (leaf w a) i (dec w (left_of s l)) (dec w (right_of s l))))
 
 -- What is returned where one of the two is a leaf, and for a pop and a pow
 

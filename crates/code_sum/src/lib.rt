@@ -8,7 +8,7 @@ ghost use Rattle.code.specs.Widths.{modulus, leaf};
 ghost use Rattle.code.specs.Coding.{Coded, Good, Made, RoomUnder, dec};
 ghost use Rattle.code.specs.Operations.{sum_of};
 
-use code::NODE;
+use code::{Head, NODE};
 
 // The sum of a leaf and the form y.
 fn add_int(width: u32, a: u32, y: &[u32], out: &mut [u32]) -> usize
@@ -17,21 +17,23 @@ fn add_int(width: u32, a: u32, y: &[u32], out: &mut [u32]) -> usize
     requires room_under { RoomUnder (1 + length y.now) out.old }
     ensures { Made width (sum_of width (int (leaf width a)) (dec width y.now)) result out.new }
 {
-    let w = y[0];
-    if w < NODE {
-        out[0] = code::leaf_sum(width, a, w);
-        return 1;
+    match code::head_of(y[0]) {
+        Head::Leaf(b) => {
+            out[0] = code::leaf_sum(width, a, b);
+            1
+        },
+        Head::Pop(_) => {
+            out[0] = y[0];
+            let n = add_int(width, a, &y[1..], &mut out[1..]);
+            1 + n
+        },
+        Head::Pow(i, s) => {
+            let e = 1 + s;
+            let f = code::put_pow(i, &y[1..e], out);
+            let n = add_int(width, a, &y[e..], &mut out[f..]);
+            f + n
+        },
     }
-    let s = ((w - NODE) / 64) as usize;
-    if s == 0 {
-        out[0] = w;
-        let n = add_int(width, a, &y[1..], &mut out[1..]);
-        return 1 + n;
-    }
-    let e = 1 + s;
-    let f = code::put_pow(w % 64, &y[1..e], out);
-    let n = add_int(width, a, &y[e..], &mut out[f..]);
-    f + n
 }
 
 // The sum of the forms x and y.
@@ -41,16 +43,14 @@ pub fn sum(width: u32, x: &[u32], y: &[u32], out: &mut [u32]) -> usize
     requires room_under { RoomUnder (length x.now + length y.now) out.old }
     ensures { Made width (sum_of width (dec width x.now) (dec width y.now)) result out.new }
 {
-    let w = x[0];
-    if w < NODE {
-        return add_int(width, w, y, out);
+    match code::head_of(x[0]) {
+        Head::Leaf(a) => add_int(width, a, y, out),
+        Head::Pop(i) => add_pop(width, i, &x[1..], y, out),
+        Head::Pow(i, s) => {
+            let e = 1 + s;
+            add_pow(width, i, &x[1..e], &x[e..], y, out)
+        },
     }
-    let s = ((w - NODE) / 64) as usize;
-    if s == 0 {
-        return add_pop(width, w % 64, &x[1..], y, out);
-    }
-    let e = 1 + s;
-    add_pow(width, w % 64, &x[1..e], &x[e..], y, out)
 }
 
 // (POP i p) and y
@@ -61,18 +61,18 @@ fn add_pop(width: u32, i: u32, p: &[u32], y: &[u32], out: &mut [u32]) -> usize
     requires room_under { RoomUnder (1 + length p.now + length y.now) out.old }
     ensures { Made width (sum_of width (pop i (dec width p.now)) (dec width y.now)) result out.new }
 {
-    let w = y[0];
-    if w < NODE {
-        out[0] = NODE + i;
-        let n = add_int(width, w, p, &mut out[1..]);
-        return 1 + n;
+    match code::head_of(y[0]) {
+        Head::Leaf(a) => {
+            out[0] = NODE + i;
+            let n = add_int(width, a, p, &mut out[1..]);
+            1 + n
+        },
+        Head::Pop(j) => add_pops(width, i, p, j, &y[1..], out),
+        Head::Pow(j, s) => {
+            let e = 1 + s;
+            add_pop_pow(width, i, p, j, &y[1..e], &y[e..], out)
+        },
     }
-    let s = ((w - NODE) / 64) as usize;
-    if s == 0 {
-        return add_pops(width, i, p, w % 64, &y[1..], out);
-    }
-    let e = 1 + s;
-    add_pop_pow(width, i, p, w % 64, &y[1..e], &y[e..], out)
 }
 
 // (POP i p) and (POP j q)
@@ -84,26 +84,13 @@ fn add_pops(width: u32, i: u32, p: &[u32], j: u32, q: &[u32], out: &mut [u32]) -
     ensures { Made width (sum_of width (pop i (dec width p.now)) (pop j (dec width q.now))) result
         out.new }
 {
+    if i < j {
+        return add_pops(width, j, q, i, p, out);
+    }
     if i == j {
         let n = sum(width, p, q, &mut out[1..]);
         return code::make_pop(width, out, i, n);
     }
-    if j < i {
-        return add_pops_gt(width, i, p, j, q, out);
-    }
-    add_pops_gt(width, j, q, i, p, out)
-}
-
-// (POP i p) and (POP j q), with j below i
-#[cycle(sums)]
-fn add_pops_gt(width: u32, i: u32, p: &[u32], j: u32, q: &[u32], out: &mut [u32]) -> usize
-    requires coded { Coded width p.now × Coded width q.now }
-    requires good { Good width (pop i (dec width p.now)) × Good width (pop j (dec width q.now)) }
-    requires room_under { RoomUnder (2 + length p.now + length q.now) out.old }
-    requires j_lt_i { j < i }
-    ensures { Made width (sum_of width (pop i (dec width p.now)) (pop j (dec width q.now))) result
-        out.new }
-{
     let n = add_pop(width, i - j, p, q, &mut out[1..]);
     code::make_pop(width, out, j, n)
 }
@@ -143,18 +130,18 @@ fn add_pow(width: u32, i: u32, p: &[u32], q: &[u32], y: &[u32], out: &mut [u32])
     ensures { Made width (sum_of width (pow i (dec width p.now) (dec width q.now))
         (dec width y.now)) result out.new }
 {
-    let w = y[0];
-    if w < NODE {
-        let f = code::put_pow(i, p, out);
-        let n = add_int(width, w, q, &mut out[f..]);
-        return f + n;
+    match code::head_of(y[0]) {
+        Head::Leaf(a) => {
+            let f = code::put_pow(i, p, out);
+            let n = add_int(width, a, q, &mut out[f..]);
+            f + n
+        },
+        Head::Pop(j) => add_pop_pow(width, j, &y[1..], i, p, q, out),
+        Head::Pow(j, s) => {
+            let e = 1 + s;
+            add_pows(width, i, p, q, j, &y[1..e], &y[e..], out)
+        },
     }
-    let s = ((w - NODE) / 64) as usize;
-    if s == 0 {
-        return add_pop_pow(width, w % 64, &y[1..], i, p, q, out);
-    }
-    let e = 1 + s;
-    add_pows(width, i, p, q, w % 64, &y[1..e], &y[e..], out)
 }
 
 // (POW i p q) and (POW j r s)
@@ -176,40 +163,14 @@ fn add_pows(
     ensures { Made width (sum_of width (pow i (dec width p.now) (dec width q.now))
         (pow j (dec width r.now) (dec width s.now))) result out.new }
 {
-    if i == j {
-        let a = sum(width, p, r, &mut out[1..]);
-        let f = 1 + a;
-        let b = sum(width, q, s, &mut out[f..]);
-        return code::make_pow(width, out, i, a, b);
+    if i < j {
+        return add_pows(width, j, r, s, i, p, q, out);
     }
-    if j < i {
-        return add_pows_gt(width, i, p, q, j, r, s, out);
-    }
-    add_pows_gt(width, j, r, s, i, p, q, out)
-}
-
-// (POW i p q) and (POW j r s), with j below i
-#[cycle(sums)]
-fn add_pows_gt(
-    width: u32,
-    i: u32,
-    p: &[u32],
-    q: &[u32],
-    j: u32,
-    r: &[u32],
-    s: &[u32],
-    out: &mut [u32],
-) -> usize
-    requires coded { (Coded width p.now × Coded width q.now) × (Coded width r.now × Coded width s.now) }
-    requires good { Good width (pow i (dec width p.now) (dec width q.now))
-        × Good width (pow j (dec width r.now) (dec width s.now)) }
-    requires room_under { RoomUnder (2 + length p.now + length q.now + length r.now + length s.now) out.old }
-    requires j_lt_i { j < i }
-    ensures { Made width (sum_of width (pow i (dec width p.now) (dec width q.now))
-        (pow j (dec width r.now) (dec width s.now))) result out.new }
-{
-    let zero = [0u32; 1];
-    let a = add_pow(width, i - j, p, &zero, r, &mut out[1..]);
+    let a = if i == j {
+        sum(width, p, r, &mut out[1..])
+    } else {
+        add_pow(width, i - j, p, &[0], r, &mut out[1..])
+    };
     let f = 1 + a;
     let b = sum(width, q, s, &mut out[f..]);
     code::make_pow(width, out, j, a, b)

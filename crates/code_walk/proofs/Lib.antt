@@ -1,4 +1,3 @@
-pub mod Shapes
 pub mod Negative
 pub mod Evaluation
 pub mod Carrying

@@ -1,7 +1,7 @@
 // Functions that walk over one coded form: its negative, its value at a point, its product with a leaf, and the same form in another ring.
 #![tactic(auto)]
 
-ghost use Rattle.std.specs.Prelude.{◌≡◌, ℕ, ◌+◌, ◌<◌, ◌≤◌, min, length};
+ghost use Rattle.std.specs.Prelude.{◌≡◌, ℕ, ◌+◌, ◌<◌, ◌≤◌, length};
 ghost use Rattle.horner.specs.definitions.Form.{is_zero};
 ghost use Rattle.code.specs.Widths.{modulus, ring_of, leaf};
 ghost use Rattle.code.specs.Coding.{Coded, Made, RoomUnder, dec};
@@ -10,14 +10,7 @@ ghost use Rattle.code_walk.specs.Points.{Leaves};
 ghost use Rattle.code_walk.specs.Shapes.{Decides};
 ghost use Rattle.code_walk.specs.Carrying.{carried, carry_of, reduce_of};
 
-use code::NODE;
-
-// The lesser of two numbers.
-fn least(a: usize, b: usize) -> usize
-    ensures { result ≡ min a b }
-{
-    if a <= b { a } else { b }
-}
+use code::Head;
 
 // Writes the negative of the form x (Definition 10) at the front of out, and returns its length.
 pub fn negate(width: u32, x: &[u32], out: &mut [u32]) -> usize
@@ -25,22 +18,25 @@ pub fn negate(width: u32, x: &[u32], out: &mut [u32]) -> usize
     requires x_in_bounds { length x.now ≤ length out.old }
     ensures { Made width (negate_of width (dec width x.now)) result out.new }
 {
-    let w = x[0];
-    if w < NODE {
-        out[0] = code::leaf_negation(width, w);
-        return 1;
+    match code::head_of(x[0]) {
+        Head::Leaf(a) => {
+            out[0] = code::leaf_negation(width, a);
+            1
+        },
+        Head::Pop(_) => {
+            out[0] = x[0];
+            let n = negate(width, &x[1..], &mut out[1..]);
+            1 + n
+        },
+        Head::Pow(_, s) => {
+            out[0] = x[0];
+            let e = 1 + s;
+            let n = negate(width, &x[1..e], &mut out[1..]);
+            let f = 1 + n;
+            let m = negate(width, &x[e..], &mut out[f..]);
+            f + m
+        },
     }
-    let s = ((w - NODE) / 64) as usize;
-    out[0] = w;
-    if s == 0 {
-        let n = negate(width, &x[1..], &mut out[1..]);
-        return 1 + n;
-    }
-    let e = 1 + s;
-    let n = negate(width, &x[1..e], &mut out[1..]);
-    let f = 1 + n;
-    let m = negate(width, &x[e..], &mut out[f..]);
-    f + m
 }
 
 // The value of the form x at a point of leaves (Definition 5).
@@ -49,37 +45,21 @@ pub fn value(width: u32, x: &[u32], point: &[u32]) -> u32
     requires leaves { Leaves width point.now }
     ensures { (result ≡ value_of width (dec width x.now) point.now) × (result < modulus width) }
 {
-    let w = x[0];
-    if w < NODE {
-        return w;
+    match code::head_of(x[0]) {
+        Head::Leaf(a) => a,
+        Head::Pop(i) => {
+            let k = (i as usize).min(point.len());
+            value(width, &x[1..], &point[k..])
+        },
+        Head::Pow(..) if point.is_empty() => 0,
+        Head::Pow(i, s) => {
+            let n = code::leaf_power(width, point[0], i);
+            let e = 1 + s;
+            let a = value(width, &x[1..e], point);
+            let b = value(width, &x[e..], &point[1..]);
+            code::leaf_sum(width, code::leaf_product(width, n, a), b)
+        },
     }
-    let s = ((w - NODE) / 64) as usize;
-    let i = w % 64;
-    if s == 0 {
-        let k = least(i as usize, point.len());
-        return value(width, &x[1..], &point[k..]);
-    }
-    if point.len() == 0 {
-        return 0;
-    }
-    let n = code::leaf_power(width, point[0], i);
-    let e = 1 + s;
-    let a = value(width, &x[1..e], point);
-    let b = value(width, &x[e..], &point[1..]);
-    code::leaf_sum(width, code::leaf_product(width, n, a), b)
-}
-
-// The number of leaves in the ring of a width.
-fn modulus_of(width: u32) -> u32
-    ensures { result ≡ modulus width }
-{
-    if width == 16 {
-        return 65536;
-    }
-    if width == 8 {
-        return 256;
-    }
-    2147483647
 }
 
 // A leaf read as the integer nearest to 0 that it stands for, and reduced by the modulus of another width.
@@ -90,7 +70,7 @@ fn leaf_carried(from: u32, width: u32, x: u32) -> u32
     if from == width {
         return x;
     }
-    let d = modulus_of(from) - x;
+    let d = code::modulus_of(from) - x;
     if x < d {
         return code::leaf_of(width, x as u64);
     }
@@ -104,21 +84,23 @@ fn carry(from: u32, width: u32, a: u32, y: &[u32], out: &mut [u32]) -> usize
     requires room_under { RoomUnder (1 + length y.now) out.old }
     ensures { Made width (carry_of from width a (dec from y.now)) result out.new }
 {
-    let w = y[0];
-    if w < NODE {
-        out[0] = code::leaf_product(width, a, leaf_carried(from, width, w));
-        return 1;
+    match code::head_of(y[0]) {
+        Head::Leaf(x) => {
+            out[0] = code::leaf_product(width, a, leaf_carried(from, width, x));
+            1
+        },
+        Head::Pop(i) => {
+            let n = carry(from, width, a, &y[1..], &mut out[1..]);
+            code::make_pop(width, out, i, n)
+        },
+        Head::Pow(i, s) => {
+            let e = 1 + s;
+            let n = carry(from, width, a, &y[1..e], &mut out[1..]);
+            let f = 1 + n;
+            let m = carry(from, width, a, &y[e..], &mut out[f..]);
+            code::make_pow(width, out, i, n, m)
+        },
     }
-    let s = ((w - NODE) / 64) as usize;
-    if s == 0 {
-        let n = carry(from, width, a, &y[1..], &mut out[1..]);
-        return code::make_pop(width, out, w % 64, n);
-    }
-    let e = 1 + s;
-    let n = carry(from, width, a, &y[1..e], &mut out[1..]);
-    let f = 1 + n;
-    let m = carry(from, width, a, &y[e..], &mut out[f..]);
-    code::make_pow(width, out, w % 64, n, m)
 }
 
 // The product of a leaf and the form y (Definition 11 (1)).
@@ -146,17 +128,7 @@ pub fn same(x: &[u32], y: &[u32]) -> bool
     ensures by_index { (w : ℕ) → Coded w x.now → Coded w y.now → Decides result
         (dec w x.now ≡ dec w y.now) }
 {
-    if x.len() != y.len() {
-        return false;
-    }
-    let mut k = 0;
-    while k < x.len() {
-        if x[k] != y[k] {
-            return false;
-        }
-        k += 1;
-    }
-    true
+    x == y
 }
 
 // Whether the form x is 0.

@@ -1,22 +1,12 @@
 -- What a public call answers by its contract alone: the refusal r exactly where Order.antt says so; from C, too.
-use Rattle.std.specs.Prelude.{Bool, true, false, List, ◌↔◌, ◌≡◌, refl, ℕ, zero, suc, ℤ, length}
+use Rattle.std.specs.Prelude.{Err, Bool, true, false, List, ◌↔◌, ◌≡◌, refl, ℕ, zero, suc, ℤ, length}
 use Rattle.std.proofs.Common.{sym, ap, ◌∙◌, arith}
 use Rattle.refusal.specs.declared.Refusal.{Refusal}
 use Rattle.refusal.specs.declared.Side.{Side}
 use Rattle.refusal.specs.declared.Side.TheVariants.{Left, Right, Neither}
-use Rattle.reply.specs.declared.Compared.{Compared}
-use Rattle.reply.specs.declared.Compared.TheVariants as C
-use Rattle.reply.specs.declared.Counted.{Counted}
-use Rattle.reply.specs.declared.Counted.TheVariants as D
-use Rattle.reply.specs.declared.Judged.{Judged}
-use Rattle.reply.specs.declared.Judged.TheVariants as J
-use Rattle.reply.specs.declared.Remaindered.{Remaindered}
-use Rattle.reply.specs.declared.Remaindered.TheVariants as R
-use Rattle.reply.specs.declared.Written.{Written}
-use Rattle.reply.specs.declared.Written.TheVariants as W
-use Rattle.reply.specs.definitions.Calls.{Verdict, equal, different, CompareCall, CountersCall, JudgeCall, NegateCall, AddCall}
+use Rattle.reply.specs.definitions.Calls.{Compared, Verdict, equal, different, CompareCall, CountersCall, JudgeCall, NegateCall, AddCall}
 use Rattle.reply.specs.definitions.Calls.{MultiplyCall, RaiseCall, FormRemainderCall, FormCall, RemainderCall}
-use Rattle.reply.specs.definitions.Reply.{Reply, gives, refuses, Work, lengths}
+use Rattle.reply.specs.definitions.Reply.{Counted, Judged, Remaindered, Written, Reply, gives, refuses, Work, lengths}
 use Rattle.door_compare.specs.Compare.{compared_of, is-compared}
 use Rattle.call_counters.specs.Counters.{counted_of, is-counted}
 use Rattle.call_judge.specs.Judge.{judged_of, is-judged}
@@ -44,73 +34,73 @@ said-exactly {answer = answer} {x = x} m is exactly r =
     (λ h. (exactly r).0 (m.only x r (sym is ∙ h)), λ w. is ∙ ap answer ((exactly r).1 w) ∙ m.same r)
 
 -- ---- a call with a result text
-written-says : Says written_of W.Refused
+written-says : Says written_of Err
 written-says = record { same = λ r. refl; only = only }
   where
-    only : (x : Reply (List ℕ)) (r : Refusal) → written_of x ≡ W.Refused r → x ≡ refuses r
+    only : (x : Reply (List ℕ)) (r : Refusal) → written_of x ≡ Err r → x ≡ refuses r
     only (gives w) r h = absurd (let z : ◌≡◌ {A = ℕ} 0 1 = cc in omega arith)
     only (refuses q) r h = cc
 
 module _ (row s b : List ℕ) (w : Work) {a : Written} {b' : List ℕ} {w' : Work} (r : Refusal) where
-  pub call-form-refuses : FormCall row s a b b' w w' → (a ≡ W.Refused r) ↔ FormRefuses row (lengths w) s (length b) r
+  pub call-form-refuses : FormCall row s a b b' w w' → (a ≡ Err r) ↔ FormRefuses row (lengths w) s (length b) r
   call-form-refuses c = said-exactly written-says (is-written c) (λ q. form-refuses row (lengths w) s q (length b)) r
 
-  pub call-negate-refuses : NegateCall row s a b b' w w' → (a ≡ W.Refused r) ↔ NegateRefuses row (lengths w) s (length b) r
+  pub call-negate-refuses : NegateCall row s a b b' w w' → (a ≡ Err r) ↔ NegateRefuses row (lengths w) s (length b) r
   call-negate-refuses c = said-exactly written-says (is-written c) (λ q. negate-refuses row (lengths w) s q (length b)) r
 
-  pub call-raise-refuses : (k : ℕ) → RaiseCall row s k a b b' w w' → (a ≡ W.Refused r) ↔ RaiseRefuses row (lengths w) s k (length b) r
+  pub call-raise-refuses : (k : ℕ) → RaiseCall row s k a b b' w w' → (a ≡ Err r) ↔ RaiseRefuses row (lengths w) s k (length b) r
   call-raise-refuses k c = said-exactly written-says (is-written c) (λ q. raise-refuses row (lengths w) s q k (length b)) r
 
-  pub call-add-refuses : (t : List ℕ) → AddCall row s t a b b' w w' → (a ≡ W.Refused r) ↔ AddRefuses row (lengths w) s t (length b) r
+  pub call-add-refuses : (t : List ℕ) → AddCall row s t a b b' w w' → (a ≡ Err r) ↔ AddRefuses row (lengths w) s t (length b) r
   call-add-refuses t c = said-exactly written-says (is-written c) (λ q. add-refuses row (lengths w) s q t (length b)) r
 
   pub call-multiply-refuses :
-      (t : List ℕ) → MultiplyCall row s t a b b' w w' → (a ≡ W.Refused r) ↔ MultiplyRefuses row (lengths w) s t (length b) r
+      (t : List ℕ) → MultiplyCall row s t a b b' w w' → (a ≡ Err r) ↔ MultiplyRefuses row (lengths w) s t (length b) r
   call-multiply-refuses t c = said-exactly written-says (is-written c) (λ q. multiply-refuses row (lengths w) s q t (length b)) r
 
 pub call-print-refuses :
     (book b : List ℕ) (w : Work) {a : Written} {b' : List ℕ} {w' : Work} (r : Refusal) → PrintCall book a b b' w w' →
-    (a ≡ W.Refused r) ↔ PrintRefused (lengths w) book (length b) r
+    (a ≡ Err r) ↔ PrintRefused (lengths w) book (length b) r
 call-print-refuses book b w r c = said-exactly written-says (is-written c) (print-refused (lengths w) book (length b)) r
 
 -- ---- a call that gives a remainder
-remaindered-says : Says remaindered_of R.Refused
+remaindered-says : Says remaindered_of Err
 remaindered-says = record { same = λ r. refl; only = only }
   where
-    only : (x : Reply ℕ) (r : Refusal) → remaindered_of x ≡ R.Refused r → x ≡ refuses r
+    only : (x : Reply ℕ) (r : Refusal) → remaindered_of x ≡ Err r → x ≡ refuses r
     only (gives n) r h = absurd (let z : ◌≡◌ {A = ℕ} 0 1 = cc in omega arith)
     only (refuses q) r h = cc
 
 module _ (row s : List ℕ) (N : List ℤ) (w : Work) {a : Remaindered} {w' : Work} (r : Refusal) where
-  pub call-remainder-refuses : RemainderCall row s N a w w' → (a ≡ R.Refused r) ↔ RemainderRefuses row (lengths w) s N r
+  pub call-remainder-refuses : RemainderCall row s N a w w' → (a ≡ Err r) ↔ RemainderRefuses row (lengths w) s N r
   call-remainder-refuses c = said-exactly remaindered-says (is-remainder c) (λ q. remainder-refuses row (lengths w) s q N) r
 
-  pub call-form-remainder-refuses : FormRemainderCall row s N a w w' → (a ≡ R.Refused r) ↔ FormRemainderRefuses row (lengths w) s N r
+  pub call-form-remainder-refuses : FormRemainderCall row s N a w w' → (a ≡ Err r) ↔ FormRemainderRefuses row (lengths w) s N r
   call-form-remainder-refuses c = said-exactly remaindered-says (is-remainder c) (λ q. form-remainder-refuses row (lengths w) s q N) r
 
 -- ---- the judging of a form, and the comparisons
-judged-says : Says judged_of J.Refused
+judged-says : Says judged_of Err
 judged-says = record { same = λ r. refl; only = only }
   where
-    only : (x : Reply (Unit {0})) (r : Refusal) → judged_of x ≡ J.Refused r → x ≡ refuses r
+    only : (x : Reply (Unit {0})) (r : Refusal) → judged_of x ≡ Err r → x ≡ refuses r
     only (gives u) r h = absurd (let z : ◌≡◌ {A = ℕ} 0 1 = cc in omega arith)
     only (refuses q) r h = cc
 
-pub call-judge-refuses : (row s : List ℕ) {a : Judged} (r : Refusal) → JudgeCall row s a → (a ≡ J.Refused r) ↔ JudgeRefuses row s r
+pub call-judge-refuses : (row s : List ℕ) {a : Judged} (r : Refusal) → JudgeCall row s a → (a ≡ Err r) ↔ JudgeRefuses row s r
 call-judge-refuses row s r c = said-exactly judged-says (is-judged c) (judge-refuses row s) r
 
-compared-says : Says compared_of C.Refused
+compared-says : Says compared_of Err
 compared-says = record { same = λ r. refl; only = only }
   where
-    only : (x : Reply Verdict) (r : Refusal) → compared_of x ≡ C.Refused r → x ≡ refuses r
+    only : (x : Reply Verdict) (r : Refusal) → compared_of x ≡ Err r → x ≡ refuses r
     only (gives equal) r h = absurd (let z : ◌≡◌ {A = ℕ} 0 1 = cc in omega arith)
     only (gives (different N m n)) r h = absurd (let z : ◌≡◌ {A = ℕ} 0 1 = cc in omega arith)
     only (refuses q) r h = cc
 
-counted-says : Says counted_of D.Refused
+counted-says : Says counted_of Err
 counted-says = record { same = λ r. refl; only = only }
   where
-    only : (x : Reply Bool) (r : Refusal) → counted_of x ≡ D.Refused r → x ≡ refuses r
+    only : (x : Reply Bool) (r : Refusal) → counted_of x ≡ Err r → x ≡ refuses r
     only (gives true) r h = absurd (let z : ◌≡◌ {A = ℕ} 0 1 = cc in omega arith)
     only (gives false) r h = absurd (let z : ◌≡◌ {A = ℕ} 0 1 = cc in omega arith)
     only (refuses q) r h = cc
@@ -118,11 +108,11 @@ counted-says = record { same = λ r. refl; only = only }
 module _ (row s t : List ℕ) (w : Work) {w' : Work} (r : Refusal) where
   pub call-compare-refuses :
       (p : List ℕ) {a : Compared} {p' : List ℕ} → CompareCall row s t a p p' w w' →
-      (a ≡ C.Refused r) ↔ CompareRefuses row (lengths w) (length p) s t r
+      (a ≡ Err r) ↔ CompareRefuses row (lengths w) (length p) s t r
   call-compare-refuses p c = said-exactly compared-says (is-compared c) (λ q. compare-refuses row (lengths w) s q (length p) t) r
 
   pub call-counters-refuses :
-      (width : ℕ) {a : Counted} → CountersCall row width s t a w w' → (a ≡ D.Refused r) ↔ CountersRefuses row (lengths w) width s t r
+      (width : ℕ) {a : Counted} → CountersCall row width s t a w w' → (a ≡ Err r) ↔ CountersRefuses row (lengths w) width s t r
   call-counters-refuses width c = said-exactly counted-says (is-counted c) (λ q. counters-refuses row (lengths w) s q width t) r
 
 -- ---- from C

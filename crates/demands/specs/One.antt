@@ -11,14 +11,9 @@ use Rattle.door_point.specs.Point.{is-remainder}
 use Rattle.door_result.specs.Result.{is-written}
 use Rattle.panel.specs.Panel.{PanelCompareCall, PanelFormCall, PanelRemainderCall}
 use Rattle.panel.specs.declared.PanelAnswer.{PanelAnswer}
-use Rattle.reply.specs.declared.Compared.{Compared}
-use Rattle.reply.specs.declared.Counted.{Counted}
-use Rattle.reply.specs.declared.Judged.{Judged}
-use Rattle.reply.specs.declared.Remaindered.{Remaindered}
-use Rattle.reply.specs.declared.Written.{Written}
-use Rattle.reply.specs.definitions.Calls.{CompareCall, CountersCall, JudgeCall, NegateCall, AddCall, MultiplyCall, RaiseCall}
+use Rattle.reply.specs.definitions.Calls.{Compared, CompareCall, CountersCall, JudgeCall, NegateCall, AddCall, MultiplyCall, RaiseCall}
 use Rattle.reply.specs.definitions.Calls.{FormRemainderCall, FormCall, RemainderCall}
-use Rattle.reply.specs.definitions.Reply.{Reply, Work, Writes, Remainders}
+use Rattle.reply.specs.definitions.Reply.{Counted, Judged, Remaindered, Written, Reply, Work, Writes, Remainders}
 
 -- ---- a call with a result text
 module _ {r q : Written} {b₁ b₂ : List ℕ} {w₁ w₂ : Work} where

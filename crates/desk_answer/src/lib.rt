@@ -7,7 +7,7 @@ ghost use Rattle.desk_reply.specs.Reply.{room};
 ghost use Rattle.desk_answer.specs.Answer.{word_of, line_answer, answer_in};
 
 // The words, and what is none.
-#[derive(Drop)]
+#[derive(Clone, Copy, Debug, PartialEq, Eq)]
 enum Word {
     Form,
     Remainder,
@@ -22,7 +22,7 @@ enum Word {
     Unknown,
 }
 
-// Which word is spelt so.
+// Which word is spelt so. A `match` on the bytes was tried, and its proof did not close: its last arm alone is more than 25 goals.
 fn word_of(field: &[u8]) -> Word
     ensures { result ≡ word_of field.now }
 {

@@ -1,16 +1,13 @@
 -- What `compare` and `counters` are answered with, by the fields of their lines; tables lists the lengths of the work tables.
-use Rattle.std.specs.Prelude.{Bool, cond, List, ℕ}
+use Rattle.reply.specs.declared.Comparison.TheVariants.{Same, Different}
+use Rattle.std.specs.Prelude.{Ok, Err, Bool, true, false, cond, List, ℕ}
 use Rattle.text.specs.definitions.Bytes.{bytes}
-use Rattle.reply.specs.definitions.Calls.{Verdict, equal, different, compare_reply, counters_reply}
-use Rattle.reply.specs.definitions.Reply.{Reply, gives, refuses}
+use Rattle.reply.specs.definitions.Calls.{Compared, Verdict, equal, different, compare_reply, counters_reply}
+use Rattle.reply.specs.definitions.Reply.{Counted, Reply, gives, refuses}
 use Rattle.desk_field.specs.Fields.{field_of}
 use Rattle.text_line.specs.Line.{different_text}
 use Rattle.desk_reply.specs.Reply.{refused_text}
 use Rattle.desk_serve.specs.Serve.{counted, numbered}
-use Rattle.reply.specs.declared.Compared.{Compared}
-use Rattle.reply.specs.declared.Compared.TheVariants as C
-use Rattle.reply.specs.declared.Counted.{Counted}
-use Rattle.reply.specs.declared.Counted.TheVariants as K
 
 -- ---- over the whole numbers
 -- the line of a comparison
@@ -21,9 +18,9 @@ compared_text (refuses bad) = refused_text bad
 
 -- the same of the answer that the call gives, and of the point
 abbrev pub compared_line : Compared → List ℕ → List ℕ
-compared_line C.Same N = bytes "SAME"
-compared_line (C.Different l r) N = different_text N l r
-compared_line (C.Refused bad) N = refused_text bad
+compared_line (Ok Same) N = bytes "SAME"
+compared_line (Ok (Different l r)) N = different_text N l r
+compared_line (Err bad) N = refused_text bad
 
 -- `compare ROW TERM TERM`, with a point buffer of four numbers
 abbrev pub compare_line : List ℕ → List ℕ → List ℕ
@@ -37,9 +34,9 @@ counted_text (refuses bad) = refused_text bad
 
 -- the same of the answer that the call gives
 abbrev pub counted_line : Counted → List ℕ
-counted_line K.Same = bytes "SAME"
-counted_line K.Different = bytes "DIFF"
-counted_line (K.Refused bad) = refused_text bad
+counted_line (Ok true) = bytes "SAME"
+counted_line (Ok false) = bytes "DIFF"
+counted_line (Err bad) = refused_text bad
 
 -- `counters ROW WIDTH TERM TERM`, where WIDTH is the number w
 abbrev pub counters_by : List ℕ → List ℕ → ℕ → List ℕ

@@ -1,21 +1,17 @@
 -- The point that is printed is the reply's, and the answers by the tests that the code makes.
-use Rattle.std.specs.Prelude.{Bool, true, false, List, ◌++◌, ◌≡◌, ℕ, ◌≤◌, min, leb, length, take, drop}
+use Rattle.std.specs.Prelude.{Option, Some, Bool, true, false, List, ◌++◌, ◌≡◌, ℕ, ◌≤◌, min, leb, length, take, drop}
 use Rattle.std.proofs.Math.Path.{refl}
 use Rattle.std.proofs.Common.{sym, ap, ◌∙◌, arith, take_at, leb-true}
 use Rattle.text.specs.definitions.Bytes.{is_row}
-use Rattle.reply.specs.definitions.Calls.{Verdict, compare_of, compare_reply, point_after, counters_reply}
-use Rattle.reply.specs.definitions.Reply.{Reply, gives, refuses, enough, asked}
+use Rattle.reply.specs.definitions.Calls.{Compared, Verdict, compare_of, compare_reply, point_after, counters_reply}
+use Rattle.reply.specs.definitions.Reply.{Counted, Reply, gives, refuses, enough, asked}
 use Rattle.desk_field.specs.Fields.{field_of, count_of, natural_of}
-use Rattle.desk_field.specs.declared.Number.{Number}
-use Rattle.desk_field.specs.declared.Number.TheVariants.{Is}
 use Rattle.text_line.specs.Line.{different_text}
 use Rattle.desk_reply.specs.Reply.{wrong_text}
 use Rattle.desk_serve.specs.Laws.{counted_is, counted-not, three-fields, numbered_is}
 use Rattle.door_compare.specs.Compare.{compared_of}
-use Rattle.reply.specs.declared.Compared.{Compared}
 use Rattle.door_compare.specs.laws.Sized.{Sized, alike, apart, refusal, compare-sized}
 use Rattle.call_counters.specs.Counters.{counted_of}
-use Rattle.reply.specs.declared.Counted.{Counted}
 use Rattle.desk_compare.specs.Compare.{compared_text, compared_line, compare_line, counted_text, counted_line, counters_by, counters_line}
 
 -- ---- compare
@@ -66,8 +62,8 @@ counted-line (gives true) = refl
 counted-line (gives false) = refl
 counted-line (refuses bad) = refl
 
-module _ (tables line : List ℕ) {n w : ℕ} {field : List ℕ} {x : Number} (is : n ≡ count_of line) (there : 3 ≤ n)
-    (read : x ≡ natural_of field) (at : field ≡ field_of line 2) (known : x ≡ Is w) where
+module _ (tables line : List ℕ) {n w : ℕ} {field : List ℕ} {x : Option ℕ} (is : n ≡ count_of line) (there : 3 ≤ n)
+    (read : x ≡ natural_of field) (at : field ≡ field_of line 2) (known : x ≡ Some w) where
   counters-is : counters_by tables line w ≡ counters_line tables line
   counters-is = numbered_is 2 line (counters_by tables line) is there read at known
 

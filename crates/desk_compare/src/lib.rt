@@ -1,13 +1,12 @@
 // The lines of `compare` and `counters`: each reads the fields of its request, makes its call and writes the answer's line.
 #![tactic(auto)]
 
-ghost use Rattle.std.specs.Prelude.{[], ◌∷◌, ◌≡◌, ◌≤◌, min, length};
+ghost use Rattle.std.specs.Prelude.{[], ◌∷◌, ◌≤◌, length};
 ghost use Rattle.form_write.specs.Write.{Wrote};
 ghost use Rattle.desk_reply.specs.Reply.{room};
 ghost use Rattle.desk_compare.specs.Compare.{compared_line, compare_line, counted_line, counters_line};
 
-use desk_field::Number;
-use reply::{Compared, Counted};
+use reply::{Compared, Comparison, Counted};
 
 // The line of a comparison at this point.
 fn compared(answer: Compared, point: &[u32], out: &mut [u8]) -> usize
@@ -16,20 +15,10 @@ fn compared(answer: Compared, point: &[u32], out: &mut [u8]) -> usize
     ensures { Wrote result (compared_line answer point.now) out.old out.new }
 {
     match answer {
-        Compared::Same => form_write::put(b"SAME", out),
-        Compared::Different(l, r) => text_line::different(point, l, r, out),
-        Compared::Refused(bad) => desk_reply::refused(bad, out),
+        Ok(Comparison::Same) => form_write::put(b"SAME", out),
+        Ok(Comparison::Different(l, r)) => text_line::different(point, l, r, out),
+        Err(bad) => desk_reply::refused(bad, out),
     }
-}
-
-// A number, cut down to four.
-fn at_most_four(n: usize) -> usize
-    ensures { result ≡ min n 4 }
-{
-    if n < 4 {
-        return n;
-    }
-    4
 }
 
 // `compare ROW TERM TERM`
@@ -52,7 +41,7 @@ pub fn compare_line(
     let row = desk_field::field(line, 1);
     let s = desk_field::field(line, 2);
     let t = desk_field::field(line, 3);
-    let e = at_most_four(row.len());
+    let e = row.len().min(4);
     let mut point = [0u32; 4];
     let answer = call_compare::compare(row, s, t, &mut point, a, b, c, d);
     compared(answer, &point[..e], out)
@@ -64,9 +53,9 @@ fn counted(answer: Counted, out: &mut [u8]) -> usize
     ensures { Wrote result (counted_line answer) out.old out.new }
 {
     match answer {
-        Counted::Same => form_write::put(b"SAME", out),
-        Counted::Different => form_write::put(b"DIFF", out),
-        Counted::Refused(bad) => desk_reply::refused(bad, out),
+        Ok(true) => form_write::put(b"SAME", out),
+        Ok(false) => form_write::put(b"DIFF", out),
+        Err(bad) => desk_reply::refused(bad, out),
     }
 }
 
@@ -87,8 +76,7 @@ pub fn counters_line(
     if n < 3 {
         return desk_reply::wrong(n, out);
     }
-    let width = desk_field::natural(desk_field::field(line, 2));
-    let Number::Is(w) = width else {
+    let Some(w) = desk_field::natural(desk_field::field(line, 2)) else {
         return desk_reply::wrong(2, out);
     };
     if n != 5 {

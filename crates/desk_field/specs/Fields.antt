@@ -1,11 +1,8 @@
 -- A request line: fields parted by one tab each, and the numbers in them.
-use Rattle.std.specs.Prelude.{Bool, true, false, cond, List, [], ◌∷◌, ◌≡◌, ℕ, zero, suc, ◌+◌, ◌≤◌, eqb, ltb, ℤ, pos, negsuc, length, take, drop}
-use Rattle.std.proofs.Math.Option.{Option, none, some}
+use Rattle.std.specs.Prelude.{Option, Some, None, Bool, true, false, cond, List, [], ◌∷◌, ◌≡◌, ℕ, zero, suc, ◌+◌, ◌≤◌, eqb, ltb, min, ℤ, pos, negsuc, length, take, drop}
+use Rattle.std.proofs.Math.Option.{none, some}
+use Rattle.std.proofs.Math.Option as Read
 use Rattle.text.specs.definitions.Bytes.{read_nat, read_int}
-use Rattle.desk_field.specs.declared.Number.{Number}
-use Rattle.desk_field.specs.declared.Number.TheVariants as N
-use Rattle.desk_field.specs.declared.Coordinate.{Coordinate}
-use Rattle.desk_field.specs.declared.Coordinate.TheVariants as C
 
 -- the bytes before the first tab
 abbrev pub first_of : List ℕ → List ℕ
@@ -36,31 +33,36 @@ pub record EndsAt (r : ℕ) (s : List ℕ) : Type 0 where
   pub first : take r s ≡ first_of s
   pub rest : drop (r + 1) s ≡ rest_of s
 
--- a decimal number that fits 32 bits
-abbrev pub natural32 : Option ℕ → Number
-natural32 none = N.Wrong
-natural32 (some n) = cond (ltb n 4294967296) (N.Is n) N.Wrong
+-- a decimal number, cut down to 4,294,967,296
+abbrev pub cut_of : Read.Option ℕ → Option ℕ
+cut_of none = None
+cut_of (some n) = Some (min n 4294967296)
 
-abbrev pub natural_of : List ℕ → Number
+-- a decimal number that fits 32 bits
+abbrev pub natural32 : Read.Option ℕ → Option ℕ
+natural32 none = None
+natural32 (some n) = cond (ltb n 4294967296) (Some n) None
+
+abbrev pub natural_of : List ℕ → Option ℕ
 natural_of w = natural32 (read_nat w)
 
 -- a decimal number from -2^31 to 2^31 - 1
-abbrev pub signed32 : Option ℤ → Coordinate
-signed32 none = C.Wrong
-signed32 (some (pos n)) = cond (ltb n 2147483648) (C.Is (pos n)) C.Wrong
-signed32 (some (negsuc n)) = cond (ltb n 2147483648) (C.Is (negsuc n)) C.Wrong
+abbrev pub signed32 : Read.Option ℤ → Option ℤ
+signed32 none = None
+signed32 (some (pos n)) = cond (ltb n 2147483648) (Some (pos n)) None
+signed32 (some (negsuc n)) = cond (ltb n 2147483648) (Some (negsuc n)) None
 
-abbrev pub signed_of : List ℕ → Coordinate
+abbrev pub signed_of : List ℕ → Option ℤ
 signed_of w = signed32 (read_int w)
 
-abbrev pub is_coordinate : Coordinate → Bool
-is_coordinate (C.Is z) = true
-is_coordinate C.Wrong = false
+abbrev pub is_coordinate : Option ℤ → Bool
+is_coordinate (Some z) = true
+is_coordinate None = false
 
 -- the number itself; 0 where there is none
-abbrev pub coordinate_of : Coordinate → ℤ
-coordinate_of (C.Is z) = z
-coordinate_of C.Wrong = pos 0
+abbrev pub coordinate_of : Option ℤ → ℤ
+coordinate_of (Some z) = z
+coordinate_of None = pos 0
 
 -- how many of the first n fields of s are coordinates, up to the first that is none
 abbrev pub coordinates_of : ℕ → List ℕ → ℕ

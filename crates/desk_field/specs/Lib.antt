@@ -2,3 +2,4 @@
 pub mod Fields
 pub mod Walk
 pub mod Numbers
+pub mod Theorems

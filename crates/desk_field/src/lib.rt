@@ -1,62 +1,32 @@
 // The fields of a request line, parted by one tab each, and the numbers in them.
 #![tactic(auto)]
 
-ghost use Rattle.std.specs.Prelude.{true, ◌≡◌, ◌≤◌, min, length, drop};
-ghost use Rattle.text.specs.definitions.Bytes.{all, digit, value_from, read_nat, below0, from0};
-ghost use Rattle.desk_field.specs.Fields.{EndsAt, first_of, rest_of, field_of, count_of, natural_of, signed32, signed_of, is_coordinate};
-ghost use Rattle.desk_field.specs.Fields.{coordinate_of, coordinates_of};
+ghost use Rattle.std.specs.Prelude.{◌≡◌};
+ghost use Rattle.text.specs.definitions.Bytes.{read_nat, below0, from0};
+ghost use Rattle.desk_field.specs.Fields.{EndsAt, first_of, rest_of, field_of, count_of, cut_of, natural_of, signed32, signed_of};
+ghost use Rattle.desk_field.specs.Fields.{is_coordinate, coordinate_of, coordinates_of};
 
-const TAB: u8 = 9;
-
-// A field read as a number of 32 bits.
-#[derive(Drop)]
-pub enum Number {
-    Is(u32),
-    Wrong,
-}
-
-// A field read as a signed number of 32 bits.
-#[derive(Drop)]
-pub enum Coordinate {
-    Is(i32),
-    Wrong,
-}
+const TAB: u8 = b'\t';
 
 // Where the first tab stands, or the length where there is none.
 fn first_end(s: &[u8]) -> usize
     ensures { EndsAt result s.now }
 {
-    let mut i = 0;
-    while i < s.len() {
-        if s[i] == TAB {
-            return i;
-        }
-        i += 1;
-    }
-    i
+    s.iter().position(|b| *b == TAB).unwrap_or(s.len())
 }
 
 // How many fields the line has: one more than it has tabs.
 pub fn count(line: &[u8]) -> usize
     ensures { result ≡ count_of line.now }
 {
-    let mut n = 1;
-    let mut i = 0;
-    while i < line.len() {
-        if line[i] == TAB {
-            n += 1;
-        }
-        i += 1;
-    }
-    n
+    line.iter().filter(|b| **b == TAB).count() + 1
 }
 
 // The first field.
 fn first(s: &[u8]) -> &[u8]
     ensures { result.now ≡ first_of s.now }
 {
-    let e = first_end(s);
-    &s[..e]
+    &s[..first_end(s)]
 }
 
 // What stands behind the first field and its tab.
@@ -65,10 +35,9 @@ fn rest(s: &[u8]) -> &[u8]
 {
     let e = first_end(s);
     if e == s.len() {
-        return &s[e..];
+        return &[];
     }
-    let next = e + 1;
-    &s[next..]
+    &s[e + 1..]
 }
 
 // The field k of the line, counted from 0; nothing where the line has no such field.
@@ -81,119 +50,70 @@ pub fn field(line: &[u8], k: usize) -> &[u8]
     field(rest(line), k - 1)
 }
 
-// The number that the digits of w stand for, cut down to 4,294,967,296.
-fn cut(w: &[u8]) -> u64
-    requires { all digit w.now ≡ true }
-    ensures { result ≡ min (value_from 0 w.now) 4294967296 }
-{
-    let mut value = 0u64;
-    let mut i = 0;
-    while i < w.len() {
-        value = value * 10 + (w[i] - 48) as u64;
-        if 4294967296 < value {
-            value = 4294967296;
-        }
-        i += 1;
-    }
-    value
-}
-
 // The number of 32 bits that the field w is.
-pub fn natural(w: &[u8]) -> Number
+pub fn natural(w: &[u8]) -> Option<u32>
     ensures { result ≡ natural_of w.now }
 {
+    u32::try_from(value(w)?).ok()
+}
+
+// The number that the field w is, cut down to 4,294,967,296.
+fn value(w: &[u8]) -> Option<u64>
+    ensures { result ≡ cut_of (read_nat w.now) }
+{
     if !text_word::is_natural(w) {
-        return Number::Wrong;
+        return None;
     }
-    let n = cut(w);
-    if n < 4294967296 {
-        return Number::Is(n as u32);
-    }
-    Number::Wrong
+    Some(text_word::cut_wide(w, 4294967296))
 }
 
 // The coordinate that is as far below zero as the number w.
-fn below_zero(w: &[u8]) -> Coordinate
+fn below_zero(w: &[u8]) -> Option<i32>
     ensures { result ≡ signed32 (below0 (read_nat w.now)) }
 {
-    if !text_word::is_natural(w) {
-        return Coordinate::Wrong;
-    }
-    let n = cut(w);
+    let n = value(w)?;
     if n == 0 {
-        return Coordinate::Wrong;
+        return None;
     }
-    if 2147483648 < n {
-        return Coordinate::Wrong;
-    }
-    Coordinate::Is(-1 - ((n - 1) as i32))
+    i32::try_from(-(n as i64)).ok()
 }
 
 // The coordinate that is the number w.
-fn from_zero(w: &[u8]) -> Coordinate
+fn from_zero(w: &[u8]) -> Option<i32>
     ensures { result ≡ signed32 (from0 (read_nat w.now)) }
 {
-    if !text_word::is_natural(w) {
-        return Coordinate::Wrong;
-    }
-    let n = cut(w);
-    if n < 2147483648 {
-        return Coordinate::Is(n as i32);
-    }
-    Coordinate::Wrong
+    i32::try_from(value(w)?).ok()
 }
 
 // The signed number of 32 bits that the field w is.
-fn signed(w: &[u8]) -> Coordinate
+fn signed(w: &[u8]) -> Option<i32>
     ensures { result ≡ signed_of w.now }
 {
-    if w.len() == 0 {
-        return Coordinate::Wrong;
+    match w {
+        [b'-', rest @ ..] => below_zero(rest),
+        _ => from_zero(w),
     }
-    if w[0] == b'-' {
-        return below_zero(&w[1..]);
-    }
-    from_zero(w)
 }
 
 // Whether the first field of s is a coordinate.
 fn begins_coordinate(s: &[u8]) -> bool
     ensures { result ≡ is_coordinate (signed_of (first_of s.now)) }
 {
-    let x = signed(first(s));
-    match x {
-        Coordinate::Is(_) => true,
-        Coordinate::Wrong => false,
-    }
-}
-
-// Where the field behind the one at a place begins.
-fn place_behind(s: &[u8], at: usize) -> usize
-    requires { at ≤ length s.now }
-    ensures upper_bound { result ≤ length s.now }
-    ensures s_value { drop result s.now ≡ rest_of (drop at s.now) }
-{
-    let e = at + first_end(&s[at..]);
-    if e < s.len() {
-        return e + 1;
-    }
-    s.len()
+    signed(first(s)).is_some()
 }
 
 // How many of the first n fields of s are coordinates, up to the first that is none.
 fn coordinates_in(s: &[u8], n: usize) -> usize
     ensures { result ≡ coordinates_of n s.now }
 {
-    let mut at = 0;
-    let mut k = 0;
-    while k < n {
-        if !begins_coordinate(&s[at..]) {
+    let mut left = s;
+    for k in 0..n {
+        if !begins_coordinate(left) {
             return k;
         }
-        at = place_behind(s, at);
-        k += 1;
+        left = rest(left);
     }
-    k
+    n
 }
 
 // How many of the n fields from field 3 on are coordinates, up to the first that is none.
@@ -207,9 +127,5 @@ pub fn coordinates(line: &[u8], n: usize) -> usize
 pub fn coordinate_in(w: &[u8]) -> i32
     ensures { result ≡ coordinate_of (signed_of w.now) }
 {
-    let x = signed(w);
-    match x {
-        Coordinate::Is(z) => z,
-        Coordinate::Wrong => 0,
-    }
+    signed(w).unwrap_or(0)
 }

@@ -1,14 +1,12 @@
 -- What `judge`, `negate`, `raise` and `formremainder` are answered with, by the fields of their lines; tables lists the lengths of the
 -- work tables.
-use Rattle.std.specs.Prelude.{List, ℕ}
+use Rattle.std.specs.Prelude.{Ok, Err, List, ℕ}
 use Rattle.text.specs.definitions.Bytes.{bytes}
 use Rattle.reply.specs.definitions.Calls.{judge_reply, negate_reply, raise_reply, form_remainder_reply}
-use Rattle.reply.specs.definitions.Reply.{Reply, gives, refuses}
+use Rattle.reply.specs.definitions.Reply.{Judged, Reply, gives, refuses}
 use Rattle.desk_field.specs.Fields.{field_of}
 use Rattle.desk_reply.specs.Reply.{refused_text, result_text}
 use Rattle.desk_serve.specs.Serve.{counted, numbered, point_of, pointed, remaindered_text}
-use Rattle.reply.specs.declared.Judged.{Judged}
-use Rattle.reply.specs.declared.Judged.TheVariants.{Form, Refused}
 
 -- the line of a judgement
 abbrev pub judged_text : Reply (Unit {0}) → List ℕ
@@ -17,8 +15,8 @@ judged_text (refuses bad) = refused_text bad
 
 -- the same of the answer that the call gives
 abbrev pub judged_line : Judged → List ℕ
-judged_line Form = bytes "YES"
-judged_line (Refused bad) = refused_text bad
+judged_line (Ok u) = bytes "YES"
+judged_line (Err bad) = refused_text bad
 
 -- `judge ROW FORM`, with no work tables
 abbrev pub judge_line : List ℕ → List ℕ

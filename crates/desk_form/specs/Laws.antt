@@ -1,21 +1,18 @@
 -- The result texts of `negate` and `raise` are within what was lent, and the answers by the tests that the code makes.
-use Rattle.std.specs.Prelude.{List, ◌≡◌, refl, ℕ, ◌≤◌, min, leb, length}
+use Rattle.std.specs.Prelude.{Option, Some, List, ◌≡◌, refl, ℕ, ◌≤◌, min, leb, length}
 use Rattle.std.proofs.Common.{ap, ◌∙◌}
 use Rattle.refusal.specs.declared.Side.TheVariants.{Left}
 use Rattle.horner.specs.definitions.Form.{negate, raise}
 use Rattle.horner.specs.definitions.Rings.{ℤ_ring}
 use Rattle.text.specs.definitions.FormReading.{accept_form, text}
 use Rattle.reply.specs.definitions.Calls.{of_power, judge_reply, negate_reply, raise_reply}
-use Rattle.reply.specs.definitions.Reply.{Reply, gives, refuses}
+use Rattle.reply.specs.definitions.Reply.{Judged, Reply, gives, refuses}
 use Rattle.desk_field.specs.Fields.{field_of, count_of, natural_of}
-use Rattle.desk_field.specs.declared.Number.{Number}
-use Rattle.desk_field.specs.declared.Number.TheVariants.{Is}
 use Rattle.desk_reply.specs.Reply.{wrong_text, result_text}
 use Rattle.desk_reply.specs.laws.Replies.{Within, within-asked, within-read, within-fitted}
 use Rattle.desk_serve.specs.Laws.{counted-not, two_fields, numbered_is}
 use Rattle.desk_serve.specs.Texts.{within-opened, within-limited}
 use Rattle.call_judge.specs.Judge.{judged_of}
-use Rattle.reply.specs.declared.Judged.{Judged}
 use Rattle.desk_form.specs.Form.{judged_text, judged_line, judge_line, raise_by, raise_line}
 
 -- ---- result texts
@@ -45,8 +42,8 @@ judge-fields line {n} {row} {s} e h r t a =
     ap judged_line a ∙ judged-is (judge_reply row s) ∙ two_fields 3 line e h r t (λ u v. judged_text (judge_reply u v))
 
 -- ---- raising, where field 3 is the number k
-module _ (tables line : List ℕ) {n k : ℕ} {field : List ℕ} {x : Number} (is : n ≡ count_of line) (there : 4 ≤ n)
-    (read : x ≡ natural_of field) (at : field ≡ field_of line 3) (known : x ≡ Is k) where
+module _ (tables line : List ℕ) {n k : ℕ} {field : List ℕ} {x : Option ℕ} (is : n ≡ count_of line) (there : 4 ≤ n)
+    (read : x ≡ natural_of field) (at : field ≡ field_of line 3) (known : x ≡ Some k) where
   raise-is : raise_by tables line k ≡ raise_line tables line
   raise-is = numbered_is 3 line (raise_by tables line) is there read at known
 

@@ -7,7 +7,6 @@ ghost use Rattle.form_write.specs.Write.{Wrote};
 ghost use Rattle.desk_reply.specs.Reply.{room};
 ghost use Rattle.desk_form.specs.Form.{judged_line, judge_line, negate_line, raise_line, form_remainder_line};
 
-use desk_field::Number;
 use reply::Judged;
 
 // The line of a judgement.
@@ -16,8 +15,8 @@ fn judged(answer: Judged, out: &mut [u8]) -> usize
     ensures { Wrote result (judged_line answer) out.old out.new }
 {
     match answer {
-        Judged::Form => form_write::put(b"YES", out),
-        Judged::Refused(bad) => desk_reply::refused(bad, out),
+        Ok(()) => form_write::put(b"YES", out),
+        Err(bad) => desk_reply::refused(bad, out),
     }
 }
 
@@ -76,8 +75,7 @@ pub fn raise_line(
     if n < 4 {
         return desk_reply::wrong(n, out);
     }
-    let power = desk_field::natural(desk_field::field(line, 3));
-    let Number::Is(k) = power else {
+    let Some(k) = desk_field::natural(desk_field::field(line, 3)) else {
         return desk_reply::wrong(3, out);
     };
     if n != 4 {
@@ -102,8 +100,7 @@ pub fn form_remainder_line(
     ensures { Wrote result (form_remainder_line (length a.old ∷ length b.old ∷ length c.old ∷
         length d.old ∷ []) line.now) out.old out.new }
 {
-    let f = desk_serve::point_fault(line);
-    if f != 0 {
+    if let Some(f) = desk_serve::point_fault(line) {
         return desk_reply::wrong(f, out);
     }
     let row = desk_field::field(line, 1);

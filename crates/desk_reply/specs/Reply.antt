@@ -1,13 +1,11 @@
 -- The lines that answer requests, as texts, and what it is to have written one.
-use Rattle.std.specs.Prelude.{List, ◌++◌, ◌≡◌, ℕ, ◌+◌, ◌≤◌}
+use Rattle.std.specs.Prelude.{Ok, Err, List, ◌++◌, ◌≡◌, ℕ, ◌+◌, ◌≤◌}
 use Rattle.text.specs.definitions.Bytes.{bytes, decimal}
 use Rattle.form_write.specs.Write.{Wrote}
-use Rattle.reply.specs.definitions.Reply.{Reply, gives, refuses}
+use Rattle.reply.specs.definitions.Reply.{Written, Reply, gives, refuses}
 use Rattle.refusal.specs.declared.Refusal.{Refusal}
 use Rattle.refusal.specs.declared.Side.{Side}
 use Rattle.refusal.specs.declared.Side.TheVariants.{Left, Right, Neither}
-use Rattle.reply.specs.declared.Written.{Written}
-use Rattle.reply.specs.declared.Written.TheVariants.{Text, Refused}
 
 -- the bytes that an answer may take: `FORM `, and a result of at most 65,535 bytes
 abbrev pub room : ℕ
@@ -37,10 +35,10 @@ remainder_text n = bytes "REMAINDER " ++ decimal n
 
 -- a buffer of k bytes has room for the line of an answer
 abbrev pub LineFits : Written → ℕ → Type 0
-LineFits (Text n) k = (5 + n ≤ k) × (64 ≤ k)
-LineFits (Refused bad) k = 64 ≤ k
+LineFits (Ok n) k = (5 + n ≤ k) × (64 ≤ k)
+LineFits (Err bad) k = 64 ≤ k
 
 -- the line of an answer: where there is a result text, `FORM ` is written in front of it
 abbrev pub Replied : Written → ℕ → List ℕ → List ℕ → Type 0
-Replied (Text n) r old new = (r ≡ 5 + n) × Wrote 5 (bytes "FORM ") old new
-Replied (Refused bad) r old new = Wrote r (refused_text bad) old new
+Replied (Ok n) r old new = (r ≡ 5 + n) × Wrote 5 (bytes "FORM ") old new
+Replied (Err bad) r old new = Wrote r (refused_text bad) old new

@@ -1,16 +1,13 @@
 -- The answers by the tests that the code makes.
 use Rattle.std.proofs.Math.Bool.{cond}
-use Rattle.std.specs.Prelude.{List, ◌≡◌, refl, ℕ, suc, ◌+◌, ◌-◌, ◌≤◌, ◌<◌, min, ltb, ℤ, length, take}
+use Rattle.std.specs.Prelude.{Option, Some, None, List, ◌≡◌, refl, ℕ, zero, suc, ◌+◌, ◌-◌, ◌≤◌, ◌<◌, min, ltb, ℤ, length, take}
 use Rattle.std.proofs.Math.Path.{sym, ap}
 use Rattle.std.proofs.Common.{◌∙◌, arith, length-take-le, eq-eqb, ne_eqb, le-ltb, lt-ltb}
-use Rattle.reply.specs.definitions.Reply.{Reply, gives, refuses}
+use Rattle.reply.specs.definitions.Reply.{Remaindered, Reply, gives, refuses}
 use Rattle.desk_field.specs.Fields.{field_of, rest_of, count_of, natural_of, coordinates_of}
-use Rattle.desk_field.specs.declared.Number.{Number}
-use Rattle.desk_field.specs.declared.Number.TheVariants.{Is, Wrong}
 use Rattle.desk_reply.specs.Reply.{wrong_text}
 use Rattle.door_point.specs.Point.{remaindered_of}
-use Rattle.reply.specs.declared.Remaindered.{Remaindered}
-use Rattle.desk_serve.specs.Serve.{counted, number_or, numbered, point_fault, five_of, point_of, pointed, remaindered_text}
+use Rattle.desk_serve.specs.Serve.{counted, number_or, numbered, point_fault, some_fault, five_of, point_of, pointed, remaindered_text}
 use Rattle.desk_serve.specs.Serve.{remaindered_line}
 
 -- ---- the number of fields
@@ -45,17 +42,17 @@ module _ (k : ℕ) (line : List ℕ) (w : ℕ → List ℕ) {n : ℕ} (is : n �
       ∙ sym (ap (λ b. cond b (wrong_text (count_of line)) (number_or k w (natural_of (field_of line k))))
       (lt-ltb (count_of line) (suc k) (omega arith)))
 
-  module _ (there : suc k ≤ n) {field : List ℕ} {x : Number} (read : x ≡ natural_of field) (at : field ≡ field_of line k) where
+  module _ (there : suc k ≤ n) {field : List ℕ} {x : Option ℕ} (read : x ≡ natural_of field) (at : field ≡ field_of line k) where
     numbered-by : number_or k w x ≡ numbered k line w
     numbered-by =
         ap (number_or k w) (read ∙ ap natural_of at)
         ∙ sym (ap (λ b. cond b (wrong_text (count_of line)) (number_or k w (natural_of (field_of line k))))
         (le-ltb (count_of line) (suc k) (omega arith)))
 
-    pub numbered-wrong : x ≡ Wrong → wrong_text k ≡ numbered k line w
+    pub numbered-wrong : x ≡ None → wrong_text k ≡ numbered k line w
     numbered-wrong e = sym (ap (number_or k w) e) ∙ numbered-by
 
-    pub numbered_is : {m : ℕ} → x ≡ Is m → w m ≡ numbered k line w
+    pub numbered_is : {m : ℕ} → x ≡ Some m → w m ≡ numbered k line w
     numbered_is e = sym (ap (number_or k w) e) ∙ numbered-by
 
 -- ---- coordinates
@@ -85,6 +82,25 @@ module _ (line : List ℕ) {n : ℕ} (is : n ≡ count_of line) where
 
     pub fault-none : n - 3 ≤ k → 0 ≡ point_fault line
     fault-none h = sym (rest-of (ap (λ b. cond b (3 + k) 0) (le-ltb k (count_of line - 3) (omega arith))))
+
+-- a field that is wrong is not 0
+pub fault-some : (n : ℕ) {f : ℕ} {x : Option ℕ} → x ≡ some_fault n → x ≡ Some f → (f ≡ n) × (f ≡ 0 → ⊥)
+fault-some zero e h = absurd (some-none (sym h ∙ e))
+  where
+    some-none : {f : ℕ} → ◌≡◌ {A = Option ℕ} (Some f) None → ⊥
+    some-none q = let z : ◌≡◌ {A = ℕ} 0 1 = cc in omega arith
+fault-some (suc n) {f} e h =
+    let q : Some f ≡ Some (suc n) = sym h ∙ e in
+    let g : f ≡ suc n = cc in
+    (g, λ z. omega arith)
+
+pub fault-no : (n : ℕ) {x : Option ℕ} → x ≡ some_fault n → x ≡ None → 0 ≡ n
+fault-no zero e h = refl
+fault-no (suc n) e h = let q : Some (suc n) ≡ None = sym e ∙ h in let z : ◌≡◌ {A = ℕ} 0 1 = cc in absurd (omega arith)
+
+pub some-fault : {n m : ℕ} → (n ≡ 0 → ⊥) → n ≡ m → Some n ≡ some_fault m
+some-fault {n = zero} h e = absurd (h refl)
+some-fault {n = suc n} h e = ap some_fault e
 
 module _ (line w : List ℕ) {f : ℕ} (is : f ≡ point_fault line) where
   pub pointed-not : (f ≡ 0 → ⊥) → wrong_text f ≡ pointed line w

@@ -1,12 +1,8 @@
 -- What the answers to request lines share: how many fields are wanted, numbers and coordinates in fields, and the line of a remainder.
-use Rattle.std.specs.Prelude.{cond, List, [], ◌∷◌, ℕ, suc, ◌+◌, ◌-◌, min, eqb, ltb, ℤ, take}
-use Rattle.reply.specs.definitions.Reply.{Reply, gives, refuses}
+use Rattle.std.specs.Prelude.{Option, Some, None, Ok, Err, cond, List, [], ◌∷◌, ℕ, zero, suc, ◌+◌, ◌-◌, min, eqb, ltb, ℤ, take}
+use Rattle.reply.specs.definitions.Reply.{Remaindered, Reply, gives, refuses}
 use Rattle.desk_field.specs.Fields.{field_of, rest_of, count_of, natural_of, signed_of, coordinate_of, coordinates_of}
-use Rattle.desk_field.specs.declared.Number.{Number}
-use Rattle.desk_field.specs.declared.Number.TheVariants.{Is, Wrong}
 use Rattle.desk_reply.specs.Reply.{wrong_text, refused_text, remainder_text}
-use Rattle.reply.specs.declared.Remaindered.{Remaindered}
-use Rattle.reply.specs.declared.Remaindered.TheVariants.{Remainder, Refused}
 
 -- a request of k fields: w, or the number of the first field that is missing or too many
 abbrev pub counted : ℕ → List ℕ → List ℕ → List ℕ
@@ -14,9 +10,9 @@ counted k line w = cond (eqb (count_of line) k) w (wrong_text (min (count_of lin
 
 -- ---- a request whose field k is a number of 32 bits
 -- w of the number, or that field k is wrong
-abbrev pub number_or : ℕ → (ℕ → List ℕ) → Number → List ℕ
-number_or k w (Is m) = w m
-number_or k w Wrong = wrong_text k
+abbrev pub number_or : ℕ → (ℕ → List ℕ) → Option ℕ → List ℕ
+number_or k w (Some m) = w m
+number_or k w None = wrong_text k
 
 -- the same where the line has a field k; else the number of the first field that is missing
 abbrev pub numbered : ℕ → List ℕ → (ℕ → List ℕ) → List ℕ
@@ -30,6 +26,11 @@ point_fault line =
     (cond (ltb (coordinates_of (count_of line - 3) (rest_of (rest_of (rest_of line)))) (count_of line - 3))
     (3 + coordinates_of (count_of line - 3) (rest_of (rest_of (rest_of line))))
     0)
+
+-- the same, where 0 is no field
+abbrev pub some_fault : ℕ → Option ℕ
+some_fault zero = None
+some_fault (suc n) = Some (suc n)
 
 -- the numbers of the fields 3 to 7
 abbrev pub five_of : List ℕ → List ℤ
@@ -52,5 +53,5 @@ remaindered_text (refuses bad) = refused_text bad
 
 -- the same of the answer that the call gives
 abbrev pub remaindered_line : Remaindered → List ℕ
-remaindered_line (Remainder n) = remainder_text n
-remaindered_line (Refused bad) = refused_text bad
+remaindered_line (Ok n) = remainder_text n
+remaindered_line (Err bad) = refused_text bad

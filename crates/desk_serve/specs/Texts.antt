@@ -5,11 +5,10 @@ use Rattle.horner.specs.definitions.Measures.{box}
 use Rattle.text.specs.definitions.Bytes.{all, is_row}
 use Rattle.form_write.specs.Write.{Wrote}
 use Rattle.form_write.specs.laws.Wrote.{wrote_as}
-use Rattle.reply.specs.definitions.Reply.{result_after, Reply, enough, opened}
+use Rattle.reply.specs.definitions.Reply.{Written, result_after, Reply, enough, opened}
 use Rattle.reply.specs.definitions.Calls.{Measured, limited}
 use Rattle.desk_field.specs.Fields.{field_of, count_of}
 use Rattle.door_result.specs.Result.{written_of}
-use Rattle.reply.specs.declared.Written.{Written}
 use Rattle.desk_reply.specs.Reply.{room, result_text, Replied}
 use Rattle.desk_reply.specs.laws.Replies.{Within, within-asked, text-line}
 use Rattle.desk_serve.specs.Serve.{counted}

@@ -5,7 +5,7 @@ ghost use Rattle.std.specs.Prelude.{◌≡◌, ◌-◌, ◌≤◌, min, length};
 ghost use Rattle.form_write.specs.Write.{Wrote};
 ghost use Rattle.desk_field.specs.Fields.{count_of};
 ghost use Rattle.desk_reply.specs.Reply.{room, wrong_text};
-ghost use Rattle.desk_serve.specs.Serve.{point_fault, five_of, remaindered_line};
+ghost use Rattle.desk_serve.specs.Serve.{point_fault, some_fault, five_of, remaindered_line};
 
 use reply::Remaindered;
 
@@ -14,26 +14,23 @@ pub fn miscounted(n: usize, k: usize, out: &mut [u8]) -> usize
     requires { room ≤ length out.old }
     ensures { Wrote result (wrong_text (min n k)) out.old out.new }
 {
-    if n < k {
-        return desk_reply::wrong(n, out);
-    }
-    desk_reply::wrong(k, out)
+    desk_reply::wrong(n.min(k), out)
 }
 
-// The first wrong field of a request with coordinates from field 3 on; 0 where none is wrong.
-pub fn point_fault(line: &[u8]) -> usize
-    ensures { result ≡ point_fault line.now }
+// The first wrong field of a request with coordinates from field 3 on.
+pub fn point_fault(line: &[u8]) -> Option<usize>
+    ensures { result ≡ some_fault (point_fault line.now) }
 {
     let n = desk_field::count(line);
     if n < 3 {
-        return n;
+        return Some(n);
     }
     let m = n - 3;
     let k = desk_field::coordinates(line, m);
     if k < m {
-        return 3 + k;
+        return Some(3 + k);
     }
-    0
+    None
 }
 
 // The numbers of the fields 3 to 7.
@@ -52,14 +49,7 @@ pub fn five(line: &[u8]) -> [i32; 5]
 pub fn point_length(line: &[u8]) -> usize
     ensures { result ≡ min (count_of line.now - 3) 5 }
 {
-    let n = desk_field::count(line);
-    if n < 3 {
-        return 0;
-    }
-    if 8 < n {
-        return 5;
-    }
-    n - 3
+    desk_field::count(line).saturating_sub(3).min(5)
 }
 
 // The line of a remainder.
@@ -68,7 +58,7 @@ pub fn remaindered(answer: Remaindered, out: &mut [u8]) -> usize
     ensures { Wrote result (remaindered_line answer) out.old out.new }
 {
     match answer {
-        Remaindered::Remainder(n) => desk_reply::remainder(n, out),
-        Remaindered::Refused(bad) => desk_reply::refused(bad, out),
+        Ok(n) => desk_reply::remainder(n, out),
+        Err(bad) => desk_reply::refused(bad, out),
     }
 }

@@ -42,8 +42,7 @@ pub fn remainder_line(
     ensures { Wrote result (remainder_line (length a.old ∷ length b.old ∷ length c.old ∷
         length d.old ∷ []) line.now) out.old out.new }
 {
-    let f = desk_serve::point_fault(line);
-    if f != 0 {
+    if let Some(f) = desk_serve::point_fault(line) {
         return desk_reply::wrong(f, out);
     }
     let row = desk_field::field(line, 1);

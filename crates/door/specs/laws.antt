@@ -2,3 +2,4 @@ pub mod Rows
 pub mod Door
 pub mod Numbers
 pub mod Ending
+pub mod Theorems

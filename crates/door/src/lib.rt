@@ -9,25 +9,11 @@ ghost use Rattle.door.specs.Door.{ready_of};
 use code::TABLE;
 use refusal::Refusal;
 
-// The call goes on, or the refusal 1 or 2.
-#[derive(Drop)]
-pub enum Entry {
-    Granted,
-    Refused(Refusal),
-}
-
 // Whether the letter is among those of the row.
 fn has(row: &[u8], b: u8) -> bool
     ensures { result ≡ is_in_row row.now b }
 {
-    let mut i = 0;
-    while i < row.len() {
-        if row[i] == b {
-            return true;
-        }
-        i += 1;
-    }
-    false
+    row.contains(&b)
 }
 
 // Whether the row is 1 to 4 distinct letters A to Z.
@@ -40,16 +26,13 @@ pub fn is_row(row: &[u8]) -> bool
     if 4 < row.len() {
         return false;
     }
-    let mut i = 0;
-    while i < row.len() {
-        let j = i + 1;
-        if !text_word::is_capital(row[i]) {
+    for (i, letter) in row.iter().enumerate() {
+        if !text_word::is_capital(*letter) {
             return false;
         }
-        if has(&row[j..], row[i]) {
+        if has(&row[i + 1..], *letter) {
             return false;
         }
-        i = j;
     }
     true
 }
@@ -74,16 +57,16 @@ pub fn enough(a: usize, b: usize, c: usize, d: usize) -> bool
 }
 
 // Whether the row is proper and tables of these lengths are long enough; or the refusal 1 or 2.
-pub fn ready(row: &[u8], a: usize, b: usize, c: usize, d: usize) -> Entry
+pub fn ready(row: &[u8], a: usize, b: usize, c: usize, d: usize) -> Result<(), Refusal>
     ensures { result ≡ ready_of row.now (a ∷ b ∷ c ∷ d ∷ []) }
 {
     if !is_row(row) {
-        return Entry::Refused(refusal::of_neither(1));
+        return Err(refusal::of_neither(1));
     }
     if !enough(a, b, c, d) {
-        return Entry::Refused(refusal::of_neither(2));
+        return Err(refusal::of_neither(2));
     }
-    Entry::Granted
+    Ok(())
 }
 
 // Fills the four tables with zeros.
@@ -103,9 +86,5 @@ pub fn clear_tables(a: &mut [u32], b: &mut [u32], c: &mut [u32], d: &mut [u32])
 fn clear(t: &mut [u32])
     ensures { t.new ≡ replicate (length t.old) 0 }
 {
-    let mut i = 0usize;
-    while i < t.len() {
-        t[i] = 0;
-        i += 1;
-    }
+    t.fill(0);
 }

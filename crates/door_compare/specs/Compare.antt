@@ -1,5 +1,6 @@
 -- What `compare` answers for each reply, and two runs and two forms side by side.
-use Rattle.std.specs.Prelude.{List, ◌++◌, ◌≡◌, refl, ℕ, ◌≤◌, length, take, drop}
+use Rattle.reply.specs.declared.Comparison.TheVariants.{Same, Different}
+use Rattle.std.specs.Prelude.{Ok, Err, List, ◌++◌, ◌≡◌, refl, ℕ, ◌≤◌, length, take, drop}
 use Rattle.std.proofs.Math.Option.{Option, none, some}
 use Rattle.std.proofs.Common.{ap, ◌∙◌}
 use Rattle.code.specs.Lengths.{table}
@@ -10,18 +11,16 @@ use Rattle.code.specs.Widths.{Leaf}
 use Rattle.door_terms.specs.Terms.{Paired}
 use Rattle.run_code.specs.Decoding.{form_at}
 use Rattle.code_point.specs.Points.{point_of, Ready}
-use Rattle.reply.specs.definitions.Calls.{Verdict, equal, different, remainders, told_compared, Compares}
+use Rattle.reply.specs.definitions.Calls.{Compared, Verdict, equal, different, remainders, told_compared, Compares}
 use Rattle.reply.specs.definitions.Reply.{Reply, gives, refuses, said, Work}
-use Rattle.reply.specs.declared.Compared.{Compared}
-use Rattle.reply.specs.declared.Compared.TheVariants.{Same, Different, Refused}
 
 abbrev pub verdict_as : Verdict → Compared
-verdict_as equal = Same
-verdict_as (different N l r) = Different l r
+verdict_as equal = Ok Same
+verdict_as (different N l r) = Ok (Different l r)
 
 abbrev pub compared_of : Reply Verdict → Compared
 compared_of (gives v) = verdict_as v
-compared_of (refuses bad) = Refused bad
+compared_of (refuses bad) = Err bad
 
 -- it is the one that tells the reply
 pub tells-compared : (x : Reply Verdict) → told_compared (compared_of x) ≡ said remainders x
@@ -30,14 +29,14 @@ tells-compared (gives (different N l r)) = refl
 tells-compared (refuses bad) = refl
 
 abbrev enum_of : Reply (Option (ℕ × ℕ)) → Compared
-enum_of (gives none) = Same
-enum_of (gives (some p)) = Different p.0 p.1
-enum_of (refuses bad) = Refused bad
+enum_of (gives none) = Ok Same
+enum_of (gives (some p)) = Ok (Different p.0 p.1)
+enum_of (refuses bad) = Err bad
 
 enum_told : (r : Compared) → r ≡ enum_of (told_compared r)
-enum_told Same = refl
-enum_told (Different l r) = refl
-enum_told (Refused bad) = refl
+enum_told (Ok Same) = refl
+enum_told (Ok (Different l r)) = refl
+enum_told (Err bad) = refl
 
 enum-said : (x : Reply Verdict) → enum_of (said remainders x) ≡ compared_of x
 enum-said (gives equal) = refl
@@ -81,7 +80,7 @@ pub record Parting (n k e : ℕ) (d : List ℕ) : Type 0 where
 
 -- the answer and the point buffer, of the forms x and y over n variables, which are not the same
 pub record Parted (n : ℕ) (x y : Form (Leaf 0)) (r : Compared) (p p' : List ℕ) : Type 0 where
-  pub answer : let N = point_of n (sum_of 0 x (negate_of 0 y)) in r ≡ Different (value_of 0 x N) (value_of 0 y N)
+  pub answer : let N = point_of n (sum_of 0 x (negate_of 0 y)) in r ≡ Ok (Different (value_of 0 x N) (value_of 0 y N))
   pub point : p' ≡ point_of n (sum_of 0 x (negate_of 0 y)) ++ drop n p
 
 -- ---- two runs side by side in the first e words of d, one in the first k
@@ -92,6 +91,6 @@ pub record Beside (n k e : ℕ) (d : List ℕ) : Type 0 where
   pub parting : (take k (take e d) ≡ drop k (take e d) → ⊥) → Parting n k e d
 
 pub record Told (n k e : ℕ) (d : List ℕ) (r : Compared) (p p' : List ℕ) : Type 0 where
-  pub same : take k (take e d) ≡ drop k (take e d) → (r ≡ Same) × (p' ≡ p)
+  pub same : take k (take e d) ≡ drop k (take e d) → (r ≡ Ok Same) × (p' ≡ p)
   pub parted :
       (take k (take e d) ≡ drop k (take e d) → ⊥) → Parted n (form_at n 0 (take k (take e d))) (form_at n 0 (drop k (take e d))) r p p'

@@ -3,3 +3,4 @@ pub mod Sides
 pub mod Verdict
 pub mod Sized
 pub mod Pairs
+pub mod Theorems

@@ -1,3 +1,4 @@
 -- What the operations on forms share.
 pub mod Forms
+pub mod Operation
 pub mod laws

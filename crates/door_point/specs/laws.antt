@@ -1,3 +1,4 @@
 pub mod Values
 pub mod Residues
 pub mod Whole
+pub mod Theorems

@@ -10,10 +10,8 @@ pub fn put_point(point: &[i32], out: &mut [u32])
     requires { length point.now ≤ length out.old }
     ensures { out.new ≡ residues_of point.now ++ drop (length point.now) out.old }
 {
-    let mut i = 0;
-    while i < point.len() {
-        out[i] = of_coordinate(point[i]);
-        i += 1;
+    for (i, x) in point.iter().enumerate() {
+        out[i] = of_coordinate(*x);
     }
 }
 
@@ -21,6 +19,6 @@ pub fn put_point(point: &[i32], out: &mut [u32])
 fn of_coordinate(x: i32) -> u32
     ensures { result ≡ remainder x }
 {
-    let up = (x as i64) + 4294967294;
+    let up = i64::from(x) + 4294967294;
     code_remainder::by_p(up as u64)
 }

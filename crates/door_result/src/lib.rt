@@ -19,8 +19,7 @@ pub fn write_result(x: &[u32], res: &mut [u8]) -> Written
 {
     let n = form_write::text_length(x);
     if res.len() < n {
-        return Written::Refused(refusal::of_neither(11));
+        return Err(refusal::of_neither(11));
     }
-    let k = form_write::write_text(x, res);
-    Written::Text(k)
+    Ok(form_write::write_text(x, res))
 }

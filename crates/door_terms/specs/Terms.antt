@@ -1,5 +1,5 @@
 -- What is read of two terms' texts, the left one first.
-use Rattle.std.specs.Prelude.{List, ◌≡◌, ℕ, ◌≤◌, length, take, drop}
+use Rattle.std.specs.Prelude.{Result, Ok, Err, List, ◌≡◌, ℕ, ◌≤◌, length, take, drop}
 use Rattle.refusal.specs.Refusal.{on_side}
 use Rattle.refusal.specs.declared.Fault.{Fault}
 use Rattle.horner.specs.definitions.Term.{norm_p}
@@ -11,21 +11,9 @@ use Rattle.run_merge.specs.Words.{pairs}
 use Rattle.text.specs.definitions.Bytes.{read, refused}
 use Rattle.text.specs.definitions.Limits.{accept_term}
 use Rattle.text.specs.definitions.Tree.{Tree, term_of}
-use Rattle.term_read.specs.declared.TermReading.{TermReading}
-use Rattle.term_read.specs.declared.TermReading.TheVariants as R
+use Rattle.refusal.specs.declared.Refusal.{Refusal}
 use Rattle.refusal.specs.declared.Side.TheVariants.{Left, Right}
-use Rattle.door_terms.specs.declared.TermPair.{TermPair}
-use Rattle.door_terms.specs.declared.TermPair.TheVariants.{Runs, Refused}
-
--- the pair when its left text has been read, and nothing stands behind it yet
-abbrev pub begun : TermReading → TermPair
-begun (R.Refused bad) = Refused (on_side Left bad)
-begun (R.Words k) = Runs k 0
-
--- the pair when its right text has been read behind a left run of k words
-abbrev pub ended : ℕ → TermReading → TermPair
-ended k (R.Refused bad) = Refused (on_side Right bad)
-ended k (R.Words m) = Runs k m
+use Rattle.door_terms.specs.declared.Sizes.{Sizes}
 
 -- both are accepted: the left run stands in the first k words of l, the right one in the m words behind it
 pub record IsPair (row s t : List ℕ) (k m : ℕ) (l : List ℕ) : Type 0 where
@@ -37,12 +25,12 @@ pub record IsPair (row s t : List ℕ) (k m : ℕ) (l : List ℕ) : Type 0 where
   pub right-made : Begins m (run_words (length row) (norm_p (term_of row g))) (drop k l)
 
 -- "A refusal of the left text ends the call before the right one is read"
-pub data PairRead (row s t : List ℕ) (r : TermPair) (l : List ℕ) : Type 0 where
-  left-refusal : (bad : Fault) → accept_term row s ≡ refused bad → r ≡ Refused (on_side Left bad) → PairRead row s t r l
+pub data PairRead (row s t : List ℕ) (r : Result Sizes Refusal) (l : List ℕ) : Type 0 where
+  left-refusal : (bad : Fault) → accept_term row s ≡ refused bad → r ≡ Err (on_side Left bad) → PairRead row s t r l
   right-refusal :
-      (f : Tree) (bad : Fault) → accept_term row s ≡ read f → accept_term row t ≡ refused bad → r ≡ Refused (on_side Right bad) →
+      (f : Tree) (bad : Fault) → accept_term row s ≡ read f → accept_term row t ≡ refused bad → r ≡ Err (on_side Right bad) →
       PairRead row s t r l
-  runs : (k m : ℕ) → IsPair row s t k m l → r ≡ Runs k m → PairRead row s t r l
+  runs : (z : Sizes) → IsPair row s t z.left z.right l → r ≡ Ok z → PairRead row s t r l
 
 -- ---- from runs to forms
 -- the words w are a run in n variables, and its form takes at most 3,073 words

@@ -1,11 +1,11 @@
 -- A head written in front of what a part of the table holds, and a second part behind.
--- Assumes nothing.
-use Rattle.std.proofs.Common.{List, [], ◌∷◌, ◌++◌, ap, arith, ℕ, ◌+◌, ◌-◌, ◌≤◌, ◌<◌, length}
+use Rattle.std.proofs.Common.{false, List, [], ◌∷◌, ◌++◌, ap, arith, ℕ, ◌+◌, ◌-◌, ◌≤◌, ◌<◌, length}
 use Rattle.std.proofs.Math.Path.{◌≡◌, ◌∙◌}
 use Rattle.std.specs.Prelude.{set}
 use borrow.Rule.Slice.PartMut.{put_mid}
 use Rattle.code.specs.Coding.{Begins}
-use Rattle.form_head.specs.Heads.{Headed}
+use Rattle.form_head.specs.declared.Kind.{Kind}
+use Rattle.form_head.specs.Heads.{is_node, Headed}
 use Rattle.form_head.specs.laws.Parts.{ends-int}
 use Rattle.form_build.specs.Build.{leaf_word, BuiltAt}
 use Rattle.form_build.specs.laws.Build.{leaf-made}
@@ -27,7 +27,8 @@ put_both d e e₂ n m x h q k l b c = begins-tail (put_front d e n x h q k b) c
 
 -- an integer, which is one word
 pub leaf-built :
-    {s : List ℕ} {at kind number first : ℕ} → Headed s at kind number first → kind < 2 → (d : List ℕ) → 0 < length d → (w : ℕ) →
+    {s : List ℕ} {at : ℕ} {kind : Kind} {number first : ℕ} → Headed s at kind number first → is_node kind ≡ false → (d : List ℕ) →
+    0 < length d → (w : ℕ) →
     w ≡ leaf_word kind number
     → BuiltAt s at 1 first (set d 0 w)
 leaf-built H k d h w e =

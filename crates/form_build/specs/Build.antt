@@ -1,5 +1,5 @@
 -- From the text of a form to its code over the remainders by P.
-use Rattle.std.specs.Prelude.{true, false, List, ◌≡◌, ℕ, ◌-◌, ◌≤◌, eqb, ℤ, length}
+use Rattle.std.specs.Prelude.{List, ◌≡◌, ℕ, ◌-◌, ◌≤◌, ℤ, length}
 use Rattle.horner.specs.definitions.Form.{Form}
 use Rattle.horner.specs.definitions.Measures.{weight}
 use Rattle.horner.specs.definitions.Rings.{red_ℤ, prime, prime-pos}
@@ -8,15 +8,20 @@ use Rattle.code.specs.Coding.{Good, Made, enc}
 use Rattle.code.specs.Widths.{Leaf}
 use Rattle.text.specs.definitions.Bytes.{read}
 use Rattle.text.specs.definitions.FormReading.{accept_form}
+use Rattle.form_head.specs.declared.Kind.{Kind}
+use Rattle.form_head.specs.declared.Kind.TheVariants.{Integer, Negative, Pop, Pow}
 use Rattle.form_head.specs.Heads.{Stands, Ends}
 
 -- a form with the remainder by P of each coefficient
 abbrev pub over_p : Form ℤ → Form (Leaf 0)
 over_p g = map_form (red_ℤ prime prime-pos) g
 
--- the word of an integer, by its kind: 0, or 1 where it is below zero
-abbrev pub leaf_word : ℕ → ℕ → ℕ
-leaf_word kind number = elim (eqb kind 0) [ true ↦ number | false ↦ 2147483647 - number ]
+-- the word of an integer, by its kind
+abbrev pub leaf_word : Kind → ℕ → ℕ
+leaf_word Integer number = number
+leaf_word Negative number = 2147483647 - number
+leaf_word Pop number = 2147483647 - number
+leaf_word Pow number = 2147483647 - number
 
 -- what a form must be for its code to be written
 pub record Fit (g : Form ℤ) : Type 0 where

@@ -3,3 +3,4 @@ pub mod Build
 pub mod Accepted
 pub mod Answer
 pub mod Answered
+pub mod Theorems

@@ -1,8 +1,10 @@
 -- A form at a place of a text, and what it begins with.
-use Rattle.std.specs.Prelude.{true, false, List, [], ◌∷◌, ◌++◌, ◌≡◌, ℕ, ◌+◌, min, ℤ, pos, negsuc, nat_abs, length, drop}
+use Rattle.std.specs.Prelude.{Bool, true, false, List, [], ◌∷◌, ◌++◌, ◌≡◌, ℕ, ◌+◌, min, ℤ, pos, negsuc, nat_abs, length, drop}
 use Rattle.horner.specs.definitions.Form.{Form, int, pop, pow}
 use Rattle.text.specs.definitions.Bytes.{digit, write_int, value_from}
 use Rattle.text.specs.definitions.FormReading.{text, pop_head, pow_head}
+use Rattle.form_head.specs.declared.Kind.{Kind}
+use Rattle.form_head.specs.declared.Kind.TheVariants.{Integer, Negative, Pop, Pow}
 
 -- the digits that a text begins with
 abbrev pub digits : List ℕ → List ℕ
@@ -30,12 +32,19 @@ pub record Standing (s : List ℕ) (at : ℕ) : Type 0 where
   pub rest : List ℕ
   pub stands : Stands s at g rest
 
--- "A form is an integer, `(POP i p)` or `(POW i p q)`": 0 for an integer, 1 for one below zero, 2 for POP, 3 for POW
-abbrev pub kind_of : Form ℤ → ℕ
-kind_of (int (pos n)) = 0
-kind_of (int (negsuc n)) = 1
-kind_of (pop i p) = 2
-kind_of (pow i p q) = 3
+-- "A form is an integer, `(POP i p)` or `(POW i p q)`"
+abbrev pub kind_of : Form ℤ → Kind
+kind_of (int (pos n)) = Integer
+kind_of (int (negsuc n)) = Negative
+kind_of (pop i p) = Pop
+kind_of (pow i p q) = Pow
+
+-- POP or POW
+abbrev pub is_node : Kind → Bool
+is_node Integer = false
+is_node Negative = false
+is_node Pop = true
+is_node Pow = true
 
 -- the magnitude of an integer, or i, cut down above their limits
 abbrev pub number_of : Form ℤ → ℕ
@@ -49,13 +58,13 @@ head_text (int z) = write_int z
 head_text (pop i p) = pop_head i
 head_text (pow i p q) = pow_head i
 
-pub record HeadIs (at kind number next : ℕ) (g : Form ℤ) : Type 0 where
+pub record HeadIs (at : ℕ) (kind : Kind) (number next : ℕ) (g : Form ℤ) : Type 0 where
   pub is-kind : kind ≡ kind_of g
   pub is_number : number ≡ number_of g
   pub is-next : next ≡ at + length (head_text g)
 
 -- of whatever form stands there
-abbrev pub Headed : (s : List ℕ) (at kind number next : ℕ) → Type 0
+abbrev pub Headed : (s : List ℕ) (at : ℕ) (kind : Kind) (number next : ℕ) → Type 0
 Headed s at kind number next = (g : Form ℤ) (rest : List ℕ) → Stands s at g rest → HeadIs at kind number next g
 
 -- the place behind whatever form stands there

@@ -1,3 +1,4 @@
 pub mod Digits
 pub mod Heads
 pub mod Parts
+pub mod Theorems

@@ -2,47 +2,42 @@
 #![tactic(auto)]
 
 ghost use Rattle.std.specs.Prelude.{◌≡◌, ◌+◌, ◌≤◌, length, drop};
-ghost use Rattle.text.specs.definitions.Bytes.{digit};
 ghost use Rattle.form_head.specs.Heads.{digits, NumberAt, Standing, Headed};
 
-// What a form begins with. kind: 0 an integer, 1 one below zero, 2 POP, 3 POW. number: the magnitude cut down to 1,073,741,824, or i cut
-// down to 64. next: the place behind the integer, or that of p.
-#[derive(Drop)]
+// What a form is: an integer, one below zero, `(POP i p)` or `(POW i p q)`.
+#[derive(Clone, Copy, Debug, PartialEq, Eq)]
+pub enum Kind {
+    Integer,
+    Negative,
+    Pop,
+    Pow,
+}
+
+// What a form begins with. number: the magnitude cut down to 1,073,741,824, or i cut down to 64. next: the place behind the integer, or
+// that of p.
+#[derive(Clone, Copy, Debug, PartialEq, Eq)]
 pub struct Head {
-    pub kind: u32,
+    pub kind: Kind,
     pub number: u32,
     pub next: usize,
 }
 
 // A number, and the place behind its digits.
-#[derive(Drop)]
+#[derive(Clone, Copy, Debug, PartialEq, Eq)]
 pub struct Number {
     pub value: u32,
     pub next: usize,
 }
 
-fn is_digit(b: u8) -> bool
-    ensures { result ≡ digit b }
-{
-    if b < 48 {
-        return false;
-    }
-    b <= 57
-}
-
 // The place behind the digits at a place.
-fn digits_end(s: &[u8], at: usize) -> usize
+pub fn digits_end(s: &[u8], at: usize) -> usize
     requires { at ≤ length s.now }
     ensures { result ≡ at + length (digits (drop at s.now)) }
 {
-    let mut i = at;
-    while i < s.len() {
-        if !is_digit(s[i]) {
-            return i;
-        }
-        i += 1;
-    }
-    i
+    at + s[at..]
+        .iter()
+        .take_while(|b| text_word::is_digit(**b))
+        .count()
 }
 
 // The number at a place, cut down to the limit.
@@ -61,18 +56,18 @@ pub fn head_at(s: &[u8], at: usize) -> Head
     ensures { Headed s.now at result.kind result.number result.next }
 {
     let b = s[at];
-    if b == 45 {
+    if b == b'-' {
         let n = number_at(s, at + 1, 1073741824);
         return Head {
-            kind: 1,
+            kind: Kind::Negative,
             number: n.value,
             next: n.next,
         };
     }
-    if b != 40 {
+    if b != b'(' {
         let n = number_at(s, at, 1073741824);
         return Head {
-            kind: 0,
+            kind: Kind::Integer,
             number: n.value,
             next: n.next,
         };
@@ -80,15 +75,15 @@ pub fn head_at(s: &[u8], at: usize) -> Head
     let i = number_at(s, at + 5, 64);
     let number = i.value;
     let next = i.next + 1;
-    if s[at + 3] == 80 {
+    if s[at + 3] == b'P' {
         return Head {
-            kind: 2,
+            kind: Kind::Pop,
             number,
             next,
         };
     }
     Head {
-        kind: 3,
+        kind: Kind::Pow,
         number,
         next,
     }

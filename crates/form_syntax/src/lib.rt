@@ -2,26 +2,22 @@
 // is built.
 #![tactic(auto)]
 
-ghost use Rattle.std.specs.Prelude.{◌≡◌, false, ◌≤◌, length};
+ghost use Rattle.std.specs.Prelude.{◌≡◌, false};
+ghost use Rattle.refusal.specs.Refusal.{fault};
 ghost use Rattle.text.specs.definitions.FormReading.{read_form};
 ghost use Rattle.form_syntax.specs.Answer.{form_syntax_of};
-ghost use Rattle.form_syntax.specs.Found.{is_at, Expects, DigitsAt, NaturalAt, IntAt, IndexAt, LettersAt, FormAt, LastAt, PopAt};
-ghost use Rattle.form_syntax.specs.Found.{PowAt};
+ghost use Rattle.form_syntax.specs.Found.{is_at, Expects, NaturalAt, IntAt, IndexAt, LettersAt, FormAt, LastAt, PopAt, PowAt};
 
 use refusal::Fault;
 
-// The text is a form's, or what is wrong with it.
-#[derive(Drop)]
-pub enum FormSyntax {
-    Form,
-    Refused(Fault),
-}
+// "Forms nest at most 256 deep."
+const DEEPEST: usize = 256;
 
-// The place behind a part, or what is wrong.
-#[derive(Drop)]
-enum Part {
-    On(usize),
-    Off(Fault),
+// The refusal of a byte that no form has there, or of a text that ends too soon.
+fn unexpected(place: usize) -> Fault
+    ensures { result ≡ fault 4 place }
+{
+    Fault { number: 4, place }
 }
 
 // Whether the byte b stands at a place.
@@ -35,196 +31,131 @@ fn is_at(s: &[u8], at: usize, b: u8) -> bool
 }
 
 // The byte b, and no other.
-fn expect(s: &[u8], at: usize, b: u8) -> Part
+fn expect(s: &[u8], at: usize, b: u8) -> Result<usize, Fault>
     ensures { Expects s.now at b result }
 {
     if is_at(s, at, b) {
-        return Part::On(at + 1);
+        return Ok(at + 1);
     }
-    Part::Off(Fault {
-        number: 4,
-        place: at,
-    })
-}
-
-// The place behind the digits.
-fn digits_at(s: &[u8], at: usize) -> usize
-    requires { at ≤ length s.now }
-    ensures { DigitsAt s.now at result }
-{
-    let mut i = at;
-    while i < s.len() {
-        if !text_word::is_digit(s[i]) {
-            return i;
-        }
-        i += 1;
-    }
-    i
+    Err(unexpected(at))
 }
 
 // An integer without a sign: `0`, or digits without a leading zero.
-fn natural_at(s: &[u8], at: usize) -> Part
+fn natural_at(s: &[u8], at: usize) -> Result<usize, Fault>
     ensures { NaturalAt s.now at result }
 {
     if s.len() <= at {
-        return Part::Off(Fault {
-            number: 4,
-            place: at,
-        });
+        return Err(unexpected(at));
     }
     let b = s[at];
     let i = at + 1;
-    if b == 48 {
-        return Part::On(i);
+    if b == b'0' {
+        return Ok(i);
     }
     if !text_word::is_digit(b) {
-        return Part::Off(Fault {
-            number: 4,
-            place: at,
-        });
+        return Err(unexpected(at));
     }
-    Part::On(digits_at(s, i))
+    Ok(form_head::digits_end(s, i))
 }
 
 // An integer, where no `(` stands; `-0` is none.
-fn int_at(s: &[u8], at: usize) -> Part
+fn int_at(s: &[u8], at: usize) -> Result<usize, Fault>
     requires { is_at s.now at 40 ≡ false }
     ensures { IntAt s.now at result }
 {
-    if !is_at(s, at, 45) {
+    if !is_at(s, at, b'-') {
         return natural_at(s, at);
     }
     let i = at + 1;
-    if is_at(s, i, 48) {
-        return Part::Off(Fault {
-            number: 4,
-            place: i,
-        });
+    if is_at(s, i, b'0') {
+        return Err(unexpected(i));
     }
     natural_at(s, i)
 }
 
 // A space, the i of a POP or POW, and a space.
-fn index_at(s: &[u8], at: usize) -> Part
+fn index_at(s: &[u8], at: usize) -> Result<usize, Fault>
     ensures { IndexAt s.now at result }
 {
-    let space = expect(s, at, 32);
-    let Part::On(i) = space else {
-        return space;
-    };
-    let index = natural_at(s, i);
-    let Part::On(e) = index else {
-        return index;
-    };
-    expect(s, e, 32)
+    let i = expect(s, at, b' ')?;
+    let e = natural_at(s, i)?;
+    expect(s, e, b' ')
 }
 
 // The letters `PO`.
-fn letters_at(s: &[u8], at: usize) -> Part
+fn letters_at(s: &[u8], at: usize) -> Result<usize, Fault>
     ensures { LettersAt s.now at result }
 {
-    let p = expect(s, at, 80);
-    let Part::On(o) = p else {
-        return p;
-    };
-    expect(s, o, 79)
+    let o = expect(s, at, b'P')?;
+    expect(s, o, b'O')
 }
 
 // A form, with depth parentheses open.
 #[cycle(parts)]
-fn form_at(s: &[u8], at: usize, depth: usize) -> Part
+fn form_at(s: &[u8], at: usize, depth: usize) -> Result<usize, Fault>
     ensures { FormAt s.now at depth result }
 {
-    if !is_at(s, at, 40) {
+    if !is_at(s, at, b'(') {
         return int_at(s, at);
     }
-    if 256 <= depth {
-        return Part::Off(Fault {
+    if DEEPEST <= depth {
+        return Err(Fault {
             number: 6,
             place: at,
         });
     }
-    let name = letters_at(s, at + 1);
-    let Part::On(n) = name else {
-        return name;
-    };
-    if is_at(s, n, 80) {
+    let n = letters_at(s, at + 1)?;
+    if is_at(s, n, b'P') {
         return pop_at(s, n + 1, depth + 1);
     }
-    if is_at(s, n, 87) {
+    if is_at(s, n, b'W') {
         return pow_at(s, n + 1, depth + 1);
     }
-    Part::Off(Fault {
-        number: 4,
-        place: n,
-    })
+    Err(unexpected(n))
 }
 
 // The last form of a parenthesis, and the `)`.
 #[cycle(parts)]
-fn last_at(s: &[u8], at: usize, depth: usize) -> Part
+fn last_at(s: &[u8], at: usize, depth: usize) -> Result<usize, Fault>
     ensures { LastAt s.now at depth result }
 {
-    let last = form_at(s, at, depth);
-    let Part::On(e) = last else {
-        return last;
-    };
-    expect(s, e, 41)
+    let e = form_at(s, at, depth)?;
+    expect(s, e, b')')
 }
 
 // What follows `(POP`.
 #[cycle(parts)]
-fn pop_at(s: &[u8], at: usize, depth: usize) -> Part
+fn pop_at(s: &[u8], at: usize, depth: usize) -> Result<usize, Fault>
     ensures { PopAt s.now at depth result }
 {
-    let index = index_at(s, at);
-    let Part::On(i) = index else {
-        return index;
-    };
+    let i = index_at(s, at)?;
     last_at(s, i, depth)
 }
 
 // What follows `(POW`.
 #[cycle(parts)]
-fn pow_at(s: &[u8], at: usize, depth: usize) -> Part
+fn pow_at(s: &[u8], at: usize, depth: usize) -> Result<usize, Fault>
     ensures { PowAt s.now at depth result }
 {
-    let index = index_at(s, at);
-    let Part::On(i) = index else {
-        return index;
-    };
-    let first = form_at(s, i, depth);
-    let Part::On(e) = first else {
-        return first;
-    };
-    let space = expect(s, e, 32);
-    let Part::On(q) = space else {
-        return space;
-    };
+    let i = index_at(s, at)?;
+    let e = form_at(s, i, depth)?;
+    let q = expect(s, e, b' ')?;
     last_at(s, q, depth)
 }
 
 // Whether s is a form's text, or the refusal 3, 4 or 6 and its place.
-pub fn judge_form(s: &[u8]) -> FormSyntax
+pub fn judge_form(s: &[u8]) -> Result<(), Fault>
     ensures { result ≡ form_syntax_of (read_form s.now) }
 {
     if 65535 < s.len() {
-        return FormSyntax::Refused(Fault {
+        return Err(Fault {
             number: 3,
             place: 0,
         });
     }
-    let part = form_at(s, 0, 0);
-    match part {
-        Part::Off(fault) => FormSyntax::Refused(fault),
-        Part::On(e) => {
-            if e == s.len() {
-                return FormSyntax::Form;
-            }
-            FormSyntax::Refused(Fault {
-                number: 4,
-                place: e,
-            })
-        }
+    let e = form_at(s, 0, 0)?;
+    if e != s.len() {
+        return Err(unexpected(e));
     }
+    Ok(())
 }

@@ -1,5 +1,4 @@
 -- What write_head leaves: five bytes, the digits of i through the part behind them, and a space.
--- Assumes nothing.
 use Rattle.std.proofs.Common.{List, [], ◌∷◌, ◌++◌, refl, length, ℕ, ◌+◌, ◌-◌, ◌≤◌, ◌<◌, arith}
 use Rattle.std.proofs.Math.Path.{◌≡◌}
 use Rattle.std.specs.Prelude.{take, drop, set}

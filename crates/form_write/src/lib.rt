@@ -16,10 +16,7 @@ const P: u32 = 2147483647;
 fn digits_of(n: u32) -> usize
     ensures { result ≡ length (numeral n) }
 {
-    if n < 10 {
-        return 1;
-    }
-    digits_of(n / 10) + 1
+    n.max(1).ilog10() as usize + 1
 }
 
 // Writes the bytes of text, and returns how many they are.
@@ -27,25 +24,22 @@ pub fn put(text: &[u8], out: &mut [u8]) -> usize
     requires { length text.now ≤ length out.old }
     ensures { Wrote result text.now out.old out.new }
 {
-    let mut i = 0;
-    while i < text.len() {
-        out[i] = text[i];
-        i += 1;
-    }
-    i
+    out[..text.len()].copy_from_slice(text);
+    text.len()
 }
 
 // Writes the digits of n, and returns how many they are.
+// By hand: std's `write!` into a slice promises none of the bytes that `Wrote` names, and `itoa` writes into a buffer of its own.
 pub fn write_number(n: u64, out: &mut [u8]) -> usize
     requires { length (numeral n) ≤ length out.old }
     ensures { Wrote result (numeral n) out.old out.new }
 {
     if n < 10 {
-        out[0] = 48 + (n as u8);
+        out[0] = b'0' + (n as u8);
         return 1;
     }
     let k = write_number(n / 10, out);
-    out[k] = 48 + ((n % 10) as u8);
+    out[k] = b'0' + ((n % 10) as u8);
     k + 1
 }
 

@@ -1,6 +1,6 @@
 -- Document 01's table on measures, as code works it out: a subterm's from its parts'. Numbers that may be large are cut down above their
 -- limit, which changes no comparison with it.
-use Rattle.std.specs.Prelude.{ℕ, ◌+◌, ◌*◌, ◌^◌, ◌≤◌, min, max, ltb, get_or}
+use Rattle.std.specs.Prelude.{◌≡◌, Result, Ok, Err, ℕ, ◌+◌, ◌*◌, ◌^◌, ◌≤◌, min, max, ltb, get_or}
 use Rattle.horner.specs.definitions.Term.{Term}
 use Rattle.horner.specs.definitions.Measures.{weight_of, degrees_of, terms_of}
 use Rattle.text_laws.specs.laws.Picks.{pick}
@@ -70,3 +70,8 @@ limit_m m =
     pick (ltb 63 m.d0) 8
     (pick (ltb 63 m.d1) 8
     (pick (ltb 63 m.d2) 8 (pick (ltb 63 m.d3) 8 (pick (ltb 1073741823 m.weight) 9 (pick (ltb 256 m.terms) 10 0)))))
+
+-- no limit is passed; or the lowest number of one that is
+abbrev pub Within : Measures → Result (Unit {0}) ℕ → Type 0
+Within m (Ok u) = limit_m m ≡ 0
+Within m (Err e) = (limit_m m ≡ e) × (e ≡ 0 → ⊥)

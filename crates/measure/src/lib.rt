@@ -2,10 +2,10 @@
 #![tactic(auto)]
 
 ghost use Rattle.std.specs.Prelude.{◌≡◌, ◌+◌, ◌*◌, ◌^◌, ◌≤◌, ◌<◌, min, max};
-ghost use Rattle.measure.specs.Measure.{box_m, add_m, mul_m, pow_m, limit_m, Small};
+ghost use Rattle.measure.specs.Measure.{box_m, add_m, mul_m, pow_m, Small, Within};
 
 // Of a subterm: its weight, its terms and its degree in each of four variables.
-#[derive(Clone, Copy)]
+#[derive(Clone, Copy, Debug, PartialEq, Eq)]
 pub struct Measures {
     pub weight: u32,
     pub terms: u32,
@@ -15,23 +15,11 @@ pub struct Measures {
     pub d3: u32,
 }
 
-fn larger(a: u32, b: u32) -> u32
-    ensures { result ≡ max a b }
-{
-    if a <= b { b } else { a }
-}
-
-fn lesser(a: u32, b: u32) -> u32
-    ensures { result ≡ min a b }
-{
-    if a <= b { a } else { b }
-}
-
 fn cut_product(a: u32, b: u32, limit: u32) -> u32
     ensures { result ≡ min (a * b) limit }
 {
-    let p = (a as u64) * (b as u64);
-    if p <= (limit as u64) { p as u32 } else { limit }
+    let p = u64::from(a) * u64::from(b);
+    p.min(u64::from(limit)) as u32
 }
 
 // a to the k, cut down to the limit.
@@ -39,11 +27,9 @@ fn cut_power(a: u32, k: u32, limit: u32) -> u32
     requires { 1 ≤ limit }
     ensures { result ≡ min (a ^ k) limit }
 {
-    let mut r = 1u32;
-    let mut i = 0;
-    while i < k {
+    let mut r = 1;
+    for _i in 0..k {
         r = cut_product(a, r, limit);
-        i += 1;
     }
     r
 }
@@ -63,13 +49,13 @@ pub fn add(a: Measures, b: Measures) -> Measures
     requires { Small a × Small b }
     ensures { result ≡ add_m a b }
 {
-    let d0 = larger(a.d0, b.d0);
-    let d1 = larger(a.d1, b.d1);
-    let d2 = larger(a.d2, b.d2);
-    let d3 = larger(a.d3, b.d3);
+    let d0 = a.d0.max(b.d0);
+    let d1 = a.d1.max(b.d1);
+    let d2 = a.d2.max(b.d2);
+    let d3 = a.d3.max(b.d3);
     Measures {
         weight: a.weight + b.weight,
-        terms: lesser(a.terms + b.terms, box_of(d0, d1, d2, d3)),
+        terms: (a.terms + b.terms).min(box_of(d0, d1, d2, d3)),
         d0,
         d1,
         d2,
@@ -88,7 +74,7 @@ pub fn multiply(a: Measures, b: Measures) -> Measures
     let d3 = a.d3 + b.d3;
     Measures {
         weight: cut_product(a.weight, b.weight, 1073741824),
-        terms: lesser(a.terms * b.terms, box_of(d0, d1, d2, d3)),
+        terms: (a.terms * b.terms).min(box_of(d0, d1, d2, d3)),
         d0,
         d1,
         d2,
@@ -107,7 +93,7 @@ pub fn raise(a: Measures, k: u32) -> Measures
     let d3 = k * a.d3;
     Measures {
         weight: cut_power(a.weight, k, 1073741824),
-        terms: lesser(cut_power(a.terms, k, 16777216), box_of(d0, d1, d2, d3)),
+        terms: cut_power(a.terms, k, 16777216).min(box_of(d0, d1, d2, d3)),
         d0,
         d1,
         d2,
@@ -115,27 +101,27 @@ pub fn raise(a: Measures, k: u32) -> Measures
     }
 }
 
-// 0, or the number of the limit that the measures pass: the lowest.
-pub fn limit_of(m: Measures) -> u32
-    ensures { result ≡ limit_m m }
+// Whether the measures are within the limits; if not, the lowest number of a limit that they pass.
+pub fn within(m: Measures) -> Result<(), u32>
+    ensures { Within m result }
 {
     if 63 < m.d0 {
-        return 8;
+        return Err(8);
     }
     if 63 < m.d1 {
-        return 8;
+        return Err(8);
     }
     if 63 < m.d2 {
-        return 8;
+        return Err(8);
     }
     if 63 < m.d3 {
-        return 8;
+        return Err(8);
     }
     if 1073741823 < m.weight {
-        return 9;
+        return Err(9);
     }
     if 256 < m.terms {
-        return 10;
+        return Err(10);
     }
-    0
+    Ok(())
 }

@@ -5,14 +5,15 @@
 ghost use Rattle.std.specs.Prelude.{◌≡◌};
 ghost use Rattle.reply.specs.definitions.Reply.{work};
 ghost use Rattle.panel.specs.Panel.{side_number, refusal_answer, PanelCompareCall, PanelFormCall, PanelRemainderCall};
+ghost use Rattle.panel.specs.Laws.{of_compared, of_written, of_remaindered};
 
 use refusal::{Refusal, Side};
-use reply::{Compared, Remaindered, Written};
+use reply::{Compared, Comparison, Remaindered, Written};
 
 // kind: 0 same, written, or a remainder; 1 different; 2 refused. Then, of a refusal, its number, its side (0 neither, 1 left, 2 right) and
 // its place; of 'different' both remainders; of a text its length; of a remainder itself.
 #[repr(C)]
-#[derive(Drop)]
+#[derive(Clone, Copy, Debug, PartialEq, Eq)]
 pub struct PanelAnswer {
     pub kind: u32,
     pub number: u32,
@@ -22,6 +23,17 @@ pub struct PanelAnswer {
     pub place: usize,
 }
 
+// The answer of zeros: 'same', and what each other answer leaves as it is.
+const NOTHING: PanelAnswer = PanelAnswer {
+    kind: 0,
+    number: 0,
+    side: 0,
+    left: 0,
+    right: 0,
+    place: 0,
+};
+
+// The side's number for C: a function, since From takes no impl where neither type is this crate's.
 fn side_number(side: Side) -> u32
     ensures { result ≡ side_number side }
 {
@@ -32,17 +44,68 @@ fn side_number(side: Side) -> u32
     }
 }
 
-fn refused(bad: Refusal) -> PanelAnswer
-    ensures { result ≡ refusal_answer bad }
-{
-    let side = bad.side;
-    PanelAnswer {
-        kind: 2,
-        number: bad.number,
-        side: side_number(side),
-        left: 0,
-        right: 0,
-        place: bad.place,
+impl From<Refusal> for PanelAnswer {
+    ghost from_gives = { λ bad answer. answer ≡ refusal_answer bad };
+
+    fn from(bad: Refusal) -> PanelAnswer
+        ensures { result ≡ refusal_answer bad }
+    {
+        let side = side_number(bad.side);
+        PanelAnswer {
+            kind: 2,
+            number: bad.number,
+            side,
+            place: bad.place,
+            ..NOTHING
+        }
+    }
+}
+
+impl From<Compared> for PanelAnswer {
+    ghost from_gives = { λ said answer. answer ≡ of_compared said };
+
+    fn from(said: Compared) -> PanelAnswer
+        ensures { result ≡ of_compared said }
+    {
+        match said {
+            Ok(Comparison::Same) => NOTHING,
+            Ok(Comparison::Different(x, y)) => PanelAnswer {
+                kind: 1,
+                left: x,
+                right: y,
+                ..NOTHING
+            },
+            Err(bad) => PanelAnswer::from(bad),
+        }
+    }
+}
+
+impl From<Written> for PanelAnswer {
+    ghost from_gives = { λ said answer. answer ≡ of_written said };
+
+    fn from(said: Written) -> PanelAnswer
+        ensures { result ≡ of_written said }
+    {
+        match said {
+            Ok(n) => PanelAnswer {
+                place: n,
+                ..NOTHING
+            },
+            Err(bad) => PanelAnswer::from(bad),
+        }
+    }
+}
+
+impl From<Remaindered> for PanelAnswer {
+    ghost from_gives = { λ said answer. answer ≡ of_remaindered said };
+
+    fn from(said: Remaindered) -> PanelAnswer
+        ensures { result ≡ of_remaindered said }
+    {
+        match said {
+            Ok(n) => PanelAnswer { left: n, ..NOTHING },
+            Err(bad) => PanelAnswer::from(bad),
+        }
     }
 }
 
@@ -61,26 +124,7 @@ pub fn panel_compare(
         (work a.old b.old c.old d.old)
         (work a.new b.new c.new d.new) }
 {
-    let answer = call_compare::compare(row, s, t, point, a, b, c, d);
-    match answer {
-        Compared::Same => PanelAnswer {
-            kind: 0,
-            number: 0,
-            side: 0,
-            left: 0,
-            right: 0,
-            place: 0,
-        },
-        Compared::Different(x, y) => PanelAnswer {
-            kind: 1,
-            number: 0,
-            side: 0,
-            left: x,
-            right: y,
-            place: 0,
-        },
-        Compared::Refused(bad) => refused(bad),
-    }
+    PanelAnswer::from(call_compare::compare(row, s, t, point, a, b, c, d))
 }
 
 // The call `form`: the length of the text stands in `place`.
@@ -97,18 +141,7 @@ pub fn panel_form(
         (work a.old b.old c.old d.old)
         (work a.new b.new c.new d.new) }
 {
-    let answer = call_form::form(row, s, res, a, b, c, d);
-    match answer {
-        Written::Text(n) => PanelAnswer {
-            kind: 0,
-            number: 0,
-            side: 0,
-            left: 0,
-            right: 0,
-            place: n,
-        },
-        Written::Refused(bad) => refused(bad),
-    }
+    PanelAnswer::from(call_form::form(row, s, res, a, b, c, d))
 }
 
 // The call `remainder`: the remainder stands in `left`.
@@ -125,16 +158,5 @@ pub fn panel_remainder(
         (work a.old b.old c.old d.old)
         (work a.new b.new c.new d.new) }
 {
-    let answer = call_remainder::remainder(row, s, point, a, b, c, d);
-    match answer {
-        Remaindered::Remainder(n) => PanelAnswer {
-            kind: 0,
-            number: 0,
-            side: 0,
-            left: n,
-            right: 0,
-            place: 0,
-        },
-        Remaindered::Refused(bad) => refused(bad),
-    }
+    PanelAnswer::from(call_remainder::remainder(row, s, point, a, b, c, d))
 }

@@ -1,12 +1,10 @@
 -- What is read and written, case by case.
 use Rattle.std.proofs.Common.{◌≡◌, ℕ, List, [], ◌∷◌, ◌++◌, length, take, drop, cond, leb, IfSome, refl, ap, arith}
 use Rattle.std.proofs.lemmas.Grind.{common_steps}
-use Rattle.std.specs.Prelude.{None, Some}
+use Rattle.std.specs.Prelude.{Ok, Err, None, Some}
 use Rattle.std.specs.Option.{option_map}
 use Rattle.std.specs.declared.option.Option.{Option}
-use Rattle.reply.specs.definitions.Reply.{Reply, gives, refuses, told_written, said, result_after}
-use Rattle.reply.specs.declared.Written.{Written}
-use Rattle.reply.specs.declared.Written.TheVariants.{Text, Refused}
+use Rattle.reply.specs.definitions.Reply.{Written, Reply, gives, refuses, told, said, result_after}
 use Rattle.printer.specs.Printer.{text_given, text_told}
 
 -- zs are the first n of the known bytes
@@ -33,11 +31,11 @@ size_given (gives n) = n
 size_given (refuses bad) = 0
 
 -- the text that is told is the one that was given
-pub told_is : (x : Reply (List ℕ)) (r : Written) (page page' : List ℕ) → told_written r ≡ said length x → page' ≡ result_after x page
+pub told_is : (x : Reply (List ℕ)) (r : Written) (page page' : List ℕ) → told r ≡ said length x → page' ≡ result_after x page
     → text_told r page' ≡ text_given x
-told_is (gives w) (Text n) page page' h e =
+told_is (gives w) (Ok n) page page' h e =
     let size : n ≡ length w = ap size_given h in
     rw size (rw e (front w (drop (length w) page)))
-told_is (gives w) (Refused bad) page page' h e = none_given w (ap size_given h)
-told_is (refuses bad) (Text n) page page' h e = none_told n page' (ap size_given h)
-told_is (refuses bad) (Refused bad') page page' h e = refl
+told_is (gives w) (Err bad) page page' h e = none_given w (ap size_given h)
+told_is (refuses bad) (Ok n) page page' h e = none_told n page' (ap size_given h)
+told_is (refuses bad) (Err bad') page page' h e = refl

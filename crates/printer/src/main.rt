@@ -16,15 +16,12 @@ use std::io::{Read, Write};
 fn write_answer<W: Write>(answer: Written, out: &[u8], output: &mut W) -> io::Result<()>
     ensures { OnOk result (Appends (W.contents output.old) (W.contents output.new) (text_told answer out.now)) }
 {
-    match answer {
-        Written::Text(n) => {
-            if n <= out.len() {
-                return output.write_all(&out[..n]);
-            }
-            Ok(())
+    if let Ok(n) = answer {
+        if n <= out.len() {
+            return output.write_all(&out[..n]);
         }
-        Written::Refused(_) => Ok(()),
     }
+    Ok(())
 }
 
 // Writes the answer to the book.

@@ -1,41 +1,25 @@
-// What the calls answer: an enum for each kind of answer, the refusal record in every one.
+// What the calls answer: a value, or the refusal record.
 #![tactic(auto)]
 
 use refusal::Refusal;
 
-// How many bytes of text were written, or the refusal.
-#[derive(Drop)]
-pub enum Written {
-    Text(usize),
-    Refused(Refusal),
-}
+// How many bytes of text were written.
+pub type Written = Result<usize, Refusal>;
 
-// The remainder, or the refusal.
-#[derive(Drop)]
-pub enum Remaindered {
-    Remainder(u32),
-    Refused(Refusal),
-}
+// The remainder.
+pub type Remaindered = Result<u32, Refusal>;
 
-// The text is a form, or the refusal.
-#[derive(Drop)]
-pub enum Judged {
-    Form,
-    Refused(Refusal),
-}
+// The text is a form.
+pub type Judged = Result<(), Refusal>;
 
-// The same, or different with both remainders at the first point, left first; or the refusal.
-#[derive(Drop)]
-pub enum Compared {
+// What is said of two terms: the same, or different with both remainders at the first point, left first.
+#[derive(Clone, Copy, Debug, PartialEq, Eq)]
+pub enum Comparison {
     Same,
     Different(u32, u32),
-    Refused(Refusal),
 }
 
-// The same, or different; or the refusal.
-#[derive(Drop)]
-pub enum Counted {
-    Same,
-    Different,
-    Refused(Refusal),
-}
+pub type Compared = Result<Comparison, Refusal>;
+
+// Whether two terms are the same as counters.
+pub type Counted = Result<bool, Refusal>;

@@ -1,0 +1,3 @@
+pub mod Chunks
+pub mod Made
+pub mod Units

@@ -12,16 +12,7 @@ fn unit_of(m: u32) -> u32
     requires { m ≤ 3 }
     ensures { result ≡ 64 ^ m }
 {
-    if m == 0 {
-        return 1;
-    }
-    if m == 1 {
-        return 64;
-    }
-    if m == 2 {
-        return 4096;
-    }
-    262144
+    1 << (6 * m)
 }
 
 // The first of m + 1 exponents that a key has over its base: how many units are in it.
@@ -29,16 +20,7 @@ fn first_exponent(m: u32, key: u32) -> u32
     requires { m ≤ 3 }
     ensures { result ≡ key / 64 ^ m }
 {
-    if m == 0 {
-        return key;
-    }
-    if m == 1 {
-        return key / 64;
-    }
-    if m == 2 {
-        return key / 4096;
-    }
-    key / 262144
+    key >> (6 * m)
 }
 
 // How many words of x have keys from limit on.
@@ -46,14 +28,7 @@ fn cut(x: &[u32], limit: u32) -> usize
     requires { Falls cmpℕ (pairs x.now) }
     ensures { Cut limit x.now result }
 {
-    let mut e: usize = 0;
-    while e + 1 < x.len() {
-        if x[e] < limit {
-            return e;
-        }
-        e += 2;
-    }
-    e
+    2 * x.as_chunks::<2>().0.partition_point(|m| m[0] >= limit)
 }
 
 // Writes the code of the form of the run x, in n variables, at the front of out, and returns its length.

@@ -1,4 +1,5 @@
-// Runs in words, side by side at the front of a table, and what an operator makes of them in their place.
+// Runs in words, side by side at the front of a table, and what an operator makes of them in their place. The runs' lengths stand beside
+// the table, since memory is fixed: there is no heap for a Vec of each run.
 #![tactic(auto)]
 
 ghost use Rattle.std.specs.Prelude.{[], ◌+◌, ◌-◌, ◌<◌, ◌≤◌, length, take, drop};
@@ -7,24 +8,13 @@ ghost use Rattle.code.specs.Coding.{Begins};
 ghost use Rattle.run_merge.specs.Words.{pairs, summed, Fits};
 ghost use Rattle.run_stack.specs.Stack.{multiplied, ProductRoom, raised, PowerRoom, Beside};
 
-// Writes the run in the first a words of x plus c times the one in the others at the front of out, and returns its length.
-fn sum(x: &[u32], a: usize, c: u32, out: &mut [u32]) -> usize
-    requires a_in_bounds { (a ≤ length x.now) × (length x.now ≤ length out.old) }
-    requires c_lt_prime { (c < prime) × Fits 0 (pairs (take a x.now)) × Fits 0 (pairs (drop a x.now)) }
-    ensures { Begins result (summed 0 c (take a x.now) (drop a x.now)) out.new }
-{
-    run_merge::add_times(&x[..a], 0, c, &x[a..], out)
-}
-
 // The negative of the run in the first a words of stack, in its place.
 pub fn negate(stack: &mut [u32], a: usize, out: &mut [u32]) -> usize
     requires a_in_bounds { (a ≤ length stack.old) × (a ≤ length out.old) }
     requires fits { Fits 0 (pairs (take a stack.old)) }
     ensures { Begins result (summed 0 2147483646 [] (take a stack.old)) stack.new }
 {
-    let r = sum(&stack[..a], 0, 2147483646, out);
-    code::copy(&out[..r], stack);
-    r
+    add(stack, 0, a, 2147483646, out)
 }
 
 // The run in the first a words of stack plus c times the one in the b words behind it, in their place.
@@ -33,8 +23,8 @@ pub fn add(stack: &mut [u32], a: usize, b: usize, c: u32, out: &mut [u32]) -> us
     requires c_lt_prime { (c < prime) × Fits 0 (pairs (take a stack.old)) × Fits 0 (pairs (take b (drop a stack.old))) }
     ensures { Begins result (summed 0 c (take a stack.old) (take b (drop a stack.old))) stack.new }
 {
-    let e = a + b;
-    let r = sum(&stack[..e], a, c, out);
+    let (x, y) = stack[..a + b].split_at(a);
+    let r = run_merge::add_times(x, 0, c, y, out);
     code::copy(&out[..r], stack);
     r
 }
@@ -46,38 +36,22 @@ fn product(x: &[u32], y: &[u32], out: &mut [u32], other: &mut [u32]) -> usize
     ensures { Begins result (multiplied x.now y.now) out.new }
 {
     if x.len() <= y.len() {
-        return run_merge::product(x, y, out, other);
+        run_merge::product(x, y, out, other)
+    } else {
+        run_merge::product(y, x, out, other)
     }
-    run_merge::product(y, x, out, other)
 }
 
-// The same of the run in the first a words of x and the one in the others.
-fn product_of(x: &[u32], a: usize, out: &mut [u32], other: &mut [u32]) -> usize
-    requires a_in_bounds { (a ≤ length x.now) × ProductRoom (take a x.now) (drop a x.now) (length other.old) }
-    requires other_in_bounds { length other.old ≤ length out.old }
-    ensures { Begins result (multiplied (take a x.now) (drop a x.now)) out.new }
-{
-    product(&x[..a], &x[a..], out, other)
-}
-
-// The same of x and x.
-fn square(x: &[u32], out: &mut [u32], other: &mut [u32]) -> usize
-    requires product_room { ProductRoom x.now x.now (length other.old) }
-    requires other_in_bounds { length other.old ≤ length out.old }
-    ensures { Begins result (multiplied x.now x.now) out.new }
-{
-    product(x, x, out, other)
-}
-
-// The product of the run in the first a words of stack and the one in the b words behind it, in their place.
+// The product of the run in the first a words of stack and the one in the b words behind it, in their place. What it has in common with
+// `add` are a slicing and a copy: a function that takes what is between them as a closure would be longer.
 pub fn multiply(stack: &mut [u32], a: usize, b: usize, out: &mut [u32], other: &mut [u32]) -> usize
     requires b_in_bounds { (a + b ≤ length stack.old) × (length other.old ≤ length out.old) }
     requires product_room { ProductRoom (take a stack.old) (take b (drop a stack.old)) (length other.old) }
     requires stack_in_bounds { length (multiplied (take a stack.old) (take b (drop a stack.old))) ≤ length stack.old }
     ensures { Begins result (multiplied (take a stack.old) (take b (drop a stack.old))) stack.new }
 {
-    let e = a + b;
-    let r = product_of(&stack[..e], a, out, other);
+    let (x, y) = stack[..a + b].split_at(a);
+    let r = product(x, y, out, other);
     code::copy(&out[..r], stack);
     r
 }
@@ -91,8 +65,8 @@ fn next(stack: &mut [u32], a: usize, m: usize, out: &mut [u32], other: &mut [u32
         stack.new out.new }
 {
     code::copy(&out[..m], &mut stack[a..]);
-    let e = a + m;
-    product_of(&stack[..e], a, out, other)
+    let (x, y) = stack[..a + m].split_at(a);
+    product(x, y, out, other)
 }
 
 // The run in the first a words of stack to the k-th power, in its place.
@@ -105,11 +79,10 @@ pub fn raise(stack: &mut [u32], a: usize, k: u32, out: &mut [u32], other: &mut [
     if d == 0 {
         return a;
     }
-    let mut m = square(&stack[..a], out, other);
-    let mut i: u32 = 1;
-    while i < d {
+    let x = &stack[..a];
+    let mut m = product(x, x, out, other);
+    for _i in 1..d {
         m = next(stack, a, m, out, other);
-        i += 1;
     }
     code::copy(&out[..m], stack);
     m

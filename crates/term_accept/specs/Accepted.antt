@@ -1,6 +1,6 @@
 -- What is answered of a term's text: the words of its tree, which is within the limits, or the refusal.
-use Rattle.std.specs.Prelude.{◌≡◌, true, List, ℕ, ◌+◌, ◌*◌, ◌-◌, ◌≤◌, length, take, drop}
-use Rattle.std.proofs.Common.{sym, ◌∙◌, arith, length-take}
+use Rattle.std.specs.Prelude.{◌≡◌, true, Result, Ok, Err, List, ℕ, ◌+◌, ◌*◌, ◌≤◌, length, take}
+use Rattle.std.proofs.Common.{sym, ◌∙◌}
 use Rattle.std.proofs.Math.Path.{ap, subst}
 use Rattle.text.specs.definitions.Tree.{letters, Tree}
 use Rattle.measure.specs.declared.Measures.{Measures}
@@ -9,11 +9,8 @@ use Rattle.text.specs.definitions.Answer.{Reading, read, refused, onward}
 use Rattle.term_tree.specs.Coding.{enc, Short}
 use Rattle.term_tree.specs.Shapes.{Codes}
 use Rattle.text.specs.definitions.Limits.{measured, accept}
-use Rattle.term_parse.specs.declared.Parsed.{Parsed}
-use Rattle.term_parse.specs.declared.Parsed.TheVariants as P
+use Rattle.refusal.specs.declared.Flaw.{Flaw}
 use Rattle.term_parse.specs.Found.{Parse, ParsedAs}
-use Rattle.term_measure.specs.declared.Measured.{Measured}
-use Rattle.term_measure.specs.declared.Measured.TheVariants.{Fits, Over}
 use Rattle.term_measure.specs.Found.{Finds, MeasuredAs}
 use Rattle.text.specs.definitions.Bytes.{is_in_row}
 
@@ -28,44 +25,38 @@ pub record Accepted (D : Dialect) (row s out : List ℕ) (k : ℕ) : Type 0 wher
   pub short : Short tree
 
 -- what is answered of a term's text
-abbrev pub AcceptedAs : Dialect → List ℕ → List ℕ → List ℕ → Parsed → Type 0
-AcceptedAs D row s out (P.Tree k) = Accepted D row s out k
-AcceptedAs D row s out (P.Refused n p e) = accept D row s ≡ refused n p e
+abbrev pub AcceptedAs : Dialect → List ℕ → List ℕ → List ℕ → Result ℕ Flaw → Type 0
+AcceptedAs D row s out (Ok k) = Accepted D row s out k
+AcceptedAs D row s out (Err f) = accept D row s ≡ refused f.number f.place f.end
 
-module _ (D : Dialect) (row s out : List ℕ) (r : Parsed) (A : ParsedAs D row s out r) where
+module _ (D : Dialect) (row s out : List ℕ) (r : Result ℕ Flaw) (A : ParsedAs D row s out r) where
   -- it is refused before it is measured
-  pub refused-first : (n p e : ℕ) → r ≡ P.Refused n p e → AcceptedAs D row s out r
+  pub refused-first : (f : Flaw) → r ≡ Err f → AcceptedAs D row s out r
   unfolding accept
-  refused-first n p e q =
+  refused-first f q =
       subst (AcceptedAs D row s out) (sym q)
       (ap (λ (x : Reading Tree). onward x (measured row)) (subst (ParsedAs D row s out) q A))
 
-  module _ (k : ℕ) (q : r ≡ P.Tree k) where
+  module _ (k : ℕ) (q : r ≡ Ok k) where
     -- it is read
     pub parsed : Parse D row s out k
     parsed = subst (ParsedAs D row s out) q A
 
-    -- the words are there
-    pub inside : k ≤ length out
-    inside = omega (arith, length-take k out, ap length parsed.is, parsed.size)
-
     module _ (four : length row ≤ 4) where
-      -- those of the slice from 0 to k are the code of the tree
-      pub codes : Codes row parsed.tree (take (k - 0) (drop 0 out))
-      codes =
-          let e : k - 0 ≡ k = omega arith in
-          record { is = ap (λ n. take n out) e ∙ parsed.is; four = four; known = parsed.known; short = parsed.short }
+      -- they are the code of the tree
+      pub codes : Codes row parsed.tree (take k out)
+      codes = record { is = parsed.is; four = four; known = parsed.known; short = parsed.short }
 
-      module _ (m : Measured) (M : MeasuredAs (take (k - 0) (drop 0 out)) m) where
-        found : (m' : Measured) → m ≡ m' → Finds row parsed.tree m'
+      module _ (m : Result Measures Flaw) (M : MeasuredAs (take k out) m) where
+        found : (m' : Result Measures Flaw) → m ≡ m' → Finds row parsed.tree m'
         found m' e = subst (Finds row parsed.tree) e (M.finds row parsed.tree codes)
 
         -- it is within the limits
-        pub fits : (a : Measures) → m ≡ Fits a → AcceptedAs D row s out (P.Tree k)
+        pub fits : (a : Measures) → m ≡ Ok a → AcceptedAs D row s out (Ok k)
         unfolding accept
         fits a e = record {
           tree = parsed.tree;
-          accepts = ap (λ (x : Reading Tree). onward x (measured row)) parsed.reads ∙ (found (Fits a) e).0;
+          accepts = ap (λ (x : Reading Tree). onward x (measured row)) parsed.reads ∙ (found (Ok a) e).0;
           size = parsed.size;
           is = parsed.is;
           bound = parsed.bound;
@@ -74,6 +65,6 @@ module _ (D : Dialect) (row s out : List ℕ) (r : Parsed) (A : ParsedAs D row s
         }
 
         -- it passes one
-        pub over : (n p e : ℕ) → m ≡ Over n p e → AcceptedAs D row s out (P.Refused n p e)
+        pub over : (f : Flaw) → m ≡ Err f → AcceptedAs D row s out (Err f)
         unfolding accept
-        over n p e q' = ap (λ (x : Reading Tree). onward x (measured row)) parsed.reads ∙ found (Over n p e) q'
+        over f q' = ap (λ (x : Reading Tree). onward x (measured row)) parsed.reads ∙ found (Err f) q'

@@ -6,21 +6,14 @@ ghost use Rattle.term_parse.specs.Found.{ParseReady};
 ghost use Rattle.term_accept.specs.Accepted.{AcceptedAs};
 
 use dialect::Dialect;
-use term_measure::Measured;
-use term_parse::Parsed;
+use refusal::Flaw;
 
-// The words of the tree, at the front of out, or the refusal.
-pub fn accept_term(d: Dialect, row: &[u8], s: &[u8], out: &mut [u32]) -> Parsed
+// How many words at the front of out are the tree, or the refusal.
+pub fn accept_term(d: Dialect, row: &[u8], s: &[u8], out: &mut [u32]) -> Result<usize, Flaw>
     requires { ParseReady d row.now (length out.old) }
     ensures { AcceptedAs d row.now s.now out.new result }
 {
-    let tree = term_parse::parse(d, row, s, out);
-    let Parsed::Tree(k) = tree else {
-        return tree;
-    };
-    let found = term_measure::measure_tree(&out[0..k]);
-    match found {
-        Measured::Fits(_) => Parsed::Tree(k),
-        Measured::Over(n, p, e) => Parsed::Refused(n, p, e),
-    }
+    let k = term_parse::parse(d, row, s, out)?;
+    term_measure::measure_tree(&out[..k])?;
+    Ok(k)
 }

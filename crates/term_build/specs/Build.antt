@@ -1,5 +1,5 @@
 -- What building asks, and what it leaves: the run of the term that the words are the code of, the environment's terms for its letters.
-use Rattle.std.specs.Prelude.{cond, List, [], ◌≡◌, ℕ, suc, ◌+◌, ◌*◌, ◌≤◌, ◌<◌, eqb, length, get_or, take, drop}
+use Rattle.std.specs.Prelude.{List, [], ◌∷◌, ◌≡◌, ℕ, suc, ◌+◌, ◌*◌, ◌≤◌, ◌<◌, length, get_or, take, drop}
 use Rattle.horner.specs.definitions.Term.{Term, norm_p}
 use Rattle.code.specs.Coding.{Begins}
 use Rattle.run_merge.specs.Words.{pairs, summed, Fits}
@@ -8,6 +8,13 @@ use Rattle.run_form.specs.Forms.{run_words}
 use Rattle.text.specs.definitions.Tree.{term_of, nesting, Tree}
 use Rattle.term_tree.specs.Shapes.{Codes}
 use Rattle.term_build.specs.Terms.{put, AllSized}
+use Rattle.term_build.specs.declared.Letters.{Letters}
+use Rattle.term_tree.specs.declared.Operation.{Operation}
+use Rattle.term_tree.specs.declared.Operation.TheVariants.{Add, Subtract, Multiply}
+
+-- the environment in the runs of the letters
+abbrev pub env_of : Letters → List (List ℕ)
+env_of l = l.e0.now ∷ l.e1.now ∷ l.e2.now ∷ l.e3.now ∷ []
 
 -- the environment E has for each letter of a row of n the run of the term τ i
 pub record Env (n : ℕ) (τ : ℕ → Term) (E : List (List ℕ)) : Type 0 where
@@ -51,21 +58,21 @@ left_run a l = take a l
 abbrev pub right_run : ℕ → ℕ → List ℕ → List ℕ
 right_run a b l = take b (drop a l)
 
--- the words that an operator makes of them, by its tag
-abbrev pub joined : ℕ → ℕ → ℕ → List ℕ → List ℕ
-joined tag a b l =
-    cond (eqb tag 4) (multiplied (left_run a l) (right_run a b l))
-    (cond (eqb tag 3) (summed 0 2147483646 (left_run a l) (right_run a b l)) (summed 0 1 (left_run a l) (right_run a b l)))
+-- the words that an operator makes of them
+abbrev pub joined : Operation → ℕ → ℕ → List ℕ → List ℕ
+joined Add a b l = summed 0 1 (left_run a l) (right_run a b l)
+joined Subtract a b l = summed 0 2147483646 (left_run a l) (right_run a b l)
+joined Multiply a b l = multiplied (left_run a l) (right_run a b l)
 
 -- there is room for what the operator makes of them
-pub record Joining (tag a b : ℕ) (l : List ℕ) (out other : ℕ) : Type 0 where
+pub record Joining (o : Operation) (a b : ℕ) (l : List ℕ) (out other : ℕ) : Type 0 where
   pub both : a + b ≤ length l
   pub sum_room : a + b ≤ out
   pub most : other ≤ out
   pub left-fits : Fits 0 (pairs (left_run a l))
   pub right-fits : Fits 0 (pairs (right_run a b l))
-  pub product-room : tag ≡ 4 → ProductRoom (left_run a l) (right_run a b l) other
-  pub product-fits : tag ≡ 4 → length (multiplied (left_run a l) (right_run a b l)) ≤ length l
+  pub product-room : o ≡ Multiply → ProductRoom (left_run a l) (right_run a b l) other
+  pub product-fits : o ≡ Multiply → length (multiplied (left_run a l) (right_run a b l)) ≤ length l
 
 -- ---- over a row of n letters, each of which stands for itself
 -- w is the code of a tree within the limits

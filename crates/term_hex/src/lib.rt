@@ -10,13 +10,7 @@ ghost use Rattle.text.specs.definitions.Integers.{hex_digit, hex_value, hex_digi
 fn is_hex_digit(b: u8) -> bool
     ensures { result ≡ hex_digit b }
 {
-    if text_word::is_digit(b) {
-        return true;
-    }
-    if b < 65 {
-        return false;
-    }
-    b <= 70
+    matches!(b, b'0'..=b'9' | b'A'..=b'F')
 }
 
 // What a digit stands for.
@@ -24,24 +18,8 @@ fn value_of(b: u8) -> u64
     requires { hex_digit b ≡ true }
     ensures { (result ≡ hex_value b) × (result ≤ 15) }
 {
-    if b < 65 {
-        return (b - 48) as u64;
-    }
-    (b - 55) as u64
-}
-
-// Whether all bytes of w are such digits.
-fn all_hex(w: &[u8]) -> bool
-    ensures { result ≡ all hex_digit w.now }
-{
-    let mut i = 0;
-    while i < w.len() {
-        if !is_hex_digit(w[i]) {
-            return false;
-        }
-        i += 1;
-    }
-    true
+    let value = if b < b'A' { b - b'0' } else { b - b'A' + 10 };
+    u64::from(value)
 }
 
 // One to eight digits without a leading zero, or `0`.
@@ -49,47 +27,33 @@ fn all_hex(w: &[u8]) -> bool
 fn hex_digits(w: &[u8]) -> bool
     ensures { result ≡ hex_digits w.now }
 {
-    if w.len() == 0 {
-        return false;
+    match w {
+        [] => false,
+        [b'0', rest @ ..] => rest.is_empty(),
+        _ => w.len() <= 8 && w.iter().all(|b| is_hex_digit(*b)),
     }
-    if w[0] == 48 {
-        return w.len() == 1;
-    }
-    if 8 < w.len() {
-        return false;
-    }
-    all_hex(w)
 }
 
 // Whether w is a hexadecimal integer.
+#[tactic(auto, unfolding(text::specs::definitions::Integers::is_hex))]
 pub fn is_hex(w: &[u8]) -> bool
     ensures { result ≡ is_hex w.now }
 {
-    if w.len() < 2 {
-        return false;
+    match w {
+        [b'0', b'x', digits @ ..] => hex_digits(digits),
+        _ => false,
     }
-    if w[0] != 48 {
-        return false;
-    }
-    if w[1] != 120 {
-        return false;
-    }
-    hex_digits(&w[2..])
 }
 
 // What the digits stand for, cut down above the limit of weights.
+// One function for this and text_word::cut_wide would take the base, a digit's value and what each byte has to be: it is longer than both.
 fn cut_hex(w: &[u8]) -> u32
     requires { all hex_digit w.now ≡ true }
     ensures { result ≡ min (hex_from 0 w.now) 1073741824 }
 {
-    let mut value = 0u64;
-    let mut i = 0;
-    while i < w.len() {
-        value = value * 16 + value_of(w[i]);
-        if 1073741824 < value {
-            value = 1073741824;
-        }
-        i += 1;
+    let mut value = 0;
+    for b in w {
+        value = (value * 16 + value_of(*b)).min(1073741824);
     }
     value as u32
 }

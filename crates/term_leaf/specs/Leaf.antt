@@ -1,5 +1,5 @@
 -- What is found of a token and of a word: the leaf that a word is, with its words, or why it is none.
-use Rattle.std.specs.Prelude.{◌≡◌, Bool, true, false, cond, ◌⊎◌, List, [], ◌∷◌, ℕ, suc, ◌+◌, ◌-◌, ◌/◌, ◌%◌, ◌≤◌, ◌<◌, eqb, ltb, ℤ, length, take, drop}
+use Rattle.std.specs.Prelude.{◌≡◌, Bool, true, false, cond, ◌⊎◌, List, [], ◌∷◌, ℕ, suc, ◌+◌, ◌-◌, ◌/◌, ◌%◌, ◌≤◌, ◌<◌, eqb, leb, ℤ, length, take, drop}
 use Rattle.std.proofs.Math.Option.{Option, none, some}
 use Rattle.text.specs.definitions.Bytes.{is_in_row, read_int, opening, closing, word}
 use Rattle.text.specs.definitions.Tree.{letters, Tree}
@@ -8,6 +8,9 @@ use Rattle.dialect.specs.declared.Dialect.{Dialect}
 use Rattle.text.specs.definitions.Integers.{is_hex}
 use Rattle.term_tree.specs.Coding.{int_code, enc, Short}
 use Rattle.text.specs.definitions.Reading.{lone, leaf, letter_check}
+use Rattle.term_leaf.specs.declared.Answer.{Answer}
+use Rattle.term_leaf.specs.declared.Kind.{Kind}
+use Rattle.term_leaf.specs.declared.Kind.TheVariants.{Open, Close, Word, End}
 
 -- ---- answers
 -- the words of a subterm's tree and the place behind the subterm, or the refusal
@@ -19,17 +22,27 @@ pub data Part : Type 0 where
 abbrev pub number_in : Dialect → ℕ → ℕ
 number_in D c = cond (eqb c 0) D.wrong c
 
--- the answer that one number stands for
-unfoldable pub part_in : Dialect → ℕ → Part
-part_in D x =
-    cond (ltb x 9223372036854775808) (On (x % 1048576) (x / 1048576)) (Off (number_in D (x % 8)) (x / 8 % 65536) (x / 524288 % 65536))
+-- which answers are refusals; and of the others the words of the tree, and the place behind it
+abbrev pub is_refusal : Answer → Bool
+is_refusal x = leb 9223372036854775808 x.packed
 
--- the number r stands for the answer q in every dialect
-pub record AnswerIs (q : Part) (r : ℕ) : Type 0 where
+abbrev pub words : Answer → ℕ
+words x = x.packed % 1048576
+
+abbrev pub past : Answer → ℕ
+past x = x.packed / 1048576
+
+-- what an answer stands for
+unfoldable pub part_in : Dialect → Answer → Part
+part_in D x =
+    cond (is_refusal x) (Off (number_in D (x.packed % 8)) (x.packed / 8 % 65536) (x.packed / 524288 % 65536)) (On (words x) (past x))
+
+-- r stands for the answer q in every dialect
+pub record AnswerIs (q : Part) (r : Answer) : Type 0 where
   pub is : (D : Dialect) → part_in D r ≡ q
 
--- the number r stands for the refusal with the number c, the place p and the end e
-pub record RefusalIs (c p e r : ℕ) : Type 0 where
+-- r stands for the refusal with the number c, the place p and the end e
+pub record RefusalIs (c p e : ℕ) (r : Answer) : Type 0 where
   pub is : (D : Dialect) → part_in D r ≡ Off (number_in D c) p e
 
 -- ---- tokens
@@ -37,16 +50,15 @@ pub record RefusalIs (c p e r : ℕ) : Type 0 where
 abbrev pub part : List ℕ → ℕ → ℕ → List ℕ
 part s a e = take (e - a) (drop a s)
 
--- the token at a place, from a to e: 1 is `(`, 2 `)`, 3 a word; 0 is the text's end
-pub record TokenAt (s : List ℕ) (at kind a e : ℕ) : Type 0 where
-  pub kinds : kind ≤ 3
+-- the token at a place, from a to e
+pub record TokenAt (s : List ℕ) (at : ℕ) (kind : Kind) (a e : ℕ) : Type 0 where
   pub inside : e ≤ length s
   pub later : at ≤ a
-  pub more : (kind ≡ 0 → ⊥) → a < e
-  pub none_left : kind ≡ 0 → (from s at ≡ []) × ((a ≡ length s) × (e ≡ length s))
-  pub opens : kind ≡ 1 → (from s at ≡ opening a ∷ from s e) × (e ≡ suc a)
-  pub closes : kind ≡ 2 → (from s at ≡ closing a ∷ from s e) × (e ≡ suc a)
-  pub worded : kind ≡ 3 → (from s at ≡ word a (part s a e) ∷ from s e) × (e ≡ a + length (part s a e))
+  pub more : (kind ≡ End → ⊥) → a < e
+  pub none_left : kind ≡ End → (from s at ≡ []) × ((a ≡ length s) × (e ≡ length s))
+  pub opens : kind ≡ Open → (from s at ≡ opening a ∷ from s e) × (e ≡ suc a)
+  pub closes : kind ≡ Close → (from s at ≡ closing a ∷ from s e) × (e ≡ suc a)
+  pub worded : kind ≡ Word → (from s at ≡ word a (part s a e) ∷ from s e) × (e ≡ a + length (part s a e))
 
 -- ---- words
 -- the dialect has hexadecimal integers, and the word is one

@@ -1,4 +1,3 @@
 pub mod Judged
 pub mod One
-pub mod Packed
 pub mod Two

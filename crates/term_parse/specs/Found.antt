@@ -1,22 +1,25 @@
 -- What is found of the parts of a term's text: the tree that a part has, with its words, and that the reading of the text goes on behind
 -- it; or the refusal that it ends in.
-use Rattle.std.specs.Prelude.{◌≡◌, Bool, true, false, cond, List, [], ◌∷◌, ℕ, ◌+◌, ◌*◌, ◌-◌, ◌≤◌, ◌<◌, eqb, length, take, drop}
+use Rattle.std.specs.Prelude.{◌≡◌, Bool, true, false, Result, Ok, Err, List, [], ◌∷◌, ℕ, ◌+◌, ◌*◌, ◌-◌, ◌≤◌, ◌<◌, length, take, drop}
+use Rattle.refusal.specs.declared.Flaw.{Flaw}
 use Rattle.text.specs.definitions.Bytes.{Token, opening, closing, word, is_in_row}
 use Rattle.text.specs.definitions.Tree.{Sign, add, sub, mul, letters, Tree}
 use Rattle.term_token.specs.Views.{from}
 use Rattle.dialect.specs.declared.Dialect.{Dialect}
 use Rattle.text.specs.definitions.Answer.{Reading, read, refused}
 use Rattle.term_tree.specs.Coding.{span_of, enc, Short}
-use Rattle.text.specs.definitions.Reading.{Frame, first, operand, operator, exponent, a_letter, Next, on, whole, off, after_first, after_expt}
+use Rattle.text.specs.definitions.Reading.{Frame, operand, operator, exponent, a_letter, Next, on, whole, off, after_first, after_expt}
 use Rattle.text.specs.definitions.Reading.{deliver, close_short, wrong_at, only_end, read_term, run_in}
 use Rattle.term_leaf.specs.Leaf.{Part, On, Off}
 use Rattle.term_leaf.specs.Leaf.{TokenAt}
-use Rattle.term_parse.specs.declared.Parsed.{Parsed}
-use Rattle.term_parse.specs.declared.Parsed.TheVariants as P
+use Rattle.term_leaf.specs.declared.Kind.{Kind}
+use Rattle.text_word.specs.declared.Operator.{Operator}
+use Rattle.text_word.specs.declared.Operator.TheVariants.{Plus, Minus, Times, Power}
 
 -- ---- parts
 -- what every function asks: the text is short, at lies in it, and out has room for what stands from the place base on
 pub record Ready (D : Dialect) (row s : List ℕ) (base at n : ℕ) : Type 0 where
+  pub fits : D.depth < 18446744073709551616
   pub four : length row ≤ 4
   pub short : length s ≤ 65535
   pub inside : at ≤ length s
@@ -24,7 +27,8 @@ pub record Ready (D : Dialect) (row s : List ℕ) (base at n : ℕ) : Type 0 whe
   pub room : 3 * (length s - base) + 1 ≤ 2 * n
 
 -- where the token from a to e begins a term
-pub record TokenReady (D : Dialect) (row s : List ℕ) (kind a e n : ℕ) : Type 0 where
+pub record TokenReady (D : Dialect) (row s : List ℕ) (kind : Kind) (a e n : ℕ) : Type 0 where
+  pub fits : D.depth < 18446744073709551616
   pub four : length row ≤ 4
   pub short : length s ≤ 65535
   pub at : ℕ
@@ -48,12 +52,11 @@ pub record OperandReady (D : Dialect) (row s : List ℕ) (p k at n : ℕ) : Type
   pub ready : Ready D row s p at n
   pub bound : 2 * k + 5 ≤ 3 * (at - p)
 
--- where a second may follow: the operator is 1, 2 or 3
-pub record SecondReady (D : Dialect) (row s : List ℕ) (p g k at depth n : ℕ) : Type 0 where
+-- where a second may follow: the operator is no power
+pub record SecondReady (D : Dialect) (row s : List ℕ) (p : ℕ) (g : Operator) (k at depth n : ℕ) : Type 0 where
   pub first : OperandReady D row s p k at n
   pub deeper : depth < D.depth
-  pub low : 1 ≤ g
-  pub high : g ≤ 3
+  pub sign : g ≡ Power → ⊥
 
 -- where a node's `)` has to stand
 pub record ClosedReady (s : List ℕ) (p size at n : ℕ) : Type 0 where
@@ -69,6 +72,13 @@ pub record ParseReady (D : Dialect) (row : List ℕ) (n : ℕ) : Type 0 where
   pub short : D.bytes ≤ 65535
   pub room : 3 * D.bytes + 1 ≤ 2 * n
 
+-- the number that begins a node's head word, by its operator
+abbrev pub code_of : Operator → ℕ
+code_of Plus = 2147483650
+code_of Minus = 2147483651
+code_of Times = 2147483652
+code_of Power = 2147483653
+
 module _ (D : Dialect) (row : List ℕ) where
   -- the reading goes on at the tokens ts of a text of n bytes
   abbrev pub go_on : ℕ → Next → List Token → Reading Tree
@@ -82,7 +92,7 @@ module _ (D : Dialect) (row : List ℕ) where
   stopped n (k ∷ ks) = wrong_at D k
 
   -- a tree of k words was made at the front of out, from the text between base and nx: wherever the reading f stood, it goes on behind
-  pub record Made (s : List ℕ) (base : ℕ) (out : List ℕ) (k nx : ℕ) (Ok : List Frame → Type 0) (f : List Frame → Reading Tree)
+  pub record Made (s : List ℕ) (base : ℕ) (out : List ℕ) (k nx : ℕ) (Fits : List Frame → Type 0) (f : List Frame → Reading Tree)
       (g : Tree → List Frame → Next) : Type 0 where
     pub tree : Tree
     pub size : k ≡ length (enc row tree)
@@ -92,13 +102,13 @@ module _ (D : Dialect) (row : List ℕ) where
     pub bound : 2 * k ≤ 3 * (nx - base) + 1
     pub known : letters (is_in_row row) tree ≡ true
     pub short : Short tree
-    pub leads : (fs : List Frame) → Ok fs → f fs ≡ go_on (length s) (g tree fs) (from s nx)
+    pub leads : (fs : List Frame) → Fits fs → f fs ≡ go_on (length s) (g tree fs) (from s nx)
 
   -- by the answer: the tree, or the refusal that the reading ends in
-  abbrev pub Says : (s : List ℕ) (base : ℕ) (out : List ℕ) (Ok : List Frame → Type 0) (f : List Frame → Reading Tree)
+  abbrev pub Says : (s : List ℕ) (base : ℕ) (out : List ℕ) (Fits : List Frame → Type 0) (f : List Frame → Reading Tree)
       (g : Tree → List Frame → Next) → Part → Type 0
-  Says s base out Ok f g (On k nx) = Made s base out k nx Ok f g
-  Says s base out Ok f g (Off n p e) = (fs : List Frame) → Ok fs → f fs ≡ refused n p e
+  Says s base out Fits f g (On k nx) = Made s base out k nx Fits f g
+  Says s base out Fits f g (Off n p e) = (fs : List Frame) → Fits fs → f fs ≡ refused n p e
 
   -- a `)` that stands at the place closes no `(- x`
   abbrev pub Shut : List ℕ → ℕ → List Frame → Type 0
@@ -113,7 +123,7 @@ module _ (D : Dialect) (row : List ℕ) where
     pub says : TermSays s at depth out r
 
   -- a term whose first token is known, wherever it is read from
-  pub record OperandOf (s : List ℕ) (kind a e depth : ℕ) (out : List ℕ) (r : Part) : Type 0 where
+  pub record OperandOf (s : List ℕ) (kind : Kind) (a e depth : ℕ) (out : List ℕ) (r : Part) : Type 0 where
     pub says : (at : ℕ) → TokenAt s at kind a e → TermAt s at depth out r
 
   -- what follows the `(` at p
@@ -138,15 +148,21 @@ module _ (D : Dialect) (row : List ℕ) where
     pub short : Short x
 
   -- behind the first operand only a `)` may stand
-  abbrev pub closes_only : ℕ → Bool
-  closes_only g = cond (eqb g 2) D.panel false
+  abbrev pub closes_only : Operator → Bool
+  closes_only Plus = false
+  closes_only Minus = D.panel
+  closes_only Times = false
+  closes_only Power = false
 
-  -- the operator, by its number
-  abbrev pub sign_of : ℕ → Sign
-  sign_of g = cond (eqb g 1) add (cond (eqb g 2) sub mul)
+  -- the sign, by the operator
+  abbrev pub sign_of : Operator → Sign
+  sign_of Plus = add
+  sign_of Minus = sub
+  sign_of Times = mul
+  sign_of Power = mul
 
   -- what follows the first operand
-  pub record SecondAt (s : List ℕ) (p g k at depth : ℕ) (before out : List ℕ) (r : Part) : Type 0 where
+  pub record SecondAt (s : List ℕ) (p : ℕ) (g : Operator) (k at depth : ℕ) (before out : List ℕ) (r : Part) : Type 0 where
     pub says : (o : ℕ) (x : Tree) → Operand x k (drop 2 before)
         → Says s p out (λ fs. length fs ≡ depth) (λ fs. go_on (length s) (after_first D.panel p o (sign_of g) x fs) (from s at))
         (deliver D) r
@@ -194,6 +210,6 @@ pub record Parse (D : Dialect) (row s out : List ℕ) (k : ℕ) : Type 0 where
   pub short : Short tree
 
 -- what is answered of the whole text
-abbrev pub ParsedAs : Dialect → List ℕ → List ℕ → List ℕ → Parsed → Type 0
-ParsedAs D row s out (P.Tree k) = Parse D row s out k
-ParsedAs D row s out (P.Refused n p e) = read_term D row s ≡ refused n p e
+abbrev pub ParsedAs : Dialect → List ℕ → List ℕ → List ℕ → Result ℕ Flaw → Type 0
+ParsedAs D row s out (Ok k) = Parse D row s out k
+ParsedAs D row s out (Err f) = read_term D row s ≡ refused f.number f.place f.end

@@ -4,3 +4,4 @@ pub mod Operands
 pub mod Seconds
 pub mod Powers
 pub mod Whole
+pub mod Theorems

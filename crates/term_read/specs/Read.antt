@@ -1,5 +1,5 @@
 -- What is read of a term's text.
-use Rattle.std.specs.Prelude.{List, ◌≡◌, ℕ, ◌≤◌, length}
+use Rattle.std.specs.Prelude.{List, ◌≡◌, Result, Ok, Err, ℕ, ◌≤◌, length}
 use Rattle.refusal.specs.declared.Fault.{Fault}
 use Rattle.horner.specs.definitions.Term.{norm_p}
 use Rattle.code.specs.Coding.{Begins, Made}
@@ -7,8 +7,6 @@ use Rattle.run_form.specs.Forms.{run_words}
 use Rattle.text.specs.definitions.Bytes.{read, refused}
 use Rattle.text.specs.definitions.Limits.{accept_term}
 use Rattle.text.specs.definitions.Tree.{Tree, term_of}
-use Rattle.term_read.specs.declared.TermReading.{TermReading}
-use Rattle.term_read.specs.declared.TermReading.TheVariants.{Words, Refused}
 
 -- a run of 512 words for each of 16 open parentheses and one more; the words of a tree; a sum or a product on its way
 pub record Roomy (stack tree out other : ℕ) : Type 0 where
@@ -30,14 +28,14 @@ pub record IsRun (row s : List ℕ) (n : ℕ) (l : List ℕ) : Type 0 where
   pub made : Begins n (run_words (length row) (norm_p (term_of row t))) l
 
 -- the term s is refused, or what is made of it stands in the first words of l
-pub data ReadAs (Is : ℕ → List ℕ → Type 0) (row s : List ℕ) (r : TermReading) (l : List ℕ) : Type 0 where
-  refusal : (bad : Fault) → accept_term row s ≡ refused bad → r ≡ Refused bad → ReadAs Is row s r l
-  words : (n : ℕ) → Is n l → r ≡ Words n → ReadAs Is row s r l
+pub data ReadAs (Is : ℕ → List ℕ → Type 0) (row s : List ℕ) (r : Result ℕ Fault) (l : List ℕ) : Type 0 where
+  refusal : (bad : Fault) → accept_term row s ≡ refused bad → r ≡ Err bad → ReadAs Is row s r l
+  words : (n : ℕ) → Is n l → r ≡ Ok n → ReadAs Is row s r l
 
 -- its form
-abbrev pub TermRead : List ℕ → List ℕ → TermReading → List ℕ → Type 0
+abbrev pub TermRead : List ℕ → List ℕ → Result ℕ Fault → List ℕ → Type 0
 TermRead row s r l = ReadAs (IsTerm row s) row s r l
 
 -- its run
-abbrev pub RunRead : List ℕ → List ℕ → TermReading → List ℕ → Type 0
+abbrev pub RunRead : List ℕ → List ℕ → Result ℕ Fault → List ℕ → Type 0
 RunRead row s r l = ReadAs (IsRun row s) row s r l

@@ -1,3 +1,4 @@
 pub mod Reading
 pub mod Terms
 pub mod Building
+pub mod Theorems

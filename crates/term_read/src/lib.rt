@@ -8,16 +8,9 @@ ghost use Rattle.term_read.specs.Read.{Roomy, RunRead, TermRead};
 
 use code::TABLE;
 use refusal::Fault;
-use term_parse::Parsed;
-
-// How many words the term's run takes, or its form; or what is wrong with the text.
-#[derive(Drop)]
-pub enum TermReading {
-    Words(usize),
-    Refused(Fault),
-}
 
 // Reads the term s and leaves its polynomial's run at the front of stack; the other tables are for its tree, and for what is on its way.
+// Answers how many words the run takes.
 pub fn read_run(
     row: &[u8],
     s: &[u8],
@@ -25,22 +18,16 @@ pub fn read_run(
     tree: &mut [u32],
     out: &mut [u32],
     other: &mut [u32],
-) -> TermReading
+) -> Result<usize, Fault>
     requires row_value { is_row row.now ≡ true }
     requires roomy { Roomy (length stack.old) (length tree.old) (length out.old) (length other.old) }
     ensures { RunRead row.now s.now result stack.new }
 {
-    let found = term_accept::accept_term(dialect::ordinary(), row, s, tree);
-    match found {
-        Parsed::Refused(number, place, _) => TermReading::Refused(Fault { number, place }),
-        Parsed::Tree(k) => {
-            let n = term_build::build_term(row.len(), &tree[..k], stack, out, &mut other[..1024]);
-            TermReading::Words(n)
-        }
-    }
+    let k = term_accept::accept_term(dialect::ordinary(), row, s, tree)?;
+    Ok(term_build::build_term(row.len(), &tree[..k], stack, out, &mut other[..1024]))
 }
 
-// Reads the term s and leaves its form at the front of the table a.
+// Reads the term s and leaves its form at the front of the table a. Answers how many words the form takes.
 pub fn read_term(
     row: &[u8],
     s: &[u8],
@@ -48,15 +35,11 @@ pub fn read_term(
     b: &mut [u32],
     c: &mut [u32],
     d: &mut [u32],
-) -> TermReading
+) -> Result<usize, Fault>
     requires row_value { is_row row.now ≡ true }
     requires long { Long (length a.old) (length b.old) (length c.old) (length d.old) }
     ensures { TermRead row.now s.now result a.new }
 {
-    let reading = read_run(row, s, b, c, a, d);
-    let TermReading::Words(n) = reading else {
-        return reading;
-    };
-    let m = run_code::to_code(&b[..n], 0, row.len() as u32, &mut a[..TABLE]);
-    TermReading::Words(m)
+    let n = read_run(row, s, b, c, a, d)?;
+    Ok(run_code::to_code(&b[..n], 0, row.len() as u32, &mut a[..TABLE]))
 }

@@ -1,28 +1,44 @@
--- Laws of `lead`, over any test.
-use Rattle.std.proofs.Common.{sym, add-one, drop-cons, Bool, true, false, length, List, ℕ, suc, ◌+◌, ◌<◌, ◌≤◌, arith}
-use Rattle.std.proofs.Math.Path.{◌≡◌, ap, ◌∙◌}
-use Rattle.std.specs.Prelude.{drop}
-use Rattle.std.proofs.Math.ListN.{get_or, drop_of_length-le}
+-- Where the first byte stands that doesn't pass a test, as the library's `position` gives it, and as `lead` counts it.
+use Rattle.std.proofs.Common.{◌≡◌, ◌∙◌, refl, sym, ap, Bool, true, false, List, ℕ, ◌+◌, ◌-◌, length, Option, Some, None, arith}
+use Rattle.std.specs.Prelude.{cond, not, ltb, take, drop, ◌∷◌}
+use Rattle.std.specs.List.{position_or_len}
+use Rattle.std.proofs.lemmas.List.Recursion.{is_position_or_len}
+use Rattle.std.proofs.Common.{take_all, length-drop, ltb-false}
 use Rattle.term_token.specs.Steps.{more, lead}
+use Rattle.term_token.specs.Tokens.{lead-le}
 
-module _ (p : ℕ → Bool) (s : List ℕ) (i : ℕ) where
-  opened : i < length s → lead p (drop i s) ≡ more (p (get_or s i 0)) (lead p (drop (suc i) s))
-  unfolding lead
-  opened h = ap (λ (l : List ℕ). lead p l) (drop-cons s i 0 h)
+-- the bytes from a place on
+pub rest-part : (s : List ℕ) (at : ℕ) → take (length s - at) (drop at s) ≡ drop at s
+rest-part s at = take_all (length s - at) (drop at s) (omega (arith, length-drop at s))
 
-  pub lead-on : i < length s → p (get_or s i 0) ≡ true → i + lead p (drop i s) ≡ (i + 1) + lead p (drop (i + 1) s)
-  lead-on h t =
-      let e : lead p (drop i s) ≡ suc (lead p (drop (suc i) s)) = opened h ∙ ap (λ (b : Bool). more b (lead p (drop (suc i) s))) t in
-      let f : lead p (drop (suc i) s) ≡ lead p (drop (i + 1) s) = ap (λ (k : ℕ). lead p (drop k s)) (sym (add-one i)) in
-      omega arith
+lead-position : (t : ℕ → Bool) (l : List ℕ) → position_or_len (λ x. not (t x)) l ≡ lead t l
+unfolding lead
+lead-position t l = sym (is_position_or_len (lead t) (λ x. not (t x)) refl steps l)
+  where
+    steps : (x : ℕ) (xs : List ℕ) → lead t (x ∷ xs) ≡ cond (not (t x)) 0 (1 + lead t xs)
+    steps x xs = by (t x)
+      where
+        by : (b : Bool) → more b (lead t xs) ≡ cond (not b) 0 (1 + lead t xs)
+        by true = omega arith
+        by false = refl
 
-  pub lead-off : i < length s → p (get_or s i 0) ≡ false → i + lead p (drop i s) ≡ i
-  lead-off h t =
-      let e : lead p (drop i s) ≡ 0 = opened h ∙ ap (λ (b : Bool). more b (lead p (drop (suc i) s))) t in
-      omega arith
+module _ (t : ℕ → Bool) (l : List ℕ) (r : Option ℕ)
+    (e : r ≡ cond (ltb (position_or_len (λ x. not (t x)) l) (length l)) (Some (position_or_len (λ x. not (t x)) l)) None) where
+  as-lead : r ≡ cond (ltb (lead t l) (length l)) (Some (lead t l)) None
+  as-lead = e ∙ ap (λ p. cond (ltb p (length l)) (Some p) None) (lead-position t l)
 
-  pub lead-end : length s ≤ i → i + lead p (drop i s) ≡ i
-  unfolding lead
-  lead-end h =
-      let e : lead p (drop i s) ≡ 0 = ap (λ (l : List ℕ). lead p l) (drop_of_length-le s {i = i} h) in
-      omega arith
+  -- there is one
+  pub lead-some : (n : ℕ) → r ≡ Some n → n ≡ lead t l
+  lead-some n q = by (ltb (lead t l) (length l)) (sym as-lead ∙ q)
+    where
+      by : (b : Bool) → cond b (Some (lead t l)) None ≡ Some n → n ≡ lead t l
+      by true h = cc
+      by false h = cc
+
+  -- there is none
+  pub lead-none : r ≡ None → length l ≡ lead t l
+  lead-none q = by (ltb (lead t l) (length l)) refl (sym as-lead ∙ q)
+    where
+      by : (b : Bool) → ltb (lead t l) (length l) ≡ b → cond b (Some (lead t l)) None ≡ None → length l ≡ lead t l
+      by true g h = cc
+      by false g h = omega (arith, lead-le t l, ltb-false (lead t l) (length l) g)

@@ -161,3 +161,14 @@ pair-by row w t T C (a-two p o c g x y s f b d) =
 -- it is that of an operator before two operands
 pub pair : {row w : List ℕ} {t : Tree} → TwoTag w → Codes row t w → Pair row w t
 pair {row} {w} {t} T C = pair-by row w t T C (shape C)
+
+power-tag-by : {row w : List ℕ} (t : Tree) → Shape row w t → 2147483648 ≤ head_of w → 5 ≤ tag_of w → tag_of w ≡ 5
+power-tag-by t (a-num p u z a b c) n e = absurd (omega (arith, c, n))
+power-tag-by t (a-letter p b a c) n e = absurd (omega (arith, a, e))
+power-tag-by t (a-neg p o c x a b d) n e = absurd (omega (arith, a, e))
+power-tag-by t (a-two p o c g x y s f b d) n e = absurd (omega (arith, s.to, e))
+power-tag-by t (a-power p o c x q m a b d) n e = omega (arith, a)
+
+-- no node has a tag above 5
+pub power-tag : {row w : List ℕ} {t : Tree} → Codes row t w → 2147483648 ≤ head_of w → 5 ≤ tag_of w → tag_of w ≡ 5
+power-tag {row} {w} {t} C n e = power-tag-by t (shape C) n e

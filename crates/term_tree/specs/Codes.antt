@@ -1,7 +1,7 @@
 -- What a code of a tree shows at its head. That the decoder gives back what it shows of the tree stands in proofs/Codes.
 use Rattle.std.specs.Prelude.{cond, List, ◌≡◌, refl, ◌⊎◌, ℤ, pos, negsuc, nat_abs, ltb}
 use Rattle.std.proofs.Common.{inl, inr, lt-ltb, le-ltb}
-use Prim.Native.Nat.{ℕ, ◌-◌, ◌≤◌, ◌<◌}
+use Prim.Native.Nat.{ℕ, ◌≤◌, ◌<◌}
 use native.Mathlib.Omega.{arith}
 use Rattle.std.proofs.Math.ListN.{length}
 use Rattle.horner.proofs.laws.Compare.{lt-or-ge}

@@ -3,3 +3,4 @@ pub mod Coding
 pub mod Codes
 pub mod Cases
 pub mod Shapes
+pub mod Heads

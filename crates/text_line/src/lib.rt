@@ -12,7 +12,7 @@ fn put_spaced(n: u32, out: &mut [u8]) -> usize
     ensures upper_bound { result ≤ 11 }
 {
     let at = form_write::put(b" ", out);
-    let k = form_write::write_number(n as u64, &mut out[at..]);
+    let k = form_write::write_number(u64::from(n), &mut out[at..]);
     at + k
 }
 
@@ -23,11 +23,8 @@ fn put_numbers(numbers: &[u32], out: &mut [u8]) -> usize
     ensures upper_bound { result ≤ 11 * length numbers.now }
 {
     let mut at = 0;
-    let mut i = 0;
-    while i < numbers.len() {
-        let k = put_spaced(numbers[i], &mut out[at..]);
-        at += k;
-        i += 1;
+    for n in numbers {
+        at += put_spaced(*n, &mut out[at..]);
     }
     at
 }

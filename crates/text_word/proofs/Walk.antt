@@ -3,13 +3,16 @@ use Rattle.std.proofs.Common.{sym, ap, inl, inr, arith, add-one, drop-cons, Bool
 use Rattle.std.proofs.Common.{◌-◌, ◌*◌, ◌≤◌, ◌<◌, min}
 use Rattle.std.proofs.Math.Path.{◌≡◌, ◌∙◌}
 use Rattle.std.proofs.Math.Logic.{◌⊎◌}
-use Rattle.std.specs.Prelude.{drop}
+use Rattle.std.specs.Prelude.{drop, refl, eqb, ltb, cond, Option, Some, None}
+use Rattle.std.specs.Option.{unwrap_or}
+use Rattle.std.proofs.lemmas.List.Recursion.{is_position_or_len}
+use Rattle.std.specs.List.{list_all, position_or_len}
 use Rattle.std.proofs.Math.Bool.{◌&&◌}
-use Rattle.std.proofs.Math.ListN.{get_or, drop_of_length-le}
-use borrow.Author.Tests.{eq-eqb, ne_eqb}
+use Rattle.std.proofs.Math.ListN.{get_or}
+use Rattle.std.proofs.Common.{lt-ltb, le-ltb}
 use Rattle.horner.proofs.laws.Compare.{lt-or-ge}
 use Rattle.text.specs.definitions.Bytes.{all, index_in, value_from}
-use Rattle.text_laws.specs.laws.Bytes.{and_l, and_r}
+use Rattle.text_laws.specs.laws.Bytes.{and_r}
 
 -- the bytes from i on are the one at i and those from i + 1 on
 pub one_on : (s : List ℕ) (i : ℕ) → i < length s → drop i s ≡ get_or s i 0 ∷ drop (i + 1) s
@@ -17,37 +20,46 @@ one_on s i h = drop-cons s i 0 h ∙ ap (λ k. get_or s i 0 ∷ drop k s) (sym (
 
 -- ---- a test that all bytes pass
 module _ (t : ℕ → Bool) (s : List ℕ) (i : ℕ) where
-  pub all-on : i < length s → t (get_or s i 0) ≡ true → all t (drop i s) ≡ all t (drop (i + 1) s)
-  all-on h e = ap (all t) (one_on s i h) ∙ ap (λ b. b && all t (drop (i + 1) s)) e
-
-  pub all-off : i < length s → t (get_or s i 0) ≡ false → all t (drop i s) ≡ false
-  all-off h e = ap (all t) (one_on s i h) ∙ ap (λ b. b && all t (drop (i + 1) s)) e
-
-  pub all_end : length s ≤ i → all t (drop i s) ≡ true
-  all_end h = ap (all t) (drop_of_length-le s {i = i} h)
-
-  -- the byte at i passes, and all behind it
-  pub all_here : i < length s → all t (drop i s) ≡ true → t (get_or s i 0) ≡ true
-  all_here h e = and_l (t (get_or s i 0)) (all t (drop (i + 1) s)) (sym (ap (all t) (one_on s i h)) ∙ e)
-
   pub all_rest : i < length s → all t (drop i s) ≡ true → all t (drop (i + 1) s) ≡ true
   all_rest h e = and_r (t (get_or s i 0)) (all t (drop (i + 1) s)) (sym (ap (all t) (one_on s i h)) ∙ e)
 
--- ---- the place of a letter
-module _ (row : List ℕ) (b i : ℕ) where
-  pub index_on : i < length row → (get_or row i 0 ≡ b → ⊥) → i + index_in (drop i row) b ≡ (i + 1) + index_in (drop (i + 1) row) b
-  index_on h n =
-      ap (λ l. i + index_in l b) (one_on row i h)
-      ∙ ap (λ c. i + elim c [ true ↦ 0 | false ↦ suc (index_in (drop (i + 1) row) b) ]) (ne_eqb b (get_or row i 0) (λ e. n (sym e)))
-      ∙ omega arith
+-- what the library's `all` computes is the definitions' own
+pub all-list : (t : ℕ → Bool) (s : List ℕ) → all t s ≡ list_all t s
+all-list t [] = refl
+all-list t (x ∷ s) = ap (λ b. t x && b) (all-list t s)
 
-  pub index-here : i < length row → get_or row i 0 ≡ b → i + index_in (drop i row) b ≡ i
-  index-here h e =
-      ap (λ l. i + index_in l b) (one_on row i h)
-      ∙ ap (λ c. i + elim c [ true ↦ 0 | false ↦ suc (index_in (drop (i + 1) row) b) ]) (eq-eqb b (get_or row i 0) (sym e)) ∙ omega arith
+-- ---- the place of a letter, as the library's `position` gives it
+-- the place, or else the length
+or-length : (p n : ℕ) → p ≤ n → unwrap_or (cond (ltb p n) (Some p) None) n ≡ p
+or-length p n h = by (lt-or-ge p n)
+  where
+    by : (p < n) ⊎ (n ≤ p) → unwrap_or (cond (ltb p n) (Some p) None) n ≡ p
+    by (inl l) = ap (λ b. unwrap_or (cond b (Some p) None) n) (lt-ltb p n l)
+    by (inr g) = ap (λ b. unwrap_or (cond b (Some p) None) n) (le-ltb p n g) ∙ omega arith
 
-  pub index-end : length row ≤ i → i + index_in (drop i row) b ≡ i
-  index-end h = ap (λ l. i + index_in l b) (drop_of_length-le row {i = i} h) ∙ omega arith
+index-le : (row : List ℕ) (b : ℕ) → index_in row b ≤ length row
+index-le [] b = omega arith
+index-le (x ∷ row) b = by (eqb b x) (index-le row b)
+  where
+    by : (c : Bool) → index_in row b ≤ length row → elim c [ true ↦ 0 | false ↦ suc (index_in row b) ] ≤ suc (length row)
+    by true h = omega arith
+    by false h = omega arith
+
+pub index-position : (row : List ℕ) (b : ℕ) (r : Option ℕ) →
+    r ≡ cond (ltb (position_or_len (λ x. eqb b x) row) (length row)) (Some (position_or_len (λ x. eqb b x) row)) None
+    → unwrap_or r (length row) ≡ index_in row b
+index-position row b r e =
+    ap (λ o. unwrap_or o (length row)) e
+    ∙ ap (λ p. unwrap_or (cond (ltb p (length row)) (Some p) None) (length row))
+    (sym (is_position_or_len (λ l. index_in l b) (λ x. eqb b x) refl steps row))
+    ∙ or-length (index_in row b) (length row) (index-le row b)
+  where
+    steps : (x : ℕ) (xs : List ℕ) → index_in (x ∷ xs) b ≡ cond (eqb b x) 0 (1 + index_in xs b)
+    steps x xs = by (eqb b x)
+      where
+        by : (c : Bool) → elim c [ true ↦ 0 | false ↦ suc (index_in xs b) ] ≡ cond c 0 (1 + index_in xs b)
+        by true = refl
+        by false = omega arith
 
 -- ---- a value, cut down to a limit
 value-le : (a : ℕ) (xs : List ℕ) → a ≤ value_from a xs
@@ -66,6 +78,3 @@ pub value_on :
     (w : List ℕ) (i a L : ℕ) → i < length w →
     min (value_from a (drop i w)) L ≡ min (value_from (min (a * 10 + (get_or w i 0 - 48)) L) (drop (i + 1) w)) L
 value_on w i a L h = ap (λ l. min (value_from a l) L) (one_on w i h) ∙ sym (value-cut (a * 10 + (get_or w i 0 - 48)) L (drop (i + 1) w))
-
-pub value-end : (w : List ℕ) (i a : ℕ) → length w ≤ i → value_from a (drop i w) ≡ a
-value-end w i a h = ap (value_from a) (drop_of_length-le w {i = i} h)

@@ -1,9 +1,10 @@
 -- The tests on words are the definitions' own.
-use Rattle.std.specs.Prelude.{◌≡◌, Bool, cond, ◌||◌, List, [], ◌∷◌, eqb, ltb, ℤ, length, ◌⊎◌}
+use Rattle.std.specs.Prelude.{◌≡◌, Bool, cond, ◌||◌, List, [], ◌∷◌, eqb, ltb, ℤ, length, ◌⊎◌, Option, Some, None, ℕ, zero, suc, ◌+◌, ◌-◌, ◌*◌, ◌≤◌, ◌<◌}
+use Rattle.text_word.specs.declared.Operator.{Operator}
+use Rattle.text_word.specs.declared.Operator.TheVariants.{Plus, Minus, Times, Power}
 use Rattle.std.proofs.Math.Path.{refl, ap}
 use Rattle.std.proofs.Common.{sym, ◌∙◌, subst, arith, inl, inr}
 use Rattle.std.proofs.Math.Bool.{true, false}
-use Prim.Native.Nat.{ℕ, zero, suc, ◌+◌, ◌-◌, ◌*◌, ◌≤◌, ◌<◌}
 use Rattle.std.proofs.Math.Nat as NatL
 use Rattle.horner.proofs.laws.Compare.{lt-or-ge}
 use Rattle.std.proofs.Math.Option.{none, some}
@@ -109,7 +110,7 @@ in_row (c ∷ cs) b = at (eqb b c) (in_row cs b)
         up (inr h) = le-ltb (index_in cs b) (length cs) h ∙ sym (le-ltb (suc (index_in cs b)) (suc (length cs)) (omega arith))
 
 -- ---- operators: no other word is one
-pub operator-0 : (w : List ℕ) → (w ≡ bytes "+" → ⊥) → (w ≡ bytes "-" → ⊥) → (w ≡ bytes "*" → ⊥) → (w ≡ bytes "EXPT" → ⊥) → operator_of w ≡ 0
+pub operator-0 : (w : List ℕ) → (w ≡ bytes "+" → ⊥) → (w ≡ bytes "-" → ⊥) → (w ≡ bytes "*" → ⊥) → (w ≡ bytes "EXPT" → ⊥) → operator_of w ≡ None
 operator-0 [] p m t e = refl
 operator-0 (a ∷ []) p m t e = at (eqb a 43) refl (eqb a 45) refl (eqb a 42) refl
   where
@@ -118,7 +119,8 @@ operator-0 (a ∷ []) p m t e = at (eqb a 43) refl (eqb a 45) refl (eqb a 42) re
 
     at :
         (x : Bool) → eqb a 43 ≡ x → (y : Bool) → eqb a 45 ≡ y → (z : Bool) → eqb a 42 ≡ z →
-        ◌≡◌ {A = ℕ} (elim x [ true ↦ 1 | false ↦ elim y [ true ↦ 2 | false ↦ elim z [ true ↦ 3 | false ↦ 0 ] ] ]) 0
+        ◌≡◌ {A = Option Operator}
+        (elim x [ true ↦ Some Plus | false ↦ elim y [ true ↦ Some Minus | false ↦ elim z [ true ↦ Some Times | false ↦ None ] ] ]) None
     at true f y g z h = absurd (p (one 43 f))
     at false f true g z h = absurd (m (one 45 g))
     at false f false g true h = absurd (t (one 42 h))
@@ -128,8 +130,11 @@ operator-0 (a ∷ b ∷ c ∷ []) p m t e = refl
 operator-0 (a ∷ b ∷ c ∷ d ∷ []) p m t e = at (eqb a 69) refl (eqb b 88) refl (eqb c 80) refl (eqb d 84) refl
   where
     at : (x : Bool) → eqb a 69 ≡ x → (y : Bool) → eqb b 88 ≡ y → (z : Bool) → eqb c 80 ≡ z → (w : Bool) → eqb d 84 ≡ w
-        → ◌≡◌ {A = ℕ}
-        (elim x [ true ↦ elim y [ true ↦ elim z [ true ↦ elim w [ true ↦ 4 | false ↦ 0 ] | false ↦ 0 ] | false ↦ 0 ] | false ↦ 0 ]) 0
+        → ◌≡◌ {A = Option Operator}
+        (elim x [
+          | true ↦ elim y [ true ↦ elim z [ true ↦ elim w [ true ↦ Some Power | false ↦ None ] | false ↦ None ] | false ↦ None ]
+          | false ↦ None
+        ]) None
     at true f true g true h true k = absurd (e (λ i. eqb-true a 69 f i ∷ eqb-true b 88 g i ∷ eqb-true c 80 h i ∷ eqb-true d 84 k i ∷ []))
     at true f true g true h false k = refl
     at true f true g false h w k = refl

@@ -1,6 +1,7 @@
 // The calls that are tried.
+use std::fmt;
 
-#[derive(Clone, Copy)]
+#[derive(Clone, Copy, Debug, PartialEq, Eq)]
 pub enum Call {
     Form,
     Negate,
@@ -13,6 +14,24 @@ pub enum Call {
     Counters,
     PrintBook,
     Judge,
+}
+
+impl fmt::Display for Call {
+    fn fmt<W: fmt::Write>(&self, f: &mut fmt::Formatter<W>) -> fmt::Result {
+        match self {
+            Call::Form => write!(f, "form"),
+            Call::Negate => write!(f, "negate"),
+            Call::Add => write!(f, "add"),
+            Call::Multiply => write!(f, "multiply"),
+            Call::Raise => write!(f, "raise"),
+            Call::Remainder => write!(f, "remainder"),
+            Call::FormRemainder => write!(f, "form_remainder"),
+            Call::Compare => write!(f, "compare"),
+            Call::Counters => write!(f, "counters"),
+            Call::PrintBook => write!(f, "print_book"),
+            Call::Judge => write!(f, "judge"),
+        }
+    }
 }
 
 // Those that take work tables, in the order of their tries.

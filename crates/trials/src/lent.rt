@@ -3,80 +3,59 @@
 // left text is refused. 11: the right one is.
 ghost use Rattle.std.specs.Prelude.{◌≤◌};
 
-// n, or most where that is less, so that a part of this length is always there.
-fn within(n: usize, most: usize) -> usize
-    ensures { result ≤ most }
-{
-    if n < most {
-        return n;
-    }
-    most
-}
-
 // How many words of a table are lent.
 pub fn words(k: u32, table: u32, most: usize) -> usize
     ensures { result ≤ most }
 {
     if k == table {
-        return within(16383, most);
+        return most.min(16383);
     }
-    if k == 5 {
-        return within(16391, most);
+    match k {
+        5 => most.min(16391),
+        _ => most.min(16384),
     }
-    within(16384, most)
 }
 
 // How many letters the row has.
 pub fn letters(k: u32, most: usize) -> usize
     ensures { result ≤ most }
 {
-    if k == 6 {
-        return 0;
+    match k {
+        6 => 0,
+        7 => most.min(5),
+        _ => most.min(2),
     }
-    if k == 7 {
-        return within(5, most);
-    }
-    within(2, most)
 }
 
 // How many bytes of the result buffer are lent, where the text takes n.
 pub fn room(k: u32, n: u8, most: usize) -> usize
     ensures { result ≤ most }
 {
-    if k == 9 {
-        return within(n as usize, most);
+    match k {
+        8 => most.min(usize::from(n).saturating_sub(1)),
+        9 => most.min(usize::from(n)),
+        _ => most,
     }
-    if k != 8 {
-        return most;
-    }
-    if n == 0 {
-        return 0;
-    }
-    within((n as usize) - 1, most)
 }
 
 // How many numbers of the point are lent; the row has two letters.
 pub fn coordinates(k: u32, most: usize) -> usize
     ensures { result ≤ most }
 {
-    if k == 8 {
-        return within(1, most);
+    match k {
+        5 => most.min(3),
+        8 => most.min(1),
+        _ => most.min(2),
     }
-    if k == 5 {
-        return within(3, most);
-    }
-    within(2, most)
 }
 
 // The counters' width: 7 is none.
 pub fn width(k: u32) -> u32 {
-    if k == 8 {
-        return 7;
+    match k {
+        8 => 7,
+        9 => 16,
+        _ => 8,
     }
-    if k == 9 {
-        return 16;
-    }
-    8
 }
 
 // How many of n bytes of a text are lent: one fewer in the try in which it is refused.
@@ -86,10 +65,7 @@ pub fn cut(k: u32, refused: u32, n: usize) -> usize
     if k != refused {
         return n;
     }
-    if n == 0 {
-        return 0;
-    }
-    n - 1
+    n.saturating_sub(1)
 }
 
 // The text that is lent.

@@ -1,7 +1,6 @@
 // What came back, on standard output.
 use crate::calls::Call;
-use refusal::{Refusal, Side};
-use reply::{Compared, Counted, Judged, Remaindered, Written};
+use reply::{Compared, Comparison, Counted, Judged, Remaindered, Written};
 use std::io;
 
 // How many words are not 0.
@@ -9,80 +8,46 @@ pub fn dirty(t: &[u32]) -> usize {
     t.iter().filter(|word| **word != 0).count()
 }
 
-fn say_side(rt: &impl Print, side: Side) -> io::Result<()> {
-    match side {
-        Side::Left => print!(rt; " left "),
-        Side::Right => print!(rt; " right "),
-        Side::Neither => print!(rt; " neither "),
-    }
-}
-
-pub fn say_refused(rt: &impl Print, bad: Refusal) -> io::Result<()> {
-    let number = bad.number;
-    let place = bad.place;
-    print!(rt; "REFUSED {number}")?;
-    say_side(rt, bad.side)?;
-    print!(rt; "{place}")
-}
-
 pub fn say_written(rt: &impl Print, answer: Written) -> io::Result<()> {
     match answer {
-        Written::Text(n) => print!(rt; "TEXT {n}"),
-        Written::Refused(bad) => say_refused(rt, bad),
+        Ok(n) => print!(rt; "TEXT {n}"),
+        Err(bad) => print!(rt; "{bad}"),
     }
 }
 
 pub fn say_remainder(rt: &impl Print, answer: Remaindered) -> io::Result<()> {
     match answer {
-        Remaindered::Remainder(n) => print!(rt; "REMAINDER {n}"),
-        Remaindered::Refused(bad) => say_refused(rt, bad),
+        Ok(n) => print!(rt; "REMAINDER {n}"),
+        Err(bad) => print!(rt; "{bad}"),
     }
 }
 
 pub fn say_compared(rt: &impl Print, answer: Compared) -> io::Result<()> {
     match answer {
-        Compared::Same => print!(rt; "SAME"),
-        Compared::Different(l, r) => print!(rt; "DIFF {l} {r}"),
-        Compared::Refused(bad) => say_refused(rt, bad),
+        Ok(Comparison::Same) => print!(rt; "SAME"),
+        Ok(Comparison::Different(l, r)) => print!(rt; "DIFF {l} {r}"),
+        Err(bad) => print!(rt; "{bad}"),
     }
 }
 
 pub fn say_counted(rt: &impl Print, answer: Counted) -> io::Result<()> {
     match answer {
-        Counted::Same => print!(rt; "SAME"),
-        Counted::Different => print!(rt; "DIFF"),
-        Counted::Refused(bad) => say_refused(rt, bad),
+        Ok(true) => print!(rt; "SAME"),
+        Ok(false) => print!(rt; "DIFF"),
+        Err(bad) => print!(rt; "{bad}"),
     }
 }
 
 pub fn say_judged(rt: &impl Print, answer: Judged) -> io::Result<()> {
     match answer {
-        Judged::Form => print!(rt; "YES"),
-        Judged::Refused(bad) => say_refused(rt, bad),
-    }
-}
-
-// The call's name.
-fn say_call(rt: &impl Print, call: Call) -> io::Result<()> {
-    match call {
-        Call::Form => print!(rt; "form"),
-        Call::Negate => print!(rt; "negate"),
-        Call::Add => print!(rt; "add"),
-        Call::Multiply => print!(rt; "multiply"),
-        Call::Raise => print!(rt; "raise"),
-        Call::Remainder => print!(rt; "remainder"),
-        Call::FormRemainder => print!(rt; "form_remainder"),
-        Call::Compare => print!(rt; "compare"),
-        Call::Counters => print!(rt; "counters"),
-        Call::PrintBook => print!(rt; "print_book"),
-        Call::Judge => print!(rt; "judge"),
+        Ok(()) => print!(rt; "YES"),
+        Err(bad) => print!(rt; "{bad}"),
     }
 }
 
 // The call and the try's number, at the front of its line.
 pub fn begin(rt: &impl Print, call: Call, k: u32) -> io::Result<()> {
-    say_call(rt, call)?;
-    print!(rt; " {k}: ")
+    print!(rt; "{call} {k}: ")
 }
 
 // What the result buffer holds.

@@ -3,9 +3,8 @@ use Rattle.std.specs.Prelude.{Bool, true, false, ◌&&◌, List, [], ◌∷◌, 
 pub use Rattle.book.specs.definitions.Meaning.{Entry, Book, number16, part}
 use Rattle.refusal.specs.declared.Side.{Side}
 use Rattle.refusal.specs.declared.Side.TheVariants.{Left, Right, Neither}
-use Rattle.reply.specs.declared.Written.{Written}
 use Rattle.reply.specs.definitions.Calls.{Verdict, equal, different, compare_of}
-use Rattle.reply.specs.definitions.Reply.{Reply, gives, refuses, asked, enough, fitted, Work, lengths, Writes}
+use Rattle.reply.specs.definitions.Reply.{Written, Reply, gives, refuses, asked, enough, fitted, Work, lengths, Writes}
 use Rattle.text.specs.definitions.Bytes.{Reading, read, refused, refused_at, onward, is_row, bytes, decimal}
 
 -- "13 names the start of the first wrong field": p, unless the test holds

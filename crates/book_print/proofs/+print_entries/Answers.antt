@@ -70,8 +70,8 @@ pub slice_bounds-print_entries-count : goal.slice_bounds-print_entries-count
 slice_bounds-print_entries-count t c =
     omega (arith, wrote-length c.print_entry-h.ensures.wrote, c.print_entry-h.ensures.wrote.fits)
 
-pub print_entries-m-requires : goal.print_entries-m-requires
-print_entries-m-requires t c = (
+pub print_entries-requires : goal.print_entries-requires
+print_entries-requires t c = (
   omega (arith, c.decreases, c.if-k-eq0.false),
   (
     (
@@ -91,15 +91,15 @@ overflow_add-result t c =
     omega (
       arith,
       c.print_entry-h.ensures.upper_bound,
-      c.print_entries-m.ensures.upper_bound,
+      c.print_entries.ensures.upper_bound,
       c.requires.row.1.number,
     )
 
 pub returns : goal.returns
 returns t c =
     record {
-      wrote = wrote_as (wrote_on c.print_entry-h.ensures.wrote c.print_entries-m.ensures.wrote) (step c.args.book.now c.args.n
+      wrote = wrote_as (wrote_on c.print_entry-h.ensures.wrote c.print_entries.ensures.wrote) (step c.args.book.now c.args.n
           c.args.p c.args.at c.args.i c.args.k c.requires.row.0.short c.if-k-eq0.false c.requires.row.1
           c.number_at.ensures.value c.number_at-2.ensures.value).lines;
-      upper_bound = omega (arith, c.print_entry-h.ensures.upper_bound, c.print_entries-m.ensures.upper_bound, c.if-k-eq0.false);
+      upper_bound = omega (arith, c.print_entry-h.ensures.upper_bound, c.print_entries.ensures.upper_bound, c.if-k-eq0.false);
     }

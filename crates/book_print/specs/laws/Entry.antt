@@ -2,12 +2,11 @@
 use Rattle.std.specs.Prelude.{List, ◌≡◌, ℕ, ◌+◌, ◌-◌, ◌≤◌, length, take, drop, true}
 use Rattle.std.proofs.Common.{sym, ◌∙◌, arith, length-drop, length-take-le}
 use Rattle.std.proofs.Math.Path.{ap, ap₂}
-use Rattle.reply.specs.definitions.Calls.{Verdict, compare_of, point_after}
+use Rattle.reply.specs.definitions.Calls.{Compared, Verdict, compare_of, point_after}
 use Rattle.reply.specs.definitions.Reply.{Reply}
 use Rattle.text.specs.definitions.Bytes.{is_row}
 use Rattle.book.specs.definitions.Book.{number16, part, entry_line}
 use Rattle.door_compare.specs.Compare.{compared_of}
-use Rattle.reply.specs.declared.Compared.{Compared}
 use Rattle.book_line.specs.Lines.{entry_text}
 use Rattle.book_line.specs.laws.Texts.{entry-is}
 use Rattle.book_print.specs.Print.{Row, line_at}

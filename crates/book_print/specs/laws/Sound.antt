@@ -1,5 +1,5 @@
 -- A book that is fine: its row, its entries, and what is printed of it.
-use Rattle.std.specs.Prelude.{Bool, true, false, ◌&&◌, List, [], ◌∷◌, ◌++◌, ◌≡◌, refl, ℕ, zero, suc, ◌+◌, ◌*◌, ◌≤◌, take, drop, get_or}
+use Rattle.std.specs.Prelude.{Ok, Bool, true, false, ◌&&◌, List, [], ◌∷◌, ◌++◌, ◌≡◌, refl, ℕ, zero, suc, ◌+◌, ◌*◌, ◌≤◌, take, drop, get_or}
 use Rattle.std.proofs.Common.{sym, ◌∙◌, length-take-le}
 use Rattle.std.proofs.Math.Path.{ap, ap₂}
 use native.Mathlib.Omega.{arith}
@@ -11,7 +11,6 @@ use Rattle.text_laws.specs.laws.Bytes.{and_l, and_r}
 use Rattle.book.specs.definitions.Book.{must, letters, part, entries, contents, read_book, line}
 use Rattle.book.specs.definitions.Book.{entry_lines, answer, printed}
 use Rattle.book_read.specs.Heads.{head_of}
-use Rattle.book_read.specs.declared.Head.TheVariants.{Fine}
 use Rattle.book_read.specs.laws.Fields.{is-must, is_whole}
 use Rattle.book_read.specs.laws.Whole.{counted, listed, numbered, lettered, book-long, book-headed}
 use Rattle.book_line.specs.Lines.{head_text}
@@ -20,7 +19,7 @@ use Rattle.book_print.specs.Print.{Row, Left, list_of, lines_from}
 use Rattle.book_print.specs.laws.Walk.{fine-must, fine-onward, first_of}
 
 -- the letters so far are a row
-row_of : (book : List ℕ) (i k : ℕ) → head_of (letters book i (suc k)) ≡ Fine → is_row (part book 1 (i + suc k)) ≡ true
+row_of : (book : List ℕ) (i k : ℕ) → head_of (letters book i (suc k)) ≡ Ok tt → is_row (part book 1 (i + suc k)) ≡ true
 row_of book i zero h =
     let a = fine-must (leb (1 + i + 1) (length book)) (length book) _ h in
     let b = fine-must (is_row (take (1 + i) (drop 1 book))) (1 + i) _ a.1 in
@@ -30,12 +29,12 @@ row_of book i (suc k) h =
     let b = fine-must (is_row (take (1 + i) (drop 1 book))) (1 + i) _ a.1 in
     ap (λ n. is_row (part book 1 n)) (let g : i + suc (suc k) ≡ 1 + i + suc k = omega arith in g) ∙ row_of book (1 + i) k b.1
 
-row_from : (book : List ℕ) (n : ℕ) → 1 ≤ n → head_of (letters book 0 n) ≡ Fine → is_row (part book 1 n) ≡ true
+row_from : (book : List ℕ) (n : ℕ) → 1 ≤ n → head_of (letters book 0 n) ≡ Ok tt → is_row (part book 1 n) ≡ true
 row_from book zero l h = absurd (omega arith)
 row_from book (suc k) l h = ap (λ n. is_row (part book 1 n)) (let g : suc k ≡ 0 + suc k = omega arith in g) ∙ row_of book 0 k h
 
 -- as many entries as were asked for
-entries-length : (book : List ℕ) (p at k : ℕ) → head_of (entries book p at k) ≡ Fine → length (list_of (entries book p at k)) ≡ k
+entries-length : (book : List ℕ) (p at k : ℕ) → head_of (entries book p at k) ≡ Ok tt → length (list_of (entries book p at k)) ≡ k
 entries-length book p at zero h = ap (λ b. length (list_of (must b at (λ u. read [])))) (fine-must (leb (length book) at) at _ h).0
 entries-length book p at (suc k) h =
     let f = first_of book p at k h in
@@ -54,14 +53,14 @@ module _ (book : List ℕ) where
     pub left : Left book (1 + vars + 1) (1 + vars + 1 + 8 * many) 0 many
     pub text : head_text vars many ++ lines_from book vars (1 + vars + 1) (1 + vars + 1 + 8 * many) 0 many ≡ printed book
 
-  short-of : head_of (read_book book) ≡ Fine → length book ≤ 65535
+  short-of : head_of (read_book book) ≡ Ok tt → length book ≤ 65535
   short-of h = go (leb (length book) 65535) refl
     where
       go : (b : Bool) → leb (length book) 65535 ≡ b → length book ≤ 65535
       go true e = leb-true (length book) 65535 e
       go false e = let l = book-long book (leb-false (length book) 65535 e) in let z : ◌≡◌ {A = ℕ} 0 1 = cc in absurd (omega arith)
 
-  pub sound : head_of (read_book book) ≡ Fine → Sound
+  pub sound : head_of (read_book book) ≡ Ok tt → Sound
   unfolding printed lines_from
   sound h =
       let s = short-of h in
@@ -76,7 +75,7 @@ module _ (book : List ℕ) where
       let there = leb-true (1 + vars + 1) (length book) d.0 in
       let full = leb-true many 64 (and_r (leb 1 many) (leb many 64) e.0) in
       let g : 1 + vars + 1 ≡ 2 + vars = omega arith in
-      let fine : head_of (entries book (1 + vars + 1) (1 + vars + 1 + 8 * many) many) ≡ Fine = ap
+      let fine : head_of (entries book (1 + vars + 1) (1 + vars + 1 + 8 * many) many) ≡ Ok tt = ap
       (λ p. head_of (entries book p (p + 8 * many) many)) g ∙ ap head_of f.is in
       let whole-book : read_book book ≡ read (record { row = part book 1 vars; all = f.value }) =
       book-headed book s

@@ -1,10 +1,9 @@
 -- Entries that are fine, one by one.
-use Rattle.std.specs.Prelude.{Bool, true, false, List, [], ◌∷◌, ◌++◌, ◌≡◌, refl, ℕ, zero, suc, ◌+◌, ◌-◌, ◌≤◌, leb, length}
+use Rattle.std.specs.Prelude.{Ok, Bool, true, false, List, [], ◌∷◌, ◌++◌, ◌≡◌, refl, ℕ, zero, suc, ◌+◌, ◌-◌, ◌≤◌, leb, length}
 use Rattle.std.proofs.Common.{sym, ap, ap₂, subst, ◌∙◌, add-one, arith}
 use Rattle.text.specs.definitions.Bytes.{onward, Reading, read, refused}
 use Rattle.book.specs.definitions.Book.{Entry, must, number16, part, body, entries, entry_line, entry_lines}
 use Rattle.book_read.specs.Heads.{head_of}
-use Rattle.book_read.specs.declared.Head.TheVariants.{Fine}
 use Rattle.book_read.specs.laws.Bodies.{body_is}
 use Rattle.book_read.specs.laws.Entries.{entries-then}
 use Rattle.book_print.specs.Print.{Here, Left, list_of, line_at, lines_from}
@@ -15,16 +14,16 @@ pub record WasRead {A : Type 0} (x : Reading A) : Type 0 where
   pub is : x ≡ read value
 
 pub fine-must :
-    {A : Type 0} (b : Bool) (p : ℕ) (r : Unit {0} → Reading A) → head_of (must b p r) ≡ Fine → (b ≡ true) × (head_of (r tt) ≡ Fine)
+    {A : Type 0} (b : Bool) (p : ℕ) (r : Unit {0} → Reading A) → head_of (must b p r) ≡ Ok tt → (b ≡ true) × (head_of (r tt) ≡ Ok tt)
 fine-must true p r h = (refl, h)
 fine-must false p r h = let z : ◌≡◌ {A = ℕ} 0 1 = cc in absurd (omega arith)
 
 pub record Onward {A B : Type 0} (x : Reading A) (r : A → Reading B) : Type 0 where
   pub value : A
   pub is : x ≡ read value
-  pub then : head_of (r value) ≡ Fine
+  pub then : head_of (r value) ≡ Ok tt
 
-pub fine-onward : {A B : Type 0} (x : Reading A) (r : A → Reading B) → head_of (onward x r) ≡ Fine → Onward x r
+pub fine-onward : {A B : Type 0} (x : Reading A) (r : A → Reading B) → head_of (onward x r) ≡ Ok tt → Onward x r
 fine-onward (read a) r h = record { value = a; is = refl; then = h }
 fine-onward (refused bad) r h = let z : ◌≡◌ {A = ℕ} 0 1 = cc in absurd (omega arith)
 
@@ -33,7 +32,7 @@ module _ (book : List ℕ) (p at : ℕ) where
   pub record First (k m n : ℕ) : Type 0 where
     pub is : list_of (entries book p at (suc k)) ≡ record { panel = part book at m; cloud = part book (at + m) n } ∷ list_of
         (entries book (p + 8) (at + m + n) k)
-    pub fine : head_of (entries book (p + 8) (at + m + n) k) ≡ Fine
+    pub fine : head_of (entries book (p + 8) (at + m + n) k) ≡ Ok tt
 
   list-onward : {x : Reading (List Entry)} (e : Entry) → WasRead x → list_of (onward x (λ es. read (e ∷ es))) ≡ e ∷ list_of x
   list-onward e r = ap (λ z. list_of (onward z (λ es. read (e ∷ es)))) r.is ∙ ap (λ z. e ∷ list_of z) (sym r.is)
@@ -47,7 +46,7 @@ module _ (book : List ℕ) (p at : ℕ) where
   }
 
   pub first_of :
-      (k : ℕ) → head_of (entries book p at (suc k)) ≡ Fine → Here book p at × First k (number16 book (p + 2)) (number16 book (p + 6))
+      (k : ℕ) → head_of (entries book p at (suc k)) ≡ Ok tt → Here book p at × First k (number16 book (p + 2)) (number16 book (p + 6))
   first_of k h =
       let a = fine-onward (body book p at) _ h in
       let b = fine-onward (body book (p + 4) (at + a.value)) _ a.then in

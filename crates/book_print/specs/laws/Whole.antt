@@ -1,5 +1,5 @@
 -- The whole answer, and the call.
-use Rattle.std.specs.Prelude.{true, false, List, ◌++◌, ◌≡◌, refl, ℕ, ◌<◌, ◌≤◌, length, take, drop}
+use Rattle.std.specs.Prelude.{Result, Ok, Err, true, false, List, ◌++◌, ◌≡◌, refl, ℕ, ◌<◌, ◌≤◌, length, take, drop}
 use Rattle.std.proofs.Common.{sym, ap₂, ◌∙◌, arith, le-leb, take_at}
 use Rattle.std.proofs.Math.Path.{ap}
 use Rattle.std.proofs.lemmas.Bool.{lt-leb}
@@ -11,18 +11,15 @@ use Rattle.book.specs.definitions.Book.{Book, read_book, answer, printed, print_
 use Rattle.form_write.specs.Write.{Wrote}
 use Rattle.door.specs.laws.Ending.{Zeros}
 use Rattle.door_result.specs.laws.Whole.{refused-whole, answered-whole}
-use Rattle.reply.specs.declared.Written.TheVariants as W
 use Rattle.book_read.specs.Heads.{head_of}
-use Rattle.book_read.specs.declared.Head.{Head}
-use Rattle.book_read.specs.declared.Head.TheVariants.{Refused}
 use Rattle.book_line.specs.Lines.{refusal_text}
 use Rattle.book_line.specs.laws.Texts.{refusal_is}
 
-pub refused-text : (book : List ℕ) {h : Head} {bad : Fault} → h ≡ head_of (read_book book) → h ≡ Refused bad → refusal_text bad ≡ printed book
+pub refused-text : (book : List ℕ) {h : Result (Unit {0}) Fault} {bad : Fault} → h ≡ head_of (read_book book) → h ≡ Err bad → refusal_text bad ≡ printed book
 unfolding printed
 refused-text book {h} {bad} a b = refusal_is bad ∙ ap answer (sym (go (read_book book) (sym a ∙ b)))
   where
-    go : (x : Reading Book) → head_of x ≡ Refused bad → x ≡ refused bad
+    go : (x : Reading Book) → head_of x ≡ Err bad → x ≡ refused bad
     go (read k) c = let z : ◌≡◌ {A = ℕ} 0 1 = cc in absurd (omega arith)
     go (refused worse) c = cc
 
@@ -44,18 +41,18 @@ module _ (ts book : List ℕ) (n : ℕ) where
 
 -- ---- the answer, the result buffer and the tables
 module _ (x : Reply (List ℕ)) (o a b c d : List ℕ) where
-  pub whole-2 : x ≡ refuses (of_neither 2) → Writes x (W.Refused (of_neither 2)) o o (work a b c d) (work a b c d)
+  pub whole-2 : x ≡ refuses (of_neither 2) → Writes x (Err (of_neither 2)) o o (work a b c d) (work a b c d)
   whole-2 k = refused-whole x o a b c d (omega arith) k
 
   module _ {a' b' c' d' : List ℕ} (z : Zeros a b c d a' b' c' d') where
-    pub whole-11 : x ≡ refuses (of_neither 11) → Writes x (W.Refused (of_neither 11)) o o (work a b c d) (work a' b' c' d')
+    pub whole-11 : x ≡ refuses (of_neither 11) → Writes x (Err (of_neither 11)) o o (work a b c d) (work a' b' c' d')
     whole-11 k = answered-whole x (refuses (of_neither 11)) o a b c d k refl refl refl z
 
     pub whole-text :
         {n r : ℕ} {w v o' : List ℕ} → x ≡ gives w → n ≡ length w → v ≡ w → Wrote r v o o' →
-        Writes x (W.Text n) o o' (work a b c d) (work a' b' c' d')
+        Writes x (Ok n) o o' (work a b c d) (work a' b' c' d')
     whole-text {w = w} k e f g =
-        answered-whole x (gives w) o a b c d k refl (ap W.Text e) (g.is ∙ ap₂ (λ u m. u ++ drop m o) f (g.size ∙ ap length f)) z
+        answered-whole x (gives w) o a b c d k refl (ap Ok e) (g.is ∙ ap₂ (λ u m. u ++ drop m o) f (g.size ∙ ap length f)) z
 
 -- the text that was written in front
 pub front : {n : ℕ} {w old new : List ℕ} → Wrote n w old new → take n new ≡ w

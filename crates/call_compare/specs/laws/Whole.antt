@@ -1,5 +1,5 @@
 -- The whole call: refused at the door, one text refused, or answered; and the buffers.
-use Rattle.std.specs.Prelude.{false, List, ◌≡◌, refl, ℕ, ◌≤◌, ◌<◌, leb, length}
+use Rattle.std.specs.Prelude.{Err, false, List, ◌≡◌, refl, ℕ, ◌≤◌, ◌<◌, leb, length}
 use Rattle.std.proofs.Common.{sym, ◌∙◌, le-leb}
 use Rattle.std.proofs.Math.Path.{ap}
 use Rattle.std.proofs.lemmas.Bool.{lt-leb}
@@ -7,17 +7,14 @@ use Rattle.refusal.specs.Refusal.{of_neither}
 use Rattle.refusal.specs.declared.Side.TheVariants.{Left, Right}
 use Rattle.text.specs.definitions.Limits.{accept_term}
 use Rattle.text.specs.definitions.Tree.{term_of}
-use Rattle.reply.specs.definitions.Calls.{Verdict, verdict_of, compare_of, compare_reply, point_after, remainders, told_compared, Compares}
+use Rattle.reply.specs.definitions.Calls.{Compared, Verdict, verdict_of, compare_of, compare_reply, point_after, remainders, told_compared, Compares}
 use Rattle.reply.specs.definitions.Reply.{Reply, gives, refuses, said, asked, read_as, work, untouched}
 use Rattle.door.specs.Door.{ready_of}
-use Rattle.door.specs.declared.Entry.TheVariants as Closed
 use Rattle.refusal.specs.declared.Refusal.{Refusal}
 use Rattle.door.specs.laws.Ending.{Zeros, tables-kept, tables-cleared, read-clears}
 use Rattle.door.specs.laws.Numbers.{term-number}
 use Rattle.door.specs.laws.Door.{Open, open-goes, not-open}
 use Rattle.door_compare.specs.Compare.{compared_of, tells-compared}
-use Rattle.reply.specs.declared.Compared.{Compared}
-use Rattle.reply.specs.declared.Compared.TheVariants.{Refused}
 
 -- ---- the door
 module _ (row ts : List ℕ) (k : ℕ) (s t : List ℕ) where
@@ -27,7 +24,7 @@ module _ (row ts : List ℕ) (k : ℕ) (s t : List ℕ) where
       open-goes row ts (λ u. asked (leb (length row) k) 2 (λ v. compare_of row s t)) o
       ∙ ap (λ b. asked b 2 (λ v. compare_of row s t)) (le-leb (length row) k l)
 
-  pub compare-not-open : {bad : Refusal} → ready_of row ts ≡ Closed.Refused bad → compare_reply row ts k s t ≡ refuses bad
+  pub compare-not-open : {bad : Refusal} → ready_of row ts ≡ Err bad → compare_reply row ts k s t ≡ refuses bad
   unfolding compare_reply
   compare-not-open h = not-open row ts (λ u. asked (leb (length row) k) 2 (λ v. compare_of row s t)) h
 
@@ -47,7 +44,7 @@ compare-clears row s t =
 -- ---- the answer, the point buffer and the tables
 pub refused-whole :
     (x : Reply Verdict) {bad : Refusal} (p a b c d : List ℕ) → bad.number ≤ 2 → x ≡ refuses bad →
-    Compares x (Refused bad) p p (work a b c d) (work a b c d)
+    Compares x (Err bad) p p (work a b c d) (work a b c d)
 refused-whole x p a b c d l k =
     record { answer = ap (said remainders) (sym k); point = ap (λ z. point_after z p) (sym k); tables = tables-kept x (work a b c d) k l }
 

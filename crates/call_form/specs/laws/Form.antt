@@ -1,8 +1,6 @@
 -- What `form` answers, by what is read of the term.
-use Rattle.std.specs.Prelude.{true, false, List, ◌≡◌, ℕ, length, take}
+use Rattle.std.specs.Prelude.{Err, true, false, List, ◌≡◌, ℕ, length, take}
 use Rattle.std.proofs.Common.{sym, ap, ◌∙◌}
-use Rattle.refusal.specs.Refusal.{on_side}
-use Rattle.refusal.specs.declared.Fault.{Fault}
 use Rattle.refusal.specs.declared.Refusal.{Refusal}
 use Rattle.horner.specs.definitions.Term.{norm_ℤ}
 use Rattle.code.specs.Coding.{dec}
@@ -17,23 +15,14 @@ use Rattle.form_write.specs.laws.Integers.{text-norm_p}
 use Rattle.reply.specs.definitions.Reply.{refuses, read_as, fitted, untouched}
 use Rattle.reply.specs.definitions.Calls.{form_of, form_reply}
 use Rattle.door.specs.Door.{ready_of}
-use Rattle.door.specs.declared.Entry.TheVariants as Closed
-use Rattle.term_read.specs.Read.{IsTerm, TermRead}
-use Rattle.term_read.specs.declared.TermReading.{TermReading}
-use Rattle.term_read.specs.declared.TermReading.TheVariants.{Refused}
+use Rattle.term_read.specs.Read.{IsTerm}
 use Rattle.refusal.specs.declared.Side.TheVariants.{Left}
 use Rattle.door.specs.laws.Door.{Open, open-goes, not-open}
-use Rattle.term_read.specs.laws.Reading.{read-refusal}
 use Rattle.door.specs.laws.Ending.{read-clears, fitted-clears}
 use Rattle.door.specs.laws.Numbers.{term-number}
 use Rattle.term_read.specs.laws.Terms.{term-codes}
 
 module _ {row s l : List ℕ} where
-  -- the text is refused
-  pub form-refused :
-      {bad : Fault} {r : TermReading} (n : ℕ) → r ≡ Refused bad → TermRead row s r l → form_of row s n ≡ refuses (on_side Left bad)
-  form-refused n h t = ap (λ (x : Reading Tree). read_as Left x (λ t. fitted n (text (norm_ℤ (term_of row t))))) (read-refusal h t)
-
   -- the form is written
   pub form-is : (n : ℕ) {k : ℕ} → is_row row ≡ true → IsTerm row s k l → fitted n (text_of (dec 0 (take k l))) ≡ form_of row s n
   form-is n {k} r T =
@@ -47,7 +36,7 @@ module _ (row ts s : List ℕ) (n : ℕ) where
   unfolding form_reply
   form-open o = open-goes row ts (λ u. form_of row s n) o
 
-  pub form-not-open : {bad : Refusal} → ready_of row ts ≡ Closed.Refused bad → form_reply row ts s n ≡ refuses bad
+  pub form-not-open : {bad : Refusal} → ready_of row ts ≡ Err bad → form_reply row ts s n ≡ refuses bad
   unfolding form_reply
   form-not-open h = not-open row ts (λ u. form_of row s n) h
 

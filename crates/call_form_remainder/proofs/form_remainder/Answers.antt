@@ -3,41 +3,32 @@
 use Rattle.std.proofs.Common.{ap, sym, refl, length, [], ◌∷◌}
 use Rattle.std.proofs.Math.Path.{◌∙◌}
 use Rattle.reply.specs.definitions.Reply.{refuses}
-use Rattle.door.specs.laws.Door.{ready-open, open-long}
+use Rattle.door.specs.laws.Door.{ready-open}
 use Rattle.door.specs.laws.Ending.{zeros_of}
+use Rattle.refusal.proofs.Exits.{exits}
 use Rattle.door_point.specs.laws.Whole.{refused-whole, other_length, answered-whole}
 use Rattle.call_form_remainder.specs.laws.Remainder.{remainder-pointed, remainder-clears}
 use Rattle.call_form_remainder.proofs.form_remainder.Goals as goal
 
-pub returns-in-Refused : goal.returns-in-Refused
-returns-in-Refused c =
+pub returns-in_err-ready : goal.returns-in_err-ready
+returns-in_err-ready c =
     let ts = length c.args.a.now ∷ length c.args.b.now ∷ length c.args.c.now ∷ length c.args.d.now ∷ [] in
-    refused-whole c.args.row.now ts c.args.point.now _ _ (remainder-pointed c.args.row.now ts c.args.s.now c.args.point.now) c.args.a.now
-    c.args.b.now c.args.c.now c.args.d.now (sym c.ready-entry.ensures ∙ c.in-Refused.is)
+    rw (exits c.from_residual.ensures.1)
+    (refused-whole c.args.row.now ts c.args.point.now _ _ (remainder-pointed c.args.row.now ts c.args.s.now c.args.point.now) c.args.a.now
+    c.args.b.now c.args.c.now c.args.d.now (sym c.ready.ensures ∙ c.in_err-ready.was))
 
-pub returns-then-n-k : goal.returns-then-n-k
-returns-then-n-k c =
+pub returns-then-point-row : goal.returns-then-point-row
+returns-then-point-row c =
     let ts = length c.args.a.now ∷ length c.args.b.now ∷ length c.args.c.now ∷ length c.args.d.now ∷ [] in
-    let o = ready-open c.args.row.now ts (sym c.ready-entry.ensures ∙ c.in_default.is) in
+    let o = ready-open c.args.row.now ts (sym c.ready.ensures ∙ c.in_ok-ready.was) in
     let e = other_length c.args.row.now ts c.args.point.now _ _ (remainder-pointed c.args.row.now ts c.args.s.now c.args.point.now)
-    c.args.a.now c.args.b.now c.args.c.now c.args.d.now o c.if-n-k.true (zeros_of refl refl refl refl (c.clear_tables.ensures.a_after, (c.clear_tables.ensures.b_after, (c.clear_tables.ensures.c_after, c.clear_tables.ensures.d_after)))) in
+    c.args.a.now c.args.b.now c.args.c.now c.args.d.now o c.if-point-row.true (zeros_of refl refl refl refl (c.clear_tables.ensures.a_after, (c.clear_tables.ensures.b_after, (c.clear_tables.ensures.c_after, c.clear_tables.ensures.d_after)))) in
     record { answer = ap refuses c.of_neither.ensures ∙ e.answer; tables = e.tables }
-
-pub form_remainder_of-answer-requires : goal.form_remainder_of-answer-requires
-form_remainder_of-answer-requires c =
-    let o = ready-open c.args.row.now (length c.args.a.now ∷ length c.args.b.now ∷ length c.args.c.now ∷ length c.args.d.now ∷ [])
-    (sym c.ready-entry.ensures ∙ c.in_default.is) in
-    let l = open-long (length c.args.a.now) (length c.args.b.now) (length c.args.c.now) (length c.args.d.now) o in
-    record {
-      row_value = o.proper;
-      table_in_bounds = (l.first, l.second);
-      point_len = c.if-n-k.false;
-    }
 
 pub returns : goal.returns
 returns c =
     let ts = length c.args.a.now ∷ length c.args.b.now ∷ length c.args.c.now ∷ length c.args.d.now ∷ [] in
-    let o = ready-open c.args.row.now ts (sym c.ready-entry.ensures ∙ c.in_default.is) in
+    let o = ready-open c.args.row.now ts (sym c.ready.ensures ∙ c.in_ok-ready.was) in
     answered-whole c.args.row.now ts c.args.point.now _ _ (remainder-pointed c.args.row.now ts c.args.s.now c.args.point.now) c.args.a.now
-    c.args.b.now c.args.c.now c.args.d.now o c.if-n-k.false (remainder-clears c.args.row.now ts c.args.s.now c.args.point.now) c.form_remainder_of-answer.ensures
+    c.args.b.now c.args.c.now c.args.d.now o c.if-point-row.false (remainder-clears c.args.row.now ts c.args.s.now c.args.point.now) c.form_remainder_of-answer.ensures
     (zeros_of c.form_remainder_of-answer.auto.a c.form_remainder_of-answer.auto.b refl refl (c.clear_tables-2.ensures.a_after, (c.clear_tables-2.ensures.b_after, (c.clear_tables-2.ensures.c_after, c.clear_tables-2.ensures.d_after))))

@@ -1,9 +1,7 @@
 -- What `form_remainder` answers, by what is read of the form.
-use Rattle.std.specs.Prelude.{false, List, ◌++◌, ◌≡◌, ℕ, ◌≤◌, ℤ, length, take}
+use Rattle.std.specs.Prelude.{Ok, false, List, ◌++◌, ◌≡◌, ℕ, ◌≤◌, ℤ, length, take}
 use Rattle.std.proofs.Math.Path.{refl}
 use Rattle.std.proofs.Common.{sym, ap, ◌∙◌}
-use Rattle.refusal.specs.Refusal.{on_side}
-use Rattle.refusal.specs.declared.Fault.{Fault}
 use Rattle.refusal.specs.declared.Side.TheVariants.{Left}
 use Rattle.horner.specs.definitions.Form.{Form, evalh}
 use Rattle.horner.specs.definitions.Rings.{ℤ_ring}
@@ -17,36 +15,27 @@ use Rattle.measure.specs.declared.Measures.{Measures}
 use Rattle.reply.specs.definitions.Reply.{untouched, Reply, gives, read_as}
 use Rattle.reply.specs.definitions.Calls.{form_remainder_of, form_remainder_reply, remainder}
 use Rattle.form_build.specs.laws.Accepted.{accepted-good}
-use Rattle.form_read.specs.Read.{IsForm, FormRead}
-use Rattle.form_read.specs.declared.FormReading.{FormReading}
-use Rattle.form_read.specs.declared.FormReading.TheVariants.{Refused}
-use Rattle.form_read.specs.laws.Read.{read-refusal}
+use Rattle.form_read.specs.Read.{IsForm}
 use Rattle.door.specs.laws.Ending.{read-clears}
 use Rattle.door.specs.laws.Numbers.{form-number}
 use Rattle.door_point.specs.Point.{remaindered_of, residues_of}
-use Rattle.reply.specs.declared.Remaindered.TheVariants as A
 use Rattle.door_point.specs.laws.Residues.{residues-front}
 use Rattle.door_point.specs.laws.Values.{value-form}
 use Rattle.door_point.specs.laws.Whole.{pointed}
 
-abbrev answer : List ℤ → Reading (Form ℤ) → Reply ℕ
+abbrev pub answer : List ℤ → Reading (Form ℤ) → Reply ℕ
 answer N x = read_as Left x (λ f. gives (remainder (evalh ℤ_ring f N)))
 
 module _ (row : List ℕ) {s l : List ℕ} (N : List ℤ) where
-  pub remainder-refused :
-      {bad : Fault} {r : FormReading} → r ≡ Refused bad → FormRead (length row) s r l →
-      A.Refused (on_side Left bad) ≡ remaindered_of (form_remainder_of row s N)
-  remainder-refused h t = ap (λ x. remaindered_of (answer N x)) (sym (read-refusal h t))
-
   pub remainder_is :
       {a : Measures} {k v : ℕ} (m : ℕ) (d : List ℕ) {b : List ℕ} → length row ≤ 4 → IsForm (length row) s a k l → m ≡ length N →
       b ≡ residues_of N ++ d
-      → v ≡ value_of 0 (dec 0 (take k l)) (take m b) → A.Remainder v ≡ remaindered_of (form_remainder_of row s N)
+      → v ≡ value_of 0 (dec 0 (take k l)) (take m b) → Ok v ≡ remaindered_of (form_remainder_of row s N)
   remainder_is {k = k} m d few F i h e =
       let f = ap (λ b. take m b) h ∙ residues-front N m d (sym i) in
       let g = ap (λ x. value_of 0 x (residues_of N))
       (dec-enc (front-codes F.made (accepted-good (length row) s few F.f F.accepted))) ∙ value-form F.f N in
-      ap A.Remainder (e ∙ ap (value_of 0 (dec 0 (take k l))) f ∙ g) ∙ ap (λ x. remaindered_of (answer N x)) (sym F.accepted)
+      ap Ok (e ∙ ap (value_of 0 (dec 0 (take k l))) f ∙ g) ∙ ap (λ x. remaindered_of (answer N x)) (sym F.accepted)
 
 -- ---- the whole call
 module _ (row ts s : List ℕ) (N : List ℤ) where

@@ -1,10 +1,7 @@
 -- What `negate` answers, by what is read of the form.
-use Rattle.std.specs.Prelude.{false, List, ◌≡◌, ℕ, ◌≤◌, ℤ, length, take}
+use Rattle.std.specs.Prelude.{Err, false, List, ◌≡◌, ℕ, ◌≤◌, ℤ, length, take}
 use Rattle.std.proofs.Math.Path.{sym, ap}
 use Rattle.std.proofs.Common.{◌∙◌, arith}
-use Rattle.door.specs.declared.Entry.TheVariants as Closed
-use Rattle.refusal.specs.Refusal.{on_side}
-use Rattle.refusal.specs.declared.Fault.{Fault}
 use Rattle.refusal.specs.declared.Refusal.{Refusal}
 use Rattle.horner.specs.definitions.Form.{Form as HForm, negate}
 use Rattle.horner.specs.definitions.Rings.{ℤ_ring}
@@ -17,7 +14,7 @@ use Rattle.code.specs.Operations as C
 use Rattle.text.specs.definitions.Bytes.{Reading}
 use Rattle.text.specs.definitions.FormReading.{accept_form, text}
 use Rattle.form_write.specs.Write.{text_of}
-use Rattle.reply.specs.definitions.Reply.{result_after, untouched, refuses, read_as, fitted}
+use Rattle.reply.specs.definitions.Reply.{untouched, refuses, read_as, fitted}
 use Rattle.reply.specs.definitions.Calls.{negate_of, negate_reply}
 use Rattle.measure.specs.declared.Measures.{Measures}
 use Rattle.door.specs.Door.{ready_of}
@@ -25,22 +22,9 @@ use Rattle.refusal.specs.declared.Side.TheVariants.{Left}
 use Rattle.door.specs.laws.Door.{Open, open-goes, not-open}
 use Rattle.door.specs.laws.Ending.{read-clears, fitted-clears}
 use Rattle.door.specs.laws.Numbers.{form-number}
-use Rattle.door_result.specs.Result.{written_of}
-use Rattle.reply.specs.declared.Written.TheVariants.{Refused}
 use Rattle.form_build.specs.Build.{over_p}
-use Rattle.form_read.specs.Read.{IsForm, FormRead}
-use Rattle.form_read.specs.declared.FormReading.{FormReading}
-use Rattle.form_read.specs.declared.FormReading.TheVariants as R
-use Rattle.form_read.specs.laws.Read.{read-refusal}
+use Rattle.form_read.specs.Read.{IsForm}
 use Rattle.door_forms.specs.laws.Results.{Within, operand, result, decoded, codes, words, result-text}
-
--- ---- the text is refused
-pub negate-refused :
-    (row : List ℕ) {s l : List ℕ} {bad : Fault} {r : FormReading} (n : ℕ) (b : List ℕ) → r ≡ R.Refused bad → FormRead (length row) s r l
-    → (Refused (on_side Left bad) ≡ written_of (negate_of row s n)) × (b ≡ result_after (negate_of row s n) b)
-negate-refused row n b h t =
-    let k = ap (λ (x : Reading (HForm ℤ)). read_as Left x (λ x. fitted n (text (negate ℤ_ring x)))) (read-refusal h t) in
-    (ap written_of (sym k), ap (λ x. result_after x b) (sym k))
 
 -- ---- the negative is written
 module _ {m : ℕ} {s l : List ℕ} {a : Measures} {n : ℕ} (few : m ≤ 4) (F : IsForm m s a n l) where
@@ -77,7 +61,7 @@ module _ (row ts s : List ℕ) (n : ℕ) where
   unfolding negate_reply
   negate-open o = open-goes row ts (λ u. negate_of row s n) o
 
-  pub negate-not-open : {bad : Refusal} → ready_of row ts ≡ Closed.Refused bad → negate_reply row ts s n ≡ refuses bad
+  pub negate-not-open : {bad : Refusal} → ready_of row ts ≡ Err bad → negate_reply row ts s n ≡ refuses bad
   unfolding negate_reply
   negate-not-open h = not-open row ts (λ u. negate_of row s n) h
 

@@ -1,13 +1,10 @@
 -- What `raise` answers, by what is read of the form.
-use Rattle.std.specs.Prelude.{false, List, ◌≡◌, ℕ, ◌*◌, ◌≤◌, ◌<◌, leb, ℤ, length, take}
+use Rattle.std.specs.Prelude.{Err, false, List, ◌≡◌, ℕ, ◌*◌, ◌≤◌, ◌<◌, leb, ℤ, length, take}
 use Rattle.std.proofs.Common.{sym, subst, ◌∙◌, arith, le-leb}
 use Rattle.std.proofs.Math.Path.{ap}
-use Rattle.std.proofs.lemmas.Bool.{lt-leb}
 use Rattle.std.proofs.lemmas.List.{length-map}
-use Rattle.door.specs.declared.Entry.TheVariants as Closed
-use Rattle.refusal.specs.declared.Fault.{Fault}
 use Rattle.refusal.specs.declared.Refusal.{Refusal}
-use Rattle.refusal.specs.Refusal.{on_side, of_neither}
+use Rattle.refusal.specs.Refusal.{of_neither}
 use Rattle.horner.specs.definitions.Form.{Form as HForm, raise}
 use Rattle.horner.specs.definitions.Rings.{ℤ_ring}
 use Rattle.horner.specs.definitions.Measures.{degrees, multiples, one_if, terms}
@@ -38,40 +35,20 @@ use Rattle.refusal.specs.declared.Side.TheVariants.{Left}
 use Rattle.door.specs.laws.Door.{Open, open-goes, not-open}
 use Rattle.door.specs.laws.Ending.{read-clears, asked-clears, fitted-clears}
 use Rattle.door.specs.laws.Numbers.{form-number}
-use Rattle.reply.specs.declared.Written.TheVariants.{Refused}
 use Rattle.form_build.specs.Build.{over_p}
-use Rattle.form_read.specs.Read.{IsForm, FormRead}
-use Rattle.form_read.specs.declared.FormReading.{FormReading}
-use Rattle.form_read.specs.declared.FormReading.TheVariants as R
-use Rattle.form_read.specs.laws.Read.{read-refusal, form-words}
+use Rattle.form_read.specs.Read.{IsForm}
+use Rattle.form_read.specs.laws.Read.{form-words}
 use Rattle.door_forms.specs.laws.Limits.{Meets, power-meets, inside, passed, stopped}
 use Rattle.door_forms.specs.laws.Results.{Within, operand, result, over-remainders, decoded, few_words, codes, words, result-text}
 use Rattle.door_forms.specs.laws.Two.{Answers, answers, limited-clears}
 
 -- ---- the reply, by what is read
 module _ (row s : List ℕ) (k n : ℕ) where
-  pub raise-refused :
-      {l : List ℕ} {bad : Fault} {r : FormReading} (b : List ℕ) → r ≡ R.Refused bad → FormRead (length row) s r l →
-      Answers (raise_of row s k n) (Refused (on_side Left bad)) b b
-  raise-refused b h t =
-      answers b
-      (ap (λ (z : Reading (HForm ℤ)). read_as Left z
-      (λ x. asked (leb k 63) 8 (λ v. limited (of_power (length row) x k) (λ w. fitted n (text (raise ℤ_ring x k))))))
-      (read-refusal h t))
-
-  accepted : {f : HForm ℤ} → accept_form (length row) s ≡ read f
+  pub accepted : {f : HForm ℤ} → accept_form (length row) s ≡ read f
       → raise_of row s k n ≡ asked (leb k 63) 8 (λ v. limited (of_power (length row) f k) (λ w. fitted n (text (raise ℤ_ring f k))))
   accepted e =
       ap (λ (z : Reading (HForm ℤ)). read_as Left z
       (λ x. asked (leb k 63) 8 (λ v. limited (of_power (length row) x k) (λ w. fitted n (text (raise ℤ_ring x k)))))) e
-
-  -- the exponent passes its limit
-  pub raise-high :
-      {f : HForm ℤ} (b : List ℕ) → accept_form (length row) s ≡ read f → 63 < k → Answers (raise_of row s k n) (Refused (of_neither 8)) b b
-  raise-high {f} b e h =
-      answers b
-      (accepted e
-      ∙ ap (λ t. asked t 8 (λ v. limited (of_power (length row) f k) (λ w. fitted n (text (raise ℤ_ring f k))))) (lt-leb k 63 h))
 
   low :
       {f : HForm ℤ} → accept_form (length row) s ≡ read f → k ≤ 63 →
@@ -176,10 +153,10 @@ module _ {m : ℕ} {s l : List ℕ} {a : Measures} {n : ℕ} (few : m ≤ 4) (F 
 -- ---- the call, where the exponent is within its limit
 module _ (row : List ℕ) {s l : List ℕ} {a : Measures} {w : ℕ} (few : length row ≤ 4) (F : IsForm (length row) s a w l) (k n : ℕ)
     (h : k ≤ 63) where
-  pub raise-stopped : {e : ℕ} (b : List ℕ) → e ≡ limit_m (pow_m a k) → (e ≡ 0 → ⊥) → Answers (raise_of row s k n) (Refused (of_neither e)) b b
+  pub raise-stopped : {e : ℕ} (b : List ℕ) → e ≡ limit_m (pow_m a k) → (e ≡ 0 → ⊥) → Answers (raise_of row s k n) (Err (of_neither e)) b b
   raise-stopped b i z =
       let q = low row s k n F.accepted h ∙ stopped (meets few F k) (λ v. fitted n (text (raise ℤ_ring F.f k))) (λ y. z (i ∙ y)) in
-      (ap (λ e. Refused (of_neither e)) i ∙ (answers b q).0, (answers b q).1)
+      (ap (λ e. Err (of_neither e)) i ∙ (answers b q).0, (answers b q).1)
 
   pub raise-is :
       limit_m (pow_m a k) ≡ 0 → {r : ℕ} {d : List ℕ} → Made 0 (P.raise_of 0 (dec 0 (take w l)) k) r d →
@@ -194,6 +171,6 @@ module _ (row ts s : List ℕ) (k n : ℕ) where
   unfolding raise_reply
   raise-open o = open-goes row ts (λ u. raise_of row s k n) o
 
-  pub raise-not-open : {bad : Refusal} → ready_of row ts ≡ Closed.Refused bad → raise_reply row ts s k n ≡ refuses bad
+  pub raise-not-open : {bad : Refusal} → ready_of row ts ≡ Err bad → raise_reply row ts s k n ≡ refuses bad
   unfolding raise_reply
   raise-not-open h = not-open row ts (λ u. raise_of row s k n) h

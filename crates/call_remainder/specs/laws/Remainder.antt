@@ -1,9 +1,7 @@
 -- What `remainder` answers, by what is read of the term.
-use Rattle.std.specs.Prelude.{true, false, List, ◌++◌, ◌≡◌, ℕ, ℤ, length, take}
+use Rattle.std.specs.Prelude.{Ok, true, false, List, ◌++◌, ◌≡◌, ℕ, ℤ, length, take}
 use Rattle.std.proofs.Math.Path.{refl}
 use Rattle.std.proofs.Common.{sym, ap, ◌∙◌}
-use Rattle.refusal.specs.Refusal.{on_side}
-use Rattle.refusal.specs.declared.Fault.{Fault}
 use Rattle.refusal.specs.declared.Side.TheVariants.{Left}
 use Rattle.horner.specs.definitions.Term.{eval_ℤ}
 use Rattle.code.specs.Coding.{dec}
@@ -15,39 +13,29 @@ use Rattle.text.specs.definitions.Tree.{Tree, term_of}
 use Rattle.text_laws.specs.laws.Rows.{accepted-within}
 use Rattle.reply.specs.definitions.Reply.{untouched, Reply, gives, read_as}
 use Rattle.reply.specs.definitions.Calls.{remainder, remainder_of, remainder_reply}
-use Rattle.term_read.specs.Read.{IsTerm, TermRead}
-use Rattle.term_read.specs.declared.TermReading.{TermReading}
-use Rattle.term_read.specs.declared.TermReading.TheVariants.{Refused}
-use Rattle.term_read.specs.laws.Reading.{read-refusal}
+use Rattle.term_read.specs.Read.{IsTerm}
 use Rattle.door.specs.laws.Ending.{read-clears}
 use Rattle.door.specs.laws.Numbers.{term-number}
 use Rattle.term_read.specs.laws.Terms.{term-codes}
 use Rattle.door_point.specs.Point.{remaindered_of, residues_of}
-use Rattle.reply.specs.declared.Remaindered.TheVariants as A
 use Rattle.door_point.specs.laws.Residues.{residues-front}
 use Rattle.door_point.specs.laws.Values.{value-term}
 use Rattle.door_point.specs.laws.Whole.{pointed}
 
-abbrev answer : List ℕ → List ℤ → Reading Tree → Reply ℕ
+abbrev pub answer : List ℕ → List ℤ → Reading Tree → Reply ℕ
 answer row N x = read_as Left x (λ t. gives (remainder (eval_ℤ (term_of row t) N)))
 
 module _ {row s l : List ℕ} (N : List ℤ) where
-  -- the text is refused
-  pub remainder-refused :
-      {bad : Fault} {r : TermReading} → r ≡ Refused bad → TermRead row s r l →
-      A.Refused (on_side Left bad) ≡ remaindered_of (remainder_of row s N)
-  remainder-refused h t = ap (λ x. remaindered_of (answer row N x)) (sym (read-refusal h t))
-
   -- the value is worked out, at the remainders in front of a table
   pub remainder_is :
       {k v : ℕ} (m : ℕ) (d : List ℕ) {b : List ℕ} → is_row row ≡ true → IsTerm row s k l → length N ≡ length row → m ≡ length N →
       b ≡ residues_of N ++ d
-      → v ≡ value_of 0 (dec 0 (take k l)) (take m b) → A.Remainder v ≡ remaindered_of (remainder_of row s N)
+      → v ≡ value_of 0 (dec 0 (take k l)) (take m b) → Ok v ≡ remaindered_of (remainder_of row s N)
   remainder_is {k} m d r T len i h e =
       let w = accepted-within row s T.t T.accepted in
       let f = ap (λ b. take m b) h ∙ residues-front N m d (sym i) in
       let g = ap (λ x. value_of 0 x (residues_of N)) (dec-enc (term-codes r T)) ∙ value-term (length row) (term_of row T.t) N w len in
-      ap A.Remainder (e ∙ ap (value_of 0 (dec 0 (take k l))) f ∙ g) ∙ ap (λ x. remaindered_of (answer row N x)) (sym T.accepted)
+      ap Ok (e ∙ ap (value_of 0 (dec 0 (take k l))) f ∙ g) ∙ ap (λ x. remaindered_of (answer row N x)) (sym T.accepted)
 
 -- ---- the whole call
 module _ (row ts s : List ℕ) (N : List ℤ) where

@@ -1,6 +1,6 @@
 -- `code::plain_pow` meets its contract: a store before the two forms.
 -- Assumes nothing.
-use Rattle.code.proofs.Making.{stored}
+use Rattle.code.proofs.Placed.{stored}
 use Rattle.code.proofs.plain_pow.Goals as goal
 
 pub returns : goal.returns

@@ -3,44 +3,58 @@ use Rattle.std.specs.Prelude.{◌≡◌, ℕ, suc, ◌+◌, ◌-◌, ◌*◌, �
 use Rattle.std.proofs.Common.{sym, ap, ap₂, subst, ◌∙◌, arith}
 use Rattle.horner.specs.definitions.Form.{Form, pop, pow}
 use Rattle.code.specs.Coding.{enc, dec, Good, Codes, Coded}
+use Rattle.code.specs.Heads.{SaysLeaf, SaysPop, SaysPow}
 use Rattle.code.specs.Widths.{Leaf}
-use Rattle.code.specs.laws.Codes.{IsPop, IsPow, codes-length, dec-enc, coded, pop-view, pow-view, pop-part, pow_left, pow_right}
+use Rattle.code.specs.laws.Codes.{IsInt, IsPop, IsPow, codes-length, dec-enc, coded, int_view, pop-view, pow-view, pop-part, pow_left, pow_right}
+
+-- `&x[1..]`, the p of a pop; `&x[1..1 + s]` and `&x[1 + s..]`, the p and the q of a pow whose p takes s words
+abbrev pub inner : List ℕ → List ℕ
+inner l = take (length l - 1) (drop 1 l)
+
+abbrev pub left_of : ℕ → List ℕ → List ℕ
+left_of s l = take (1 + s - 1) (drop 1 l)
+
+abbrev pub right_of : ℕ → List ℕ → List ℕ
+right_of s l = take (length l - (1 + s)) (drop (1 + s) l)
+
+-- l is the code of (POP i p). (`head` is stated of lists, so that omega does not read it: it goes by the lengths.)
+pub record PopOf (w : ℕ) (l : List ℕ) (i : ℕ) : Type 0 where
+  pub is : dec w l ≡ pop i (dec w (inner l))
+  pub head : slice_index_or l 0 0 ∷ [] ≡ (2147483648 + i) ∷ []
+  pub node : Good w (pop i (dec w (inner l)))
+  pub part : Coded w (inner l)
+  pub len : length l ≡ suc (length (inner l))
+  pub some : 0 < length (inner l)
+
+-- l is the code of (POW i p q), and p takes s words
+pub record PowOf (w : ℕ) (l : List ℕ) (i s : ℕ) : Type 0 where
+  pub is : dec w l ≡ pow i (dec w (left_of s l)) (dec w (right_of s l))
+  pub head : slice_index_or l 0 0 ∷ [] ≡ (2147483648 + 64 * length (left_of s l) + i) ∷ []
+  pub size : s ≡ length (left_of s l)
+  pub node : Good w (pow i (dec w (left_of s l)) (dec w (right_of s l)))
+  pub left : Coded w (left_of s l)
+  pub right : Coded w (right_of s l)
+  pub len : length l ≡ suc (length (left_of s l) + length (right_of s l))
+  pub some_left : 0 < length (left_of s l)
+  pub some_right : 0 < length (right_of s l)
+
+-- The same by the head word alone: i is its last 6 bits, and s the bits between them and the first.
 
 -- how many words the p of a pow takes; 0 for a pop
 abbrev pub span : List ℕ → ℕ
 span l = (slice_index l 0 - 2147483648) / 64
 
--- `&x[1..]`, the p of a pop; `&x[1..1 + s]` and `&x[1 + s..]`, the p and the q of a pow
-abbrev pub inner : List ℕ → List ℕ
-inner l = take (length l - 1) (drop 1 l)
-
 abbrev pub first : List ℕ → List ℕ
-first l = take (1 + span l - 1) (drop 1 l)
+first l = left_of (span l) l
 
 abbrev pub rest : List ℕ → List ℕ
-rest l = take (length l - (1 + span l)) (drop (1 + span l) l)
+rest l = right_of (span l) l
 
--- l is the code of (POP i p), where i is the last 6 bits of its head word. (`head` is stated of lists, so that omega does not read it: it
--- goes by the lengths.)
-pub record PopAt (w : ℕ) (l : List ℕ) : Type 0 where
-  pub is : dec w l ≡ pop (slice_index l 0 % 64) (dec w (inner l))
-  pub head : slice_index_or l 0 0 ∷ [] ≡ (2147483648 + slice_index l 0 % 64) ∷ []
-  pub node : Good w (pop (slice_index l 0 % 64) (dec w (inner l)))
-  pub part : Coded w (inner l)
-  pub len : length l ≡ suc (length (inner l))
-  pub some : 0 < length (inner l)
+abbrev pub PopAt : ℕ → List ℕ → Type 0
+PopAt w l = PopOf w l (slice_index l 0 % 64)
 
--- l is the code of (POW i p q)
-pub record PowAt (w : ℕ) (l : List ℕ) : Type 0 where
-  pub is : dec w l ≡ pow (slice_index l 0 % 64) (dec w (first l)) (dec w (rest l))
-  pub head : slice_index_or l 0 0 ∷ [] ≡ (2147483648 + 64 * length (first l) + slice_index l 0 % 64) ∷ []
-  pub size : span l ≡ length (first l)
-  pub node : Good w (pow (slice_index l 0 % 64) (dec w (first l)) (dec w (rest l)))
-  pub left : Coded w (first l)
-  pub right : Coded w (rest l)
-  pub len : length l ≡ suc (length (first l) + length (rest l))
-  pub some_left : 0 < length (first l)
-  pub some_right : 0 < length (rest l)
+abbrev pub PowAt : ℕ → List ℕ → Type 0
+PowAt w l = PowOf w l (slice_index l 0 % 64) (span l)
 
 module _ {w : ℕ} {l : List ℕ} (c : Coded w l) (n : 2147483648 ≤ slice_index l 0) where
   pub pop-at : span l ≡ 0 → PopAt w l
@@ -82,18 +96,29 @@ module _ {w : ℕ} {l : List ℕ} (c : Coded w l) (n : 2147483648 ≤ slice_inde
         some_right = omega (arith, v);
       }
 
+-- What a head word says of the list that it leads.
+module _ {w : ℕ} {l : List ℕ} (c : Coded w l) where
+  pub leaf-said : {a : ℕ} → SaysLeaf (slice_index l 0) a → IsInt w (dec w l) a
+  leaf-said s = rw s.is (int_view c s.below)
+
+  pub pop-said : {i : ℕ} → SaysPop (slice_index l 0) i → PopOf w l i
+  pop-said s = rw s.exponent (pop-at c s.node s.none)
+
+  pub pow-said : {i s : ℕ} → SaysPow (slice_index l 0) i s → PowOf w l i s
+  pow-said s = rw (s.exponent, s.size) (pow-at c s.node (λ e. absurd (omega (arith, s.some, s.size))))
+
 -- The code of a node that has the head word of another: the same exponent and, for a pow, a p as long as the other's.
 
-pub pop-made : {w : ℕ} {l : List ℕ} → PopAt w l → (p : Form (Leaf w)) → (slice_index l 0 ∷ []) ++ enc w p ≡ enc w (pop (slice_index l 0 % 64) p)
+pub pop-made : {w i : ℕ} {l : List ℕ} → PopOf w l i → (p : Form (Leaf w)) → (slice_index l 0 ∷ []) ++ enc w p ≡ enc w (pop i p)
 unfolding enc
 pop-made {w} v p = ap (λ k. k ++ enc w p) v.head
 
 pub pow-made :
-    {w : ℕ} {l : List ℕ} → PowAt w l → (p q : Form (Leaf w)) → length (enc w p) ≡ length (first l) →
-    ((slice_index l 0 ∷ []) ++ enc w p) ++ enc w q ≡ enc w (pow (slice_index l 0 % 64) p q)
+    {w i s : ℕ} {l : List ℕ} → PowOf w l i s → (p q : Form (Leaf w)) → length (enc w p) ≡ length (left_of s l) →
+    ((slice_index l 0 ∷ []) ++ enc w p) ++ enc w q ≡ enc w (pow i p q)
 unfolding enc
-pow-made {w} {l} v p q k =
-    ap (λ k. (k ++ enc w p) ++ enc w q) v.head ∙ ap (λ n. (2147483648 + 64 * n + slice_index l 0 % 64) ∷ (enc w p ++ enc w q)) (sym k)
+pow-made {w} {i} v p q k =
+    ap (λ k. (k ++ enc w p) ++ enc w q) v.head ∙ ap (λ n. (2147483648 + 64 * n + i) ∷ (enc w p ++ enc w q)) (sym k)
 
 -- the code of a pow whose p is at hand as a code
 pub pow-put :

@@ -1,9 +1,8 @@
 -- `code_first::put_lower` meets its contract: a copy, or a store and a copy after it.
 -- Assumes nothing.
-use Rattle.std.proofs.Common.{sym, ap, arith, length-set, ◌+◌, ◌-◌}
-use Rattle.std.proofs.Math.Path.{◌∙◌}
+use Rattle.std.proofs.Common.{◌+◌, ◌-◌, sym, ap, ◌∙◌, arith}
 use Rattle.code.specs.Coding.{enc, dec}
-use Rattle.code.proofs.Lists.{begins-as, begins-set, begins-tail, length-after-set}
+use Rattle.code.proofs.Lists.{begins-as, begins-set, begins-tail}
 use Rattle.code.proofs.Regions.{begins-copy}
 use Rattle.code_first.specs.laws.First.{lower-code, lower-same}
 use Rattle.code_first.proofs.put_lower.Goals as goal
@@ -14,22 +13,6 @@ returns-then-i-eq1 c =
     (c.requires.coded.is
     ∙ ap (enc c.args.width)
     (sym (lower-same c.args.width c.args.i (dec c.args.width c.args.p.now) c.if-i-eq1.true)))
-
-pub slice_bounds-copy-count : goal.slice_bounds-copy-count
-slice_bounds-copy-count c =
-    simp length-set (omega (arith, c.requires.room_under))
-
-pub slice_bounds-copy-start : goal.slice_bounds-copy-start
-slice_bounds-copy-start c =
-    simp length-set (omega (arith, c.requires.room_under))
-
-pub copy-requires-2 : goal.copy-requires-2
-copy-requires-2 c =
-    omega (arith, c.requires.room_under, length-after-set c.args.out.now (2147483648 + (c.args.i - 1)))
-
-pub shape_of-out : goal.shape_of-out
-shape_of-out c =
-    c.out-2-1.given.1 ∙ simp length-set
 
 pub returns : goal.returns
 returns c =

@@ -1,8 +1,8 @@
 -- A number put for the first variable: the cases of the definition over coded parts, and that the result is good and no longer.
-use Rattle.std.specs.Prelude.{List, ◌∷◌, ◌≡◌, length, get_or}
+use Rattle.std.specs.Prelude.{List, ◌∷◌, ◌≡◌, length}
 use Rattle.std.proofs.Common.{sym, ◌∙◌}
 use Rattle.std.proofs.Math.Path.{ap}
-use Prim.Native.Nat.{ℕ, zero, suc, ◌+◌, ◌-◌, ◌%◌, ◌≤◌, ◌<◌}
+use Prim.Native.Nat.{ℕ, zero, suc, ◌+◌, ◌-◌, ◌≤◌, ◌<◌}
 use native.Mathlib.Omega.{arith}
 use Rattle.horner.specs.definitions.Form.{Form, int, pop, pow, size, lower, sum, scale}
 use Rattle.horner.specs.laws.First.{at_first}
@@ -13,7 +13,7 @@ use Rattle.code.specs.Coding.{enc, dec, limits, Good, Codes}
 use Rattle.code.specs.Operations.{sum_of, scale_of}
 use Rattle.code.specs.laws.Codes.{IsInt}
 use Rattle.code.specs.laws.Good.{good-at, good-pop}
-use Rattle.code.specs.laws.Parts.{inner, first, rest, PopAt, PowAt}
+use Rattle.code.specs.laws.Parts.{inner, left_of, right_of, PopOf, PowOf}
 use Rattle.code.specs.laws.Sizes.{size-enc, size-sum_f, size_scale}
 use Rattle.code.specs.laws.Widths.{leaf-number, leaf-of, power-number}
 use Rattle.code_first.specs.First.{lower_of, at_first_of}
@@ -60,17 +60,17 @@ module _ (w : ℕ) where
       let e : suc i - 1 ≡ i = omega arith in
       ap (λ k. lower k p) e
 
-  pub first-pop : {l : List ℕ} (a : ℕ) → PopAt w l → lower_of w (get_or l 0 0 % 64) (dec w (inner l)) ≡ at_first_of w (dec w l) a
-  first-pop {l} a v = lower-is (get_or l 0 0 % 64) (dec w (inner l)) a (good-pop v.node).0 ∙ ap (λ h. at_first_of w h a) (sym v.is)
+  pub first-pop : {l : List ℕ} {i : ℕ} (a : ℕ) → PopOf w l i → lower_of w i (dec w (inner l)) ≡ at_first_of w (dec w l) a
+  first-pop {l} {i} a v = lower-is i (dec w (inner l)) a (good-pop v.node).0 ∙ ap (λ h. at_first_of w h a) (sym v.is)
 
   pub first-pow :
-      {l : List ℕ} (a : ℕ) → PowAt w l → a < modulus w →
-      sum_of w (scale_of w (pow_by (modulus w) a (get_or l 0 0 % 64)) (at_first_of w (dec w (first l)) a)) (dec w (rest l)) ≡ at_first_of w
-      (dec w l) a
+      {l : List ℕ} {i s : ℕ} (a : ℕ) → PowOf w l i s → a < modulus w →
+      sum_of w (scale_of w (pow_by (modulus w) a i) (at_first_of w (dec w (left_of s l)) a)) (dec w (right_of s l))
+      ≡ at_first_of w (dec w l) a
   unfolding at_first_of sum_of scale_of
-  first-pow {l} a v h =
-      ap (λ z. sum (ring_of w) (scale (ring_of w) z (at_first (ring_of w) (dec w (first l)) (leaf w a))) (dec w (rest l)))
-      (power-leaf a (get_or l 0 0 % 64) h)
+  first-pow {l} {i} {s} a v h =
+      ap (λ z. sum (ring_of w) (scale (ring_of w) z (at_first (ring_of w) (dec w (left_of s l)) (leaf w a))) (dec w (right_of s l)))
+      (power-leaf a i h)
       ∙ ap (λ h. at_first_of w h a) (sym v.is)
 
   -- the code of a lowered form

@@ -1,47 +1,40 @@
 -- `code_pair::multiply` meets its contract: the product is made in out, and copied to the front.
 -- Assumes nothing.
-use Rattle.std.proofs.Common.{sym, arith, length-take-le, length}
+use Rattle.std.proofs.Common.{sym, ap, ap₂, arith, length-take, length}
 use Rattle.std.specs.Prelude.{take, drop}
-use Rattle.code.specs.Coding.{Begins, enc}
-use Rattle.code.proofs.Lists.{begins-le, begins-as, copied-front}
+use Rattle.code.specs.Coding.{enc}
+use Rattle.code.proofs.Lists.{begins-as, copied-front}
 use Rattle.code_room.specs.Fit.{prod_of}
-use Rattle.code_pair.specs.Pair.{left, right}
-use Rattle.code_pair.proofs.Pairs.{both-length, both_coded}
-use Rattle.code_pair.proofs.Products.{both-product, both-space}
+use Rattle.code_product.proofs.Parts.{space-as}
+use Rattle.code_pair.proofs.Pairs.{front-is, back-is, both-coded}
 use Rattle.code_pair.proofs.multiply.Goals as goal
 
-pub slice_bounds-product_parts-end-2 : goal.slice_bounds-product_parts-end-2
-slice_bounds-product_parts-end-2 c =
-    sym (both-length c.requires.pair)
+pub product-n-requires-clause-coded : goal.product-n-requires-clause-coded
+product-n-requires-clause-coded c =
+    both-coded c.args.a c.args.b c.args.stack.now c.split_at.ensures.front c.split_at.ensures.back c.requires.pair
 
-pub product_parts-n-requires : goal.product_parts-n-requires
-product_parts-n-requires c =
-    record {
-      n_in_bounds = omega (arith, both-length c.requires.pair);
-      coded = both_coded c.requires.pair;
-      space = both-space c.args.a c.args.b c.args.stack.now c.requires.space;
-    }
-
-pub slice_bounds-copy-end : goal.slice_bounds-copy-end
-slice_bounds-copy-end c =
-    let made : Begins c.product_parts-n.result (enc 0 (prod_of 0 (left c.args.a c.args.stack.now) (right c.args.a c.args.b c.args.stack.now))) c.product_parts-n.new.out =
-    begins-as c.product_parts-n.ensures (both-product c.args.a c.args.b c.args.stack.now) in
-    begins-le (made)
-
-pub slice_bounds-copy-end-2 : goal.slice_bounds-copy-end-2
-slice_bounds-copy-end-2 c =
-    let made : Begins c.product_parts-n.result (enc 0 (prod_of 0 (left c.args.a c.args.stack.now) (right c.args.a c.args.b c.args.stack.now))) c.product_parts-n.new.out =
-    begins-as c.product_parts-n.ensures (both-product c.args.a c.args.b c.args.stack.now) in
-    sym (length-take-le c.product_parts-n.result c.product_parts-n.new.out (begins-le made))
+pub product-n-requires-clause-space : goal.product-n-requires-clause-space
+product-n-requires-clause-space c =
+    let d = c.args.stack.now in
+    space-as (sym (front-is c.args.a c.args.b d c.split_at.ensures.front c.split_at.ensures.back))
+    (sym (back-is c.args.a c.args.b d c.split_at.ensures.front c.split_at.ensures.back)) c.requires.space
 
 pub copy-requires : goal.copy-requires
 copy-requires c =
-    let made : Begins c.product_parts-n.result (enc 0 (prod_of 0 (left c.args.a c.args.stack.now) (right c.args.a c.args.b c.args.stack.now))) c.product_parts-n.new.out =
-    begins-as c.product_parts-n.ensures (both-product c.args.a c.args.b c.args.stack.now) in
-    omega (arith, length-take-le c.product_parts-n.result c.product_parts-n.new.out (begins-le made), made.size, c.requires.stack_in_bounds)
+    let d = c.args.stack.now in
+    let same = ap₂ (prod_of 0) (front-is c.args.a c.args.b d c.split_at.ensures.front c.split_at.ensures.back)
+    (back-is c.args.a c.args.b d c.split_at.ensures.front c.split_at.ensures.back) in
+    omega (
+      arith,
+      c.product-n.ensures.size,
+      ap (λ h. length (enc 0 h)) same,
+      length-take c.product-n.result c.product-n.new.out,
+      c.requires.stack_in_bounds,
+    )
 
 pub returns : goal.returns
 returns c =
-    let made : Begins c.product_parts-n.result (enc 0 (prod_of 0 (left c.args.a c.args.stack.now) (right c.args.a c.args.b c.args.stack.now))) c.product_parts-n.new.out =
-    begins-as c.product_parts-n.ensures (both-product c.args.a c.args.b c.args.stack.now) in
-    copied-front (drop (length (take c.product_parts-n.result c.product_parts-n.new.out)) c.args.stack.now) made c.copy.ensures
+    let d = c.args.stack.now in
+    copied-front (drop (length (take c.product-n.result c.product-n.new.out)) d)
+    (begins-as c.product-n.ensures (ap (enc 0) (ap₂ (prod_of 0) (front-is c.args.a c.args.b d c.split_at.ensures.front c.split_at.ensures.back)
+    (back-is c.args.a c.args.b d c.split_at.ensures.front c.split_at.ensures.back)))) c.copy.ensures

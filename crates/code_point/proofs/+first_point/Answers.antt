@@ -1,6 +1,6 @@
 -- `code_point::first_point` meets its contract: the least number that leaves a form that is not 0, and the first point of that form behind
 -- it. The measure is the number of variables. Assumes nothing.
-use Rattle.std.proofs.Common.{◌∷◌, ◌++◌, refl, sym, ap, subst, arith, length-set, length-take-le, ◌-◌}
+use Rattle.std.proofs.Common.{◌∷◌, ◌++◌, refl, sym, ap, subst, arith, length-take-le, ◌-◌}
 use Rattle.std.specs.Prelude.{take, drop}
 use Rattle.std.proofs.Math.Path.{◌∙◌}
 use Rattle.code.specs.Coding.{dec}
@@ -15,14 +15,6 @@ pub returns-then-n-eq0 : goal.returns-then-n-eq0
 returns-then-n-eq0 t c =
     no-point c.args.n (take c.args.k c.args.x.now) c.args.point.now c.if-n-eq0.true
 
-pub slice_bounds-least_value-end : goal.slice_bounds-least_value-end
-slice_bounds-least_value-end t c =
-    c.requires.k_in_bounds.0
-
-pub slice_bounds-least_value-end-2 : goal.slice_bounds-least_value-end-2
-slice_bounds-least_value-end-2 t c =
-    sym (length-take-le c.args.k c.args.x.now c.requires.k_in_bounds.0)
-
 pub least_value-f-requires : goal.least_value-f-requires
 least_value-f-requires t c =
     let k = length-take-le c.args.k c.args.x.now c.requires.k_in_bounds.0 in
@@ -31,14 +23,6 @@ least_value-f-requires t c =
       room_under = (room-kept c.requires.room_under.0 (omega (arith, k)) refl, room-kept c.requires.room_under.1 (omega (arith, k)) refl);
       fails = some-fails c.args.n c.if-n-eq0.false c.requires.coded c.requires.ready;
     }
-
-pub slice_bounds-copy-end : goal.slice_bounds-copy-end
-slice_bounds-copy-end t c =
-    begins-le c.least_value-f.ensures.1
-
-pub slice_bounds-copy-end-2 : goal.slice_bounds-copy-end-2
-slice_bounds-copy-end-2 t c =
-    sym (length-take-le c.least_value-f.result.words c.least_value-f.new.out (begins-le c.least_value-f.ensures.1))
 
 pub copy-requires : goal.copy-requires
 copy-requires t c =
@@ -51,22 +35,6 @@ copy-requires t c =
       c.requires.k_in_bounds.0,
     )
 
-pub bounds-point-0 : goal.bounds-point-0
-bounds-point-0 t c =
-    omega (arith, c.requires.k_in_bounds.1, c.if-n-eq0.false)
-
-pub overflow_sub-n : goal.overflow_sub-n
-overflow_sub-n t c =
-    omega (arith, c.if-n-eq0.false)
-
-pub slice_bounds-first_point-count : goal.slice_bounds-first_point-count
-slice_bounds-first_point-count t c =
-    simp length-set (omega (arith, c.requires.k_in_bounds.1, c.if-n-eq0.false))
-
-pub slice_bounds-first_point-start : goal.slice_bounds-first_point-start
-slice_bounds-first_point-start t c =
-    simp length-set (omega (arith, c.requires.k_in_bounds.1, c.if-n-eq0.false))
-
 pub first_point-requires : goal.first_point-requires
 first_point-requires t c =
     let k = length-take-le c.args.k c.args.x.now c.requires.k_in_bounds.0 in
@@ -75,7 +43,10 @@ first_point-requires t c =
     c.copy.ensures in (
       omega (arith, c.decreases, c.if-n-eq0.false),
       (
-        (omega (arith, m, k, c.requires.k_in_bounds.0, c.copy.auto.out), omega (arith, c.requires.k_in_bounds.1, length-after-set c.args.point.now c.least_value-f.result.value)),
+        (
+          omega (arith, m, k, c.requires.k_in_bounds.0, c.copy.auto.out),
+          omega (arith, c.requires.k_in_bounds.1, length-after-set c.args.point.now c.least_value-f.result.value),
+        ),
         (
           coded v,
           (
@@ -84,27 +55,12 @@ first_point-requires t c =
               room-kept c.requires.room_under.1 (omega (arith, m, k)) c.least_value-f.auto.spare,
             ),
             subst (Ready (c.args.n - 1)) (sym (dec-enc v))
-                (next-ready c.args.n c.if-n-eq0.false c.requires.coded c.requires.ready c.least_value-f.result.value c.least_value-f.ensures.0),
+                (next-ready c.args.n c.if-n-eq0.false c.requires.coded c.requires.ready c.least_value-f.result.value
+                c.least_value-f.ensures.0),
           ),
         ),
       ),
     )
-
-pub shape_of-x : goal.shape_of-x
-shape_of-x t c =
-    c.first_point.auto.x ∙ c.copy.auto.out
-
-pub shape_of-out : goal.shape_of-out
-shape_of-out t c =
-    c.first_point.auto.out ∙ c.least_value-f.auto.out
-
-pub shape_of-spare : goal.shape_of-spare
-shape_of-spare t c =
-    c.first_point.auto.spare ∙ c.least_value-f.auto.spare
-
-pub shape_of-point : goal.shape_of-point
-shape_of-point t c =
-    c.point-1.given.1 ∙ simp length-set
 
 pub returns : goal.returns
 returns t c =
@@ -113,6 +69,7 @@ returns t c =
     let e = ap (λ h. c.least_value-f.result.value ∷ point_of (c.args.n - 1) h) (dec-enc v)
     ∙ next-point c.args.n c.if-n-eq0.false c.requires.coded c.requires.ready c.least_value-f.result.value c.least_value-f.ensures.0 in
     put-point c.args.point.now c.first_point.new.point
-    (point_of (c.args.n - 1) (dec 0 (take c.least_value-f.result.words c.copy.new.out))) c.least_value-f.result.value c.args.n c.if-n-eq0.false
+    (point_of (c.args.n - 1) (dec 0 (take c.least_value-f.result.words c.copy.new.out))) c.least_value-f.result.value c.args.n
+    c.if-n-eq0.false
     (omega (arith, c.requires.k_in_bounds.1, c.if-n-eq0.false)) c.first_point.ensures
     ∙ ap (λ w. w ++ drop c.args.n c.args.point.now) e

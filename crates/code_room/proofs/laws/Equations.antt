@@ -61,13 +61,6 @@ module _ (w : ℕ) where
         subst (λ z. prod_of w (pow j q r) (pop z p) ≡ prod_of w (pop z p) (pow j q r)) e (prod-pow-pop (ring_of w) (i - 1) j p q r)
 
   -- lower k p, by k
-  module _ (p : Form (Leaf w)) where
-    pub lower-none : (k : ℕ) → k ≡ 0 → lower k p ≡ p
-    lower-none k e = ap (λ z. lower z p) e
-
-    pub lower-some : (k : ℕ) → (k ≡ 0 → ⊥) → lower k p ≡ pop k p
-    lower-some zero n = absurd (n refl)
-    lower-some (suc k) n = refl
 
   -- (6)
   pub pows : (i j : ℕ) (p q r s : Form (Leaf w))

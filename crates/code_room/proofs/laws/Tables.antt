@@ -3,7 +3,6 @@ use Rattle.std.specs.Prelude.{List, ◌≡◌, ℕ, ◌+◌, ◌-◌, ◌≤◌}
 use Rattle.std.proofs.Common.{arith}
 use Rattle.horner.specs.definitions.Form.{Form, pop, pow, lower}
 use Rattle.horner.proofs.laws.Normal.{pow-level}
-use Rattle.code.specs.Operations.{pop_of}
 use Rattle.code.specs.Widths.{Leaf, ring_of}
 use Rattle.code_room.specs.Fit.{Within}
 use Rattle.code_room.specs.Tables.{words_for, Tables, Space, PopSpace, CrossSpace}
@@ -103,9 +102,6 @@ module _ {w o t u : ℕ} (i j : ℕ) (p q r s : Form (Leaf w)) (h : Space w (pow
         held = cross-held i j p q r s h.fit;
         tables = omega (arith, h.tables, h.fit.of-x.normal.0, h.fit.of-x.normal.1, fit-exponent i p q h.fit);
       }
-
-pub cross-pop : {w i o t u : ℕ} {p s : Form (Leaf w)} → CrossSpace w i p s o t u → PopSpace w p (pop_of w 1 s) (o - 1) t u
-cross-pop h = record { n = h.n; k = h.k; pos = h.pos; fit = h.fit; tables = omega (arith, h.tables) }
 
 pub cross_at :
     {w i o t u o' t' u' : ℕ} {p s : Form (Leaf w)} → o ≡ o' → t ≡ t' → u ≡ u' → CrossSpace w i p s o t u → CrossSpace w i p s o' t' u'

@@ -1,4 +1,4 @@
-use Rattle.std.proofs.Common.{◌-◌, length}
+use Rattle.std.proofs.Common.{length}
 use Rattle.code_walk.proofs.+negate.Given as goal
 
 abbrev pub decreases-negate : goal.decreases-negate

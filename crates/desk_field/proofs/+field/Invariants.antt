@@ -1,4 +1,3 @@
-use Rattle.std.proofs.Common.{◌-◌}
 use Rattle.desk_field.proofs.+field.Given as goal
 
 abbrev pub decreases-field : goal.decreases-field

@@ -1,8 +1,8 @@
 -- `desk_operation::multiply_line` meets its contract.
-use Rattle.std.proofs.Common.{List, [], ◌∷◌, ℕ, length, arith}
+use Rattle.std.proofs.Common.{List, [], ◌∷◌, ℕ, length}
 use borrow.Rule.Slice.PartMut.{same_len_mid}
 use Rattle.door_result.specs.Result.{is-written}
-use Rattle.form_write.specs.laws.Wrote.{wrote_as, wrote-length}
+use Rattle.form_write.specs.laws.Wrote.{wrote_as}
 use Rattle.reply.specs.definitions.Calls.{multiply_reply}
 use Rattle.desk_reply.specs.laws.Replies.{text-room}
 use Rattle.desk_serve.specs.Laws.{counted-not}
@@ -19,42 +19,10 @@ returns c =
     (λ u v w. multiply_reply u tables v w) (within-multiply tables) c.if-n-ne4.false
     (is-written c.multiply-answer.ensures) c.multiply-answer.ensures.result c.written.ensures
 
-pub count-n-requires : goal.count-n-requires
-count-n-requires c =
-    tt
-
-pub miscounted-requires : goal.miscounted-requires
-miscounted-requires c =
-    c.requires
-
-pub shape_of-out-then-n-ne4 : goal.shape_of-out-then-n-ne4
-shape_of-out-then-n-ne4 c =
-    c.miscounted.auto.out
-
 pub returns-then-n-ne4 : goal.returns-then-n-ne4
 returns-then-n-ne4 c =
     wrote_as c.miscounted.ensures
     (counted-not 4 c.args.line.now _ c.count-n.ensures c.if-n-ne4.true)
-
-pub field-row-requires : goal.field-row-requires
-field-row-requires c =
-    tt
-
-pub field-x-requires : goal.field-x-requires
-field-x-requires c =
-    tt
-
-pub field-y-requires : goal.field-y-requires
-field-y-requires c =
-    tt
-
-pub slice_bounds-multiply-count : goal.slice_bounds-multiply-count
-slice_bounds-multiply-count c =
-    omega arith
-
-pub multiply-answer-requires : goal.multiply-answer-requires
-multiply-answer-requires c =
-    tt
 
 pub written-requires : goal.written-requires
 written-requires c =
@@ -62,23 +30,3 @@ written-requires c =
     length c.args.a.now ∷ length c.args.b.now ∷ length c.args.c.now ∷ length c.args.d.now ∷ [] in
     text-room c.args.out.now c.requires (multiply_reply c.field-row.result.now tables c.field-x.result.now c.field-y.result.now) (within-multiply tables c.field-row.result.now c.field-x.result.now c.field-y.result.now) (is-written c.multiply-answer.ensures)
     (same_len_mid 5 65535 c.args.out.now c.multiply-answer.new.res c.multiply-answer.auto.res)
-
-pub shape_of-out : goal.shape_of-out
-shape_of-out c =
-    wrote-length (returns c)
-
-pub shape_of-a : goal.shape_of-a
-shape_of-a c =
-    c.multiply-answer.auto.a
-
-pub shape_of-b : goal.shape_of-b
-shape_of-b c =
-    c.multiply-answer.auto.b
-
-pub shape_of-c : goal.shape_of-c
-shape_of-c c =
-    c.multiply-answer.auto.c
-
-pub shape_of-d : goal.shape_of-d
-shape_of-d c =
-    c.multiply-answer.auto.d

@@ -6,12 +6,9 @@ use borrow.Rule.Slice.PartMut.{put_mid, put_same}
 use Rattle.refusal.specs.declared.Side.{Side}
 use Rattle.text.specs.definitions.Bytes.{Reading, read, refused, bytes}
 use Rattle.form_write.specs.Write.{Wrote}
-use Rattle.reply.specs.definitions.Reply.{Reply, gives, refuses, asked, read_as, fitted, result_after}
+use Rattle.reply.specs.definitions.Reply.{Written, Reply, gives, refuses, asked, read_as, fitted, result_after}
 use Rattle.door_result.specs.Result.{written_of}
-use Rattle.reply.specs.declared.Written.{Written}
-use Rattle.reply.specs.declared.Written.TheVariants.{Text, Refused}
-use Rattle.refusal.specs.declared.Refusal.{Refusal}
-use Rattle.desk_reply.specs.Reply.{room, refused_text, result_text, LineFits, Replied}
+use Rattle.desk_reply.specs.Reply.{room, result_text, LineFits, Replied}
 
 -- ---- a result text is no longer than what was lent
 abbrev pub Within : ℕ → Reply (List ℕ) → Type 0
@@ -71,18 +68,6 @@ module _ (old : List ℕ) (long : room ≤ length old) where
   }
   replied (refuses bad) h {r} {e} {new} q p =
       subst (λ l. Wrote r (result_text (refuses bad)) l new) (ap (put_mid 5 65535 old) q ∙ put_same 5 65535 old) p
-
--- ---- case by case, as the code goes
-pub replied-text : {x : Written} {n r : ℕ} {old new : List ℕ} → x ≡ Text n → Wrote r (bytes "FORM ") old new → Replied x (r + n) old new
-replied-text {x} {n} {r} {old} {new} e h =
-    subst (λ z. Replied z (r + n) old new) (sym e) (omega (arith, h.size), subst (λ k. Wrote k (bytes "FORM ") old new) h.size h)
-
-pub replied-refused :
-    {x : Written} {bad : Refusal} {r : ℕ} {old new : List ℕ} → x ≡ Refused bad → Wrote r (refused_text bad) old new → Replied x r old new
-replied-refused {x} {bad} {r} {old} {new} q h = subst (λ z. Replied z r old new) (sym q) h
-
-pub room-text : {x : Written} {n k : ℕ} → x ≡ Text n → LineFits x k → (5 + n ≤ k) × (64 ≤ k)
-room-text {x} {n} {k} e h = subst (λ z. LineFits z k) e h
 
 -- ---- a call f that is lent the bytes 5 to 65,540, and the line of its answer
 module _ (old : List ℕ) (long : room ≤ length old) (f : ℕ → Reply (List ℕ)) (within : (n : ℕ) → Within n (f n)) where

@@ -1,75 +1,19 @@
 -- `desk_term::remainder_line` meets its contract.
-use Rattle.std.proofs.Common.{List, [], ◌∷◌, ℕ, length, arith}
+use Rattle.std.proofs.Common.{refl, List, [], ◌∷◌, ℕ, length}
 use Rattle.door_point.specs.Point.{is-remainder}
 use Rattle.form_write.specs.laws.Wrote.{wrote_as}
 use Rattle.reply.specs.definitions.Calls.{remainder_reply}
-use Rattle.desk_serve.specs.Laws.{pointed-not, point-length, remainder-fields}
+use Rattle.desk_serve.specs.Laws.{fault-some, fault-no, pointed-not, point-length, remainder-fields}
 use Rattle.desk_term.proofs.remainder_line.Goals as goal
 
-pub point_fault-f-requires : goal.point_fault-f-requires
-point_fault-f-requires c =
-    tt
-
-pub wrong-requires : goal.wrong-requires
-wrong-requires c =
-    omega (arith, c.requires)
-
-pub shape_of-out-then-f-ne0 : goal.shape_of-out-then-f-ne0
-shape_of-out-then-f-ne0 c =
-    c.wrong.auto.out
-
-pub returns-then-f-ne0 : goal.returns-then-f-ne0
-returns-then-f-ne0 c =
+pub returns-in-Some : goal.returns-in-Some
+returns-in-Some c =
     wrote_as c.wrong.ensures
-    (pointed-not c.args.line.now _ c.point_fault-f.ensures c.if-f-ne0.true)
-
-pub field-row-requires : goal.field-row-requires
-field-row-requires c =
-    tt
-
-pub field-term-requires : goal.field-term-requires
-field-term-requires c =
-    tt
-
-pub five-point-requires : goal.five-point-requires
-five-point-requires c =
-    tt
-
-pub point_length-e-requires : goal.point_length-e-requires
-point_length-e-requires c =
-    tt
+    (let f = fault-some _ c.point_fault.ensures c.in-Some.is in pointed-not c.args.line.now _ f.0 f.1)
 
 pub slice_bounds-remainder-end : goal.slice_bounds-remainder-end
 slice_bounds-remainder-end c =
     point-length c.args.line.now c.five-point.ensures c.point_length-e.ensures
-
-pub remainder-answer-requires : goal.remainder-answer-requires
-remainder-answer-requires c =
-    tt
-
-pub remaindered-requires : goal.remaindered-requires
-remaindered-requires c =
-    c.requires
-
-pub shape_of-out : goal.shape_of-out
-shape_of-out c =
-    c.remaindered.auto.out
-
-pub shape_of-a : goal.shape_of-a
-shape_of-a c =
-    c.remainder-answer.auto.a
-
-pub shape_of-b : goal.shape_of-b
-shape_of-b c =
-    c.remainder-answer.auto.b
-
-pub shape_of-c : goal.shape_of-c
-shape_of-c c =
-    c.remainder-answer.auto.c
-
-pub shape_of-d : goal.shape_of-d
-shape_of-d c =
-    c.remainder-answer.auto.d
 
 pub returns : goal.returns
 returns c =
@@ -78,5 +22,5 @@ returns c =
     wrote_as c.remaindered.ensures
     (remainder-fields c.args.line.now c.five-point.ensures c.point_length-e.ensures
     (λ u v N. remainder_reply u tables v N)
-    c.point_fault-f.ensures c.if-f-ne0.false c.field-row.ensures
+    (fault-no _ c.point_fault.ensures c.in_default.is) refl c.field-row.ensures
     c.field-term.ensures (is-remainder c.remainder-answer.ensures))

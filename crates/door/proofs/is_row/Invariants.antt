@@ -1,4 +1,3 @@
-use Rattle.std.proofs.Common.{◌≤◌, ◌-◌, length}
 use Rattle.std.proofs.Math.Path.{◌≡◌}
 use Rattle.std.specs.Prelude.{drop}
 use Rattle.text.specs.definitions.Bytes.{is_row}
@@ -6,7 +5,4 @@ use Rattle.door.specs.laws.Rows.{letters}
 use Rattle.door.proofs.is_row.Given as goal
 
 abbrev pub invariant-loop-i : goal.invariant-loop-i
-invariant-loop-i l = (l.i ≤ length l.row) × (is_row l.row ≡ letters (drop l.i l.row))
-
-abbrev pub decreases-loop-i : goal.decreases-loop-i
-decreases-loop-i l = length l.row - l.i
+invariant-loop-i l = is_row l.row ≡ letters (drop l.i l.row)

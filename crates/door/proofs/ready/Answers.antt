@@ -1,7 +1,7 @@
 -- `door::ready` meets its contract, case by case.
 use Rattle.std.proofs.Common.{List, [], ◌∷◌, sym, ap, ℕ}
 use Rattle.std.proofs.Math.Path.{◌∙◌}
-use Rattle.door.specs.declared.Entry.TheVariants.{Refused}
+use Rattle.std.specs.Prelude.{Err}
 use Rattle.door.specs.laws.Door.{not-row, tables-short, all-ready}
 use Rattle.door.proofs.ready.Goals as goal
 
@@ -9,14 +9,14 @@ pub returns-then-not-is_row : goal.returns-then-not-is_row
 returns-then-not-is_row c =
     let ts : List ℕ =
     c.args.a ∷ c.args.b ∷ c.args.c ∷ c.args.d ∷ [] in
-    ap Refused c.of_neither.ensures
+    ap Err c.of_neither.ensures
     ∙ not-row c.args.row.now ts (sym c.is_row.ensures ∙ c.if-not-is_row.true)
 
 pub returns-then-not-enough : goal.returns-then-not-enough
 returns-then-not-enough c =
     let ts : List ℕ =
     c.args.a ∷ c.args.b ∷ c.args.c ∷ c.args.d ∷ [] in
-    ap Refused c.of_neither-then-not-enough.ensures
+    ap Err c.of_neither-then-not-enough.ensures
     ∙ tables-short c.args.row.now ts (sym c.is_row.ensures ∙ c.if-not-is_row.false)
     (sym c.enough.ensures ∙ c.if-not-enough.true)
 

@@ -1,7 +1,7 @@
 -- Two terms whose runs stand side by side: what is told of them is document 01's verdict.
-use Rattle.std.specs.Prelude.{Bool, true, false, ◌⊎◌, List, ◌++◌, ◌≡◌, refl, ℕ, ◌+◌, ◌≤◌, length, take, drop}
+use Rattle.reply.specs.declared.Comparison.TheVariants.{Same}
+use Rattle.std.specs.Prelude.{Ok, Bool, true, false, ◌⊎◌, List, ◌++◌, ◌≡◌, refl, ℕ, ◌+◌, ◌≤◌, length, take, drop}
 use Rattle.std.proofs.Common.{true≢false, inl, inr, sym, ap, ap₂, ◌∙◌, subst, arith}
-use Rattle.refusal.specs.declared.Refusal.{Refusal}
 use Rattle.refusal.specs.declared.Side.TheVariants.{Left, Right}
 use Rattle.horner.specs.laws.Within.{Within}
 use Rattle.horner.specs.definitions.Term.{Term, norm_p}
@@ -16,14 +16,9 @@ use Rattle.text.specs.definitions.Tree.{Tree, term_of}
 use Rattle.text_laws.specs.laws.Bytes.{same-eq, same_refl}
 use Rattle.text_laws.specs.laws.Rows.{row-length, accepted-within}
 use Rattle.reply.specs.definitions.Reply.{gives, read_as}
-use Rattle.reply.specs.definitions.Calls.{Verdict, equal, different, verdict_of, compare_of, point_after}
-use Rattle.reply.specs.declared.Compared.{Compared}
-use Rattle.reply.specs.declared.Compared.TheVariants.{Same, Refused}
-use Rattle.door_terms.specs.Terms.{IsPair, PairRead}
-use Rattle.door_terms.specs.declared.TermPair.{TermPair}
-use Rattle.door_terms.specs.declared.TermPair.TheVariants as B
+use Rattle.reply.specs.definitions.Calls.{Compared, Verdict, equal, different, verdict_of, compare_of, point_after}
+use Rattle.door_terms.specs.Terms.{IsPair}
 use Rattle.door_terms.specs.laws.Forms.{runs-inside, runs-paired, left-form, right-form, same_runs, same-forms}
-use Rattle.door_terms.specs.laws.Terms.{pair-refused}
 use Rattle.door_compare.specs.Compare.{compared_of, Parting, Parted, Beside, Told}
 use Rattle.door_compare.specs.laws.Points.{length-point}
 use Rattle.door_compare.specs.laws.Verdict.{verdict-same, parted-ready, verdict-parted}
@@ -37,16 +32,16 @@ lists-or x y = go (same x y) refl
     go false e = inr (λ h. true≢false (sym (ap (same x) (sym h) ∙ same_refl x) ∙ e))
 
 module _ {row s t d : List ℕ} {k m : ℕ} (r : is_row row ≡ true) (Q : IsPair row s t k m d) where
-  abbrev f : Term
+  abbrev pub f : Term
   f = term_of row Q.f
 
-  abbrev g : Term
+  abbrev pub g : Term
   g = term_of row Q.g
 
   abbrev n : ℕ
   n = length row
 
-  abbrev l : List ℕ
+  abbrev pub l : List ℕ
   l = take (k + m) d
 
   F : Within (length row) f
@@ -74,7 +69,7 @@ module _ {row s t d : List ℕ} {k m : ℕ} (r : is_row row ≡ true) (Q : IsPai
 
   -- the same words
   told_same : (p : List ℕ) → take k l ≡ drop k l
-      → (Same ≡ compared_of (compare_of row s t)) × (p ≡ point_after (compare_of row s t) p)
+      → (Ok Same ≡ compared_of (compare_of row s t)) × (p ≡ point_after (compare_of row s t) p)
   told_same p e = by-verdict p equal (verdict-same n f g F G (same_runs r Q e)) refl refl
 
   module _ (h : take k l ≡ drop k l → ⊥) where
@@ -120,10 +115,3 @@ module _ {row s t d : List ℕ} {k m : ℕ} (r : is_row row ≡ true) (Q : IsPai
           → (x ≡ compared_of (compare_of row s t)) × (p' ≡ point_after (compare_of row s t) p)
       by (inl e) = let u = told_same p e in ((T.same e).0 ∙ u.0, (T.same e).1 ∙ u.1)
       by (inr h) = pair-parted h p (T.parted h)
-
--- one text is refused
-pub text-refused : {row s t l : List ℕ} {q : TermPair} {bad : Refusal} (b : List ℕ) → q ≡ B.Refused bad → PairRead row s t q l
-    → (Refused bad ≡ compared_of (compare_of row s t)) × (b ≡ point_after (compare_of row s t) b)
-text-refused {row} b h R =
-    let k = pair-refused (λ f g. gives (verdict_of (length row) (term_of row f) (term_of row g))) h R in
-    (ap compared_of (sym k), ap (λ x. point_after x b) (sym k))

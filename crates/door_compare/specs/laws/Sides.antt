@@ -1,6 +1,8 @@
 -- Two forms whose codes were made side by side, and the tables in which their difference is searched.
-use Rattle.std.specs.Prelude.{Bool, true, false, List, ◌++◌, ◌≡◌, refl, ℕ, ◌+◌, ◌-◌, ◌≤◌, length, take, drop}
-use Rattle.std.proofs.Common.{true≢false, sym, ap, ◌∙◌, subst, arith, length-drop, length-take-le}
+use Rattle.reply.specs.declared.Comparison.TheVariants.{Different}
+use Rattle.reply.specs.definitions.Calls.{Compared}
+use Rattle.std.specs.Prelude.{Ok, List, ◌++◌, ◌≡◌, ℕ, ◌+◌, ◌-◌, ◌≤◌, length, take, drop}
+use Rattle.std.proofs.Common.{sym, ap, ◌∙◌, subst, arith, length-drop, length-take-le}
 use Rattle.std.proofs.Math.Path.{ap₂}
 use Rattle.horner.specs.definitions.Form.{Form}
 use Rattle.code.proofs.Lists.{begins-le}
@@ -11,17 +13,16 @@ use Rattle.code.specs.Operations.{sum_of, negate_of, value_of}
 use Rattle.code.specs.Widths.{Leaf}
 use Rattle.code.specs.laws.Codes.{coded, dec-enc, tail-part}
 use Rattle.code_point.specs.Points.{point_of, Ready}
-use Rattle.code_walk.specs.Shapes.{Decides}
 use Rattle.run_code.specs.Decoding.{form_at}
-use Rattle.door_compare.specs.Compare.{Sides, gap_of, Rooms, Parted, Told}
-use Rattle.reply.specs.declared.Compared.{Compared}
-use Rattle.reply.specs.declared.Compared.TheVariants.{Same, Different}
+use Rattle.door_terms.specs.Terms.{Paired, CodedSides}
+use Rattle.door_terms.specs.laws.Forms.{sides-front}
+use Rattle.door_compare.specs.Compare.{Sides, gap_of, Rooms, Parted}
 
 module _ {F G : Form (Leaf 0)} {x y : ℕ} {d : List ℕ} (gF : Good 0 F) (gG : Good 0 G) (L : Made 0 F x d) (R : Made 0 G y (drop x d)) where
   pub sides-inside : x + y ≤ length d
   sides-inside = omega (arith, begins-le L, begins-le R, length-drop x d)
 
-  abbrev l : List ℕ
+  abbrev pub l : List ℕ
   l = take (x + y) d
 
   length-l : length l ≡ x + y
@@ -55,31 +56,62 @@ module _ {F G : Form (Leaf 0)} {x y : ℕ} {d : List ℕ} (gF : Good 0 F) (gG : 
   gap-ready n h = subst (Ready n) (sym gap_is) h
 
   pub told-parted : (n : ℕ) {r : Compared} {p p' : List ℕ}
-      → (r ≡ Different (value_of 0 (dec 0 (take x l)) (point_of n (gap_of x l))) (value_of 0 (dec 0 (drop x l)) (point_of n (gap_of x l))))
+      → (let N = point_of n (gap_of x l) in r ≡ Ok (Different (value_of 0 (dec 0 (take x l)) N) (value_of 0 (dec 0 (drop x l)) N)))
       × (p' ≡ point_of n (gap_of x l) ++ drop n p)
       → Parted n F G r p p'
   told-parted n {r} {p} {p'} h =
       record {
         answer =
-            h.0 ∙ ap₂ Different (ap₂ (value_of 0) left_is (ap (point_of n) gap_is)) (ap₂ (value_of 0) right_is (ap (point_of n) gap_is));
+            h.0
+            ∙ ap₂ (λ v w. Ok (Different v w)) (ap₂ (value_of 0) left_is (ap (point_of n) gap_is))
+            (ap₂ (value_of 0) right_is (ap (point_of n) gap_is));
         point = h.1 ∙ ap (λ z. point_of n z ++ drop n p) gap_is;
       }
 
+-- ---- the codes of two runs' forms, side by side at the front of a table
+module _ {n k e : ℕ} {d : List ℕ} (P : Paired n k e d) {x y : ℕ} {out : List ℕ} (a : List ℕ) (C : CodedSides n k (take e d) x y out) where
+  C' : CodedSides n k (take e d) x y (out ++ a)
+  C' = sides-front out a C
+
+  abbrev F : Form (Leaf 0)
+  F = form_at n 0 (take k (take e d))
+
+  abbrev G : Form (Leaf 0)
+  G = form_at n 0 (drop k (take e d))
+
+  abbrev codes : List ℕ
+  codes = take (x + y) (out ++ a)
+
+  pub forms-sides : Sides x codes
+  forms-sides = made-sides P.left-good P.right-good C'.left C'.right
+
+  pub forms-few : length codes ≤ 6146
+  forms-few =
+      omega (
+        arith,
+        length-take-le (x + y) (out ++ a) (sides-inside P.left-good P.right-good C'.left C'.right),
+        C'.left.size,
+        C'.right.size,
+        P.coding.left.words,
+        P.coding.right.words,
+      )
+
+  pub forms-left : dec 0 (take x codes) ≡ F
+  forms-left = left_is P.left-good P.right-good C'.left C'.right
+
+  pub forms-right : dec 0 (drop x codes) ≡ G
+  forms-right = right_is P.left-good P.right-good C'.left C'.right
+
+  pub forms-ready : Ready n (sum_of 0 F (negate_of 0 G)) → Ready n (gap_of x codes)
+  forms-ready h = gap-ready P.left-good P.right-good C'.left C'.right n h
+
+  pub forms-told : {r : Compared} {p p' : List ℕ}
+      → (let N = point_of n (gap_of x codes) in r ≡ Ok (Different (value_of 0 (dec 0 (take x codes)) N) (value_of 0 (dec 0 (drop x codes)) N)))
+      × (p' ≡ point_of n (gap_of x codes) ++ drop n p)
+      → Parted n F G r p p'
+  forms-told h = told-parted P.left-good P.right-good C'.left C'.right n h
+
 -- ---- two runs side by side in the first e words of d, one in the first k
-pub alike-told : {r : Bool} (k : ℕ) (l : List ℕ) → Decides r (take k l ≡ take (length l - k) (drop k l)) → Decides r (take k l ≡ drop k l)
-alike-told {r} k l h = subst (λ z. Decides r (take k l ≡ z)) (tail-part k l) h
-
-module _ (n k e : ℕ) (d : List ℕ) {b : Bool} (t : Decides b (take k (take e d) ≡ drop k (take e d))) where
-  pub same-told : (p : List ℕ) → b ≡ true → Told n k e d Same p p
-  same-told p h = record { same = λ i. (refl, refl); parted = λ i. absurd (i (t.yes h)) }
-
-  -- the words differ
-  pub runs-differ : b ≡ false → take k (take e d) ≡ drop k (take e d) → ⊥
-  runs-differ h i = true≢false (sym (t.no i) ∙ h)
-
-  pub apart-told : {r : Compared} {p p' : List ℕ} → b ≡ false
-      → Parted n (form_at n 0 (take k (take e d))) (form_at n 0 (drop k (take e d))) r p p' → Told n k e d r p p'
-  apart-told h q = record { same = λ i. absurd (runs-differ h i); parted = λ i. q }
 
 -- two forms of at most 3,073 words each, in tables of the fixed length
 pub wide-rooms : {n b c : ℕ} → n ≤ 6146 → b ≡ 16384 → c ≡ 16384 → Rooms n b c

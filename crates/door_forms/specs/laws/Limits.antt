@@ -1,12 +1,12 @@
 -- The measures of a result: the number that code finds is the one that the reply is refused with.
-use Rattle.std.specs.Prelude.{Bool, true, false, ◌≡◌, refl, ℕ, ◌+◌, ◌*◌, ◌^◌, ◌≤◌, ◌<◌, min, max, leb, ℤ, length, get_or}
+use Rattle.std.specs.Prelude.{Result, Ok, Err, Bool, true, false, ◌≡◌, refl, ℕ, ◌+◌, ◌*◌, ◌^◌, ◌≤◌, ◌<◌, min, max, leb, ℤ, length, get_or}
 use Rattle.std.proofs.Common.{sym, ap, ◌∙◌, subst, arith, le-leb}
 use Rattle.std.proofs.lemmas.Bool.{lt-leb}
 use Rattle.std.proofs.lemmas.List.{length-map}
 use Rattle.refusal.specs.Refusal.{of_neither}
 use Rattle.horner.specs.definitions.Form.{Form}
 use Rattle.horner.specs.definitions.Rings.{ℤ_ring}
-use Rattle.horner.specs.definitions.Measures.{AllLe, box, maxs, sums, multiples, degrees, weight, terms}
+use Rattle.horner.specs.definitions.Measures.{AllLe, box, maxs, sums, multiples, degrees, terms}
 use Rattle.horner.proofs.laws.Bounds.{length-sums}
 use Rattle.horner.proofs.laws.Degree.{length-maxs}
 use Rattle.horner.proofs.laws.Highest.{maxs-get_d}
@@ -16,7 +16,7 @@ use Rattle.reply.specs.definitions.Calls.{Measured, of_sum, of_product, of_power
 use Rattle.reply.specs.definitions.Reply.{Reply, refuses}
 use Rattle.measure.specs.declared.Measures.{Measures}
 use Rattle.measure.specs.Limits.{Limited, fits, degree-over, weight-passed, terms-passed, limited as found, is-small, all-63, degree-63}
-use Rattle.measure.specs.Measure.{add_m, mul_m, pow_m, limit_m}
+use Rattle.measure.specs.Measure.{add_m, mul_m, pow_m, limit_m, Within}
 use Rattle.measure.specs.Nodes.{sums-get_d, multiples-get_d, box-is, box-le}
 use Rattle.form_build.specs.Measure.{measures_of}
 
@@ -93,6 +93,14 @@ module _ {M : Measured} {m : Measures} (T : Meets M m) where
       go (terms-passed z a w l) =
           let b = all_of a.0 a.1.0 a.1.1.0 a.1.1.1 in
           number z (over-10 M r b (omega (arith, T.of-weight, w)) (subst (λ k. 256 < k) (T.of-terms b) l))
+
+-- ---- what code found: that no limit is passed, or the lowest that is
+module _ {a b : Measures} {r : Result (Unit {0}) ℕ} (same : a ≡ b) (W : Within a r) where
+  pub within-ok : {u : Unit {0}} → r ≡ Ok u → limit_m b ≡ 0
+  within-ok h = subst (λ m. limit_m m ≡ 0) same (subst (Within a) h W)
+
+  pub within-err : {e : ℕ} → r ≡ Err e → (e ≡ limit_m b) × (e ≡ 0 → ⊥)
+  within-err {e} h = let w = subst (λ m. Within m (Err e)) same (subst (Within a) h W) in (sym w.0, w.1)
 
 -- ---- the operations' measures
 module _ (m : ℕ) (few : m ≤ 4) (x y : Form ℤ) (lx : length (degrees m x) ≡ m) (ly : length (degrees m y) ≡ m) where

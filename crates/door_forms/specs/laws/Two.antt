@@ -1,25 +1,21 @@
 -- The reply of an operation on two forms, by what is read of them.
-use Rattle.std.specs.Prelude.{false, List, ◌≡◌, ℕ, min, leb, ℤ, length}
+use Rattle.std.specs.Prelude.{Err, false, List, ◌≡◌, ℕ, min, leb, ℤ, length}
 use Rattle.std.proofs.Common.{sym, ap, ◌∙◌, arith}
-use Rattle.refusal.specs.Refusal.{on_side, of_neither}
+use Rattle.refusal.specs.Refusal.{of_neither}
 use Rattle.horner.specs.definitions.Form.{Form as HForm}
 use Rattle.horner.specs.definitions.Measures.{box}
 use Rattle.text.specs.definitions.Bytes.{Reading, read, all}
 use Rattle.text.specs.definitions.FormReading.{accept_form, text}
 use Rattle.reply.specs.definitions.Calls.{Measured, limited, two_of}
-use Rattle.reply.specs.definitions.Reply.{Reply, refuses, read_as, asked, fitted, result_after, untouched}
+use Rattle.reply.specs.definitions.Reply.{Written, Reply, read_as, asked, fitted, result_after, untouched}
 use Rattle.measure.specs.declared.Measures.{Measures}
 use Rattle.measure.specs.Measure.{limit_m}
-use Rattle.refusal.specs.declared.Refusal.{Refusal}
 use Rattle.refusal.specs.declared.Side.TheVariants.{Left, Right}
 use Rattle.door.specs.laws.Ending.{read-clears, asked-clears, fitted-clears}
 use Rattle.door.specs.laws.Numbers.{form-number}
 use Rattle.door_result.specs.Result.{written_of}
-use Rattle.reply.specs.declared.Written.{Written}
-use Rattle.reply.specs.declared.Written.TheVariants as W
-use Rattle.door_forms.specs.Forms.{IsPair, PairRead, left-refusal, right-refusal, forms}
+use Rattle.door_forms.specs.Forms.{IsPair}
 use Rattle.door_forms.specs.declared.FormPair.{FormPair}
-use Rattle.door_forms.specs.declared.FormPair.TheVariants.{Refused}
 use Rattle.door_forms.specs.laws.Limits.{Meets, passed, stopped}
 
 -- the answer and the result buffer are as the reply says
@@ -46,32 +42,15 @@ module _ (measured : HForm ℤ → HForm ℤ → Measured) (op : HForm ℤ → H
       (λ x. read_as Right (accept_form (length row) t) (λ y. limited (measured x y) (λ v. fitted n (text (op x y)))))) i
       ∙ ap (λ (z : Reading (HForm ℤ)). read_as Right z (λ y. limited (measured f y) (λ v. fitted n (text (op f y))))) j
 
-  -- a text is refused
-  pub two-refused : {l : List ℕ} {r : FormPair} {bad : Refusal} (b : List ℕ) → r ≡ Refused bad → PairRead (length row) s t r l
-      → Answers (two_of measured op row s t n) (W.Refused bad) b b
-  two-refused {bad = bad} b h (left-refusal worse i j) =
-      let k = ap (λ (z : Reading (HForm ℤ)). read_as Left z
-      (λ x. read_as Right (accept_form (length row) t) (λ y. limited (measured x y) (λ v. fitted n (text (op x y)))))) i in
-      let same : on_side Left worse ≡ bad = cc in
-      answers b (k ∙ ap refuses same)
-  two-refused {bad = bad} b h (right-refusal f worse i j g) =
-      let k =
-      ap (λ (z : Reading (HForm ℤ)). read_as Left z
-      (λ x. read_as Right (accept_form (length row) t) (λ y. limited (measured x y) (λ v. fitted n (text (op x y)))))) i
-      ∙ ap (λ (z : Reading (HForm ℤ)). read_as Right z (λ y. limited (measured f y) (λ v. fitted n (text (op f y))))) j in
-      let same : on_side Right worse ≡ bad = cc in
-      answers b (k ∙ ap refuses same)
-  two-refused b h (forms x k y q P g) = absurd (let z : ◌≡◌ {A = ℕ} 0 1 = cc in omega arith)
-
-  module _ {l : List ℕ} {x y : Measures} {k q : ℕ} {a : Measures} (P : IsPair (length row) s t x k y q l)
+  module _ {l : List ℕ} {p : FormPair} {a : Measures} (P : IsPair (length row) s t p l)
       (T : Meets (measured P.of_left.f P.of_right.f) a) where
     -- a limit is passed
     pub two-stopped :
-        {e : ℕ} (b : List ℕ) → e ≡ limit_m a → (e ≡ 0 → ⊥) → Answers (two_of measured op row s t n) (W.Refused (of_neither e)) b b
+        {e : ℕ} (b : List ℕ) → e ≡ limit_m a → (e ≡ 0 → ⊥) → Answers (two_of measured op row s t n) (Err (of_neither e)) b b
     two-stopped b h z =
         let i = two-of P.of_left.accepted P.of_right.accepted
         ∙ stopped T (λ v. fitted n (text (op P.of_left.f P.of_right.f))) (λ w. z (h ∙ w)) in
-        (ap (λ e. W.Refused (of_neither e)) h ∙ (answers b i).0, (answers b i).1)
+        (ap (λ e. Err (of_neither e)) h ∙ (answers b i).0, (answers b i).1)
 
     -- none is
     pub two-goes : limit_m a ≡ 0 → two_of measured op row s t n ≡ fitted n (text (op P.of_left.f P.of_right.f))

@@ -1,10 +1,8 @@
 -- `door_point::put_point` meets its contract. The loop's invariant: the first i remainders are written, and the other words are as they
 -- were.
-use Rattle.std.proofs.Common.{List, ◌++◌, ℕ, ◌+◌, ◌-◌, rules, ap, arith, length-set}
-use Rattle.std.proofs.Math.Path.{◌∙◌}
-use Rattle.std.specs.Int.{w32}
-use mir.ValLaws.{to_z-of_z}
-use Rattle.std.specs.Prelude.{pos, take, drop, set}
+use Rattle.std.proofs.Common.{List, ◌++◌, ℕ, ap, arith, rules, slice_set}
+use Rattle.std.proofs.Math.Path.{◌≡◌, ◌∙◌}
+use Rattle.std.specs.Prelude.{pos, take, drop}
 use Rattle.std.proofs.Math.ListN.{get_or}
 use Rattle.reply.specs.definitions.Calls.{remainder}
 use Rattle.door_point.specs.Point.{residues_of}
@@ -13,21 +11,16 @@ use Rattle.door_point.proofs.put_point.Goals as goal
 
 pub loop-i-init : goal.loop-i-init
 loop-i-init c =
-    (omega arith, (search rules, residues-none c.args.point.now c.args.out.now))
+    residues-none c.args.point.now c.args.out.now
 
 pub loop-i-preserved : goal.loop-i-preserved
 loop-i-preserved c =
-    let e = c.of_coordinate.ensures
-    ∙ ap remainder (to_z-of_z w32 (get_or c.args.point.now c.loop-i.i (pos 0)) (record { sfits = c.of_coordinate-arg-1.given })) in (
-      search rules,
-      (
-        simp length-set c.loop-i.invariant.1.0,
-        ap (λ (xs : List ℕ). set xs c.loop-i.i c.of_coordinate.result) c.loop-i.invariant.1.1
-            ∙ ap (set (residues_of (take c.loop-i.i c.args.point.now) ++ drop c.loop-i.i c.args.out.now) c.loop-i.i) e ∙ residues-more c.args.point.now c.args.out.now c.loop-i.i (omega arith) (omega arith),
-      ),
-    )
+    let e : c.of_coordinate.result ≡ remainder (get_or c.args.point.now c.loop-i.i (pos 0)) = search rules in
+    ap (λ (xs : List ℕ). slice_set xs c.loop-i.i c.of_coordinate.result) c.loop-i.invariant
+    ∙ ap (slice_set (residues_of (take c.loop-i.i c.args.point.now) ++ drop c.loop-i.i c.args.out.now) c.loop-i.i) e
+    ∙ residues-more c.args.point.now c.args.out.now c.loop-i.i (omega arith) (omega arith)
 
 pub returns : goal.returns
 returns c =
-    c.loop-i.invariant.1.1
+    c.loop-i.invariant
     ∙ residues-all c.args.point.now c.args.out.now c.loop-i.i (omega arith) (omega arith)

@@ -1,5 +1,6 @@
 -- `door_terms::read_into` meets its contract: what is refused, or the run copied to the front of the last table.
-use Rattle.std.proofs.Common.{sym, arith, length-take-le}
+use Rattle.std.proofs.Common.{refl, arith, length-take-le}
+use Rattle.std.proofs.lemmas.Result.{err_from_is_err_and}
 use Rattle.code.proofs.Lists.{begins-le}
 use Rattle.term_read.specs.Read.{IsRun}
 use Rattle.term_read.specs.laws.Reading.{read-words, refused-any}
@@ -7,30 +8,22 @@ use Rattle.term_read.specs.laws.Terms.{run-words}
 use Rattle.door_terms.specs.laws.Terms.{copied}
 use Rattle.door_terms.proofs.read_into.Goals as goal
 
-pub returns-in_default : goal.returns-in_default
-returns-in_default c =
-    refused-any (IsRun _ _) _ c.in_default.is c.read_run-reading.ensures
-
-pub slice_bounds-copy-end : goal.slice_bounds-copy-end
-slice_bounds-copy-end c =
-    begins-le (read-words c.in-Words.is c.read_run-reading.ensures).made
-
-pub slice_bounds-copy-end-2 : goal.slice_bounds-copy-end-2
-slice_bounds-copy-end-2 c =
-    sym (length-take-le c.in-Words.n c.read_run-reading.new.stack
-    (begins-le (read-words c.in-Words.is c.read_run-reading.ensures).made))
+pub returns-in_err-n : goal.returns-in_err-n
+returns-in_err-n c =
+    let p = err_from_is_err_and c.from_residual.result c.from_residual.ensures.1 in
+    rw (p.1, p.2) (refused-any (IsRun _ _) _ refl c.in_err-n.ensures)
 
 pub copy-requires : goal.copy-requires
 copy-requires c =
-    let T = read-words c.in-Words.is c.read_run-reading.ensures in
+    let T = read-words c.in_ok-n.was c.read_run.ensures in
     omega (
       arith,
-      length-take-le c.in-Words.n c.read_run-reading.new.stack (begins-le T.made),
+      length-take-le c.in_ok-n.n c.read_run.new.stack (begins-le T.made),
       run-words c.requires.row_value T,
       c.requires.roomy.second,
-      c.read_run-reading.auto.other,
+      c.read_run.auto.other,
     )
 
 pub returns : goal.returns
 returns c =
-    copied _ c.in-Words.is c.read_run-reading.ensures c.copy.ensures
+    copied _ c.in_ok-n.was c.read_run.ensures c.copy.ensures

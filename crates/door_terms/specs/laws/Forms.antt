@@ -1,12 +1,11 @@
 -- From the runs of two terms to their forms, side by side.
 use Rattle.std.specs.Prelude.{true, List, ◌++◌, ◌≡◌, ℕ, ◌+◌, ◌-◌, ◌≤◌, length, take, drop}
 use Rattle.std.proofs.Common.{sym, ap, ◌∙◌, subst, arith, length-drop, length-take-le}
-use borrow.Rule.Slice.PartMut.{put_mid}
 use Rattle.std.proofs.lemmas.List.{drop-append-le}
 use Rattle.horner.specs.definitions.Measures.{degrees_of}
 use Rattle.horner.specs.definitions.Term.{norm_p}
 use Rattle.code.proofs.Lists.{begins-le}
-use Rattle.code.proofs.Regions.{region-sub, region-before, region-put}
+use Rattle.code.proofs.Regions.{region-sub}
 use Rattle.code.specs.Coding.{Made, enc, Good}
 use Rattle.code.specs.laws.Codes.{tail-part}
 use Rattle.run_code.specs.Decoding.{form_at}
@@ -15,32 +14,9 @@ use Rattle.run_form.proofs.laws.Code.{run-even, run-placed, run-form, low-good}
 use Rattle.text.specs.definitions.Bytes.{is_row}
 use Rattle.text.specs.definitions.Tree.{term_of}
 use Rattle.text_laws.specs.laws.Rows.{row-length}
-use Rattle.term_read.specs.Read.{IsRun}
 use Rattle.term_read.specs.laws.Reading.{begins-front}
-use Rattle.term_read.specs.laws.Terms.{accepted-low, accepted-words, run-words}
+use Rattle.term_read.specs.laws.Terms.{accepted-low, accepted-words}
 use Rattle.door_terms.specs.Terms.{IsPair, Codable, Coding, CodedSides, Paired}
-
--- the words behind the left run, as a part of the table
-pub right-codable : {n k : ℕ} {l : List ℕ} {out : ℕ} → Coding n k l out → Codable n (take (length l - k) (drop k l))
-right-codable {n} {k} {l} C = subst (Codable n) (sym (tail-part k l)) C.right
-
--- the left code, and then the right one in the part behind it
-pub sides-made :
-    {n k x y : ℕ} {l : List ℕ} (d e : List ℕ) → Made 0 (form_at n 0 (take k l)) x d → Made 0 (form_at n 0 (take (length l - k) (drop k l))) y e
-    → CodedSides n k l x y (put_mid x (length d - x) d e)
-sides-made {n} {k} {x} {y} {l} d e L R =
-    let a = begins-le L in
-    let z : x ≡ x + 0 = omega arith in
-    record {
-      left = record { size = L.size; is = region-before 0 x x (length d - x) d e (omega arith) a ∙ L.is };
-      right =
-          record {
-            size = R.size ∙ ap (λ w. length (enc 0 (form_at n 0 w))) (tail-part k l);
-            is =
-                ap (λ i. take y (drop i (put_mid x (length d - x) d e))) z
-                ∙ region-put x 0 y d e a (omega (arith, begins-le R)) ∙ R.is ∙ ap (λ w. enc 0 (form_at n 0 w)) (tail-part k l);
-          };
-    }
 
 -- the same where more follows
 pub sides-front : {n k x y : ℕ} {l : List ℕ} (d e : List ℕ) → CodedSides n k l x y d → CodedSides n k l x y (d ++ e)
@@ -54,19 +30,10 @@ sides-front {n} {k} {x} {y} {l} d e C =
 
 -- ---- of two terms that were read
 module _ {row s t d : List ℕ} {k m : ℕ} (r : is_row row ≡ true) (Q : IsPair row s t k m d) where
-  abbrev run_on_left : IsRun row s k d
-  run_on_left = record { t = Q.f; accepted = Q.left-accepted; made = Q.left-made }
-
-  abbrev run_on_right : IsRun row t m (drop k d)
-  run_on_right = record { t = Q.g; accepted = Q.right-accepted; made = Q.right-made }
-
-  pub runs-words : (k ≤ 512) × (m ≤ 512)
-  runs-words = (run-words r run_on_left, run-words r run_on_right)
-
   pub runs-inside : k + m ≤ length d
   runs-inside = omega (arith, begins-le Q.left-made, begins-le Q.right-made, length-drop k d)
 
-  abbrev l : List ℕ
+  abbrev pub l : List ℕ
   l = take (k + m) d
 
   length-l : length l ≡ k + m

@@ -1,18 +1,16 @@
 -- `form_build::limited` meets its contract.
--- Assumes nothing.
-use Rattle.std.proofs.Common.{sym, ap}
-use Rattle.std.proofs.Math.Path.{◌∙◌}
-use borrow.Author.Tests.{eq-eqb, ne_eqb}
+use Rattle.std.proofs.Common.{◌≡◌, rules}
 use Rattle.refusal.specs.Refusal.{fault}
-use Rattle.text_laws.specs.laws.Picks.{pick_yes, pick_no}
-use Rattle.form_build.specs.declared.FormJudged.TheVariants.{Refused}
+use Rattle.refusal.proofs.Exits.{exits, mapped_ok, mapped_err}
+use Rattle.form_build.specs.laws.Answer.{limited-ok, limited-err}
 use Rattle.form_build.proofs.limited.Goals as goal
 
-pub returns-then-e-eq0 : goal.returns-then-e-eq0
-returns-then-e-eq0 c =
-    sym (pick_yes _ _ (eq-eqb _ 0 (sym c.limit_of-e.ensures ∙ c.if-e-eq0.true)))
+pub returns-in_err-map_err : goal.returns-in_err-map_err
+returns-in_err-map_err c =
+    let m = mapped_err _ _ c.map_err.ensures.cases c.in_err-map_err.was in
+    let q : c.in_err-map_err.field-0.0 ≡ fault m.0 0 = search (rules, m.2) in
+    rw (exits c.from_residual.ensures.1, q) (limited-err _ _ c.within.ensures m.1)
 
 pub returns : goal.returns
 returns c =
-    ap (λ e. Refused (fault e 0)) c.limit_of-e.ensures
-    ∙ sym (pick_no _ _ (ne_eqb _ 0 (λ q. c.if-e-eq0.false (c.limit_of-e.ensures ∙ q))))
+    limited-ok _ _ c.within.ensures (mapped_ok _ _ c.map_err.ensures.cases c.in_ok-map_err.was)

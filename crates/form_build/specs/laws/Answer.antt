@@ -1,5 +1,5 @@
 -- The answer on the text of a form, from what its passes find.
-use Rattle.std.specs.Prelude.{Bool, true, false, not, ◌&&◌, List, [], ◌∷◌, ◌≡◌, refl, ℕ, zero, suc, ◌+◌, ◌≤◌, min, max, ltb, leb, ℤ, length, get_or}
+use Rattle.std.specs.Prelude.{Result, Ok, Err, Bool, true, false, not, ◌&&◌, List, [], ◌∷◌, ◌≡◌, refl, ℕ, zero, suc, ◌+◌, ◌≤◌, min, max, ltb, leb, ℤ, length, get_or}
 use Rattle.std.proofs.Common.{sym, ◌∙◌, subst, arith, eq-eqb, ne_eqb, lt-ltb, le-ltb, leb-true, leb-false}
 use Rattle.std.proofs.Math.Path.{ap}
 use Rattle.std.proofs.Math.Nat.{sub-zero}
@@ -18,10 +18,9 @@ use Rattle.text_laws.specs.laws.FormNormal.{stand-normal}
 use Rattle.text_laws.specs.laws.FormReading.{reads}
 use Rattle.text_laws.specs.laws.Picks.{pick, pick_yes, pick_no}
 use Rattle.measure.specs.declared.Measures.{Measures}
-use Rattle.measure.specs.Measure.{limit_m}
+use Rattle.measure.specs.Measure.{limit_m, Within}
 use Rattle.form_head.specs.Heads.{Standing}
-use Rattle.form_build.specs.declared.FormJudged.TheVariants.{Form as Formed, Refused}
-use Rattle.form_normal.specs.declared.Seen.TheVariants.{Wrong, Fine}
+use Rattle.form_normal.specs.declared.Seen.{Seen}
 use Rattle.form_build.specs.Answer.{IsRead, judged_of, limited_m}
 use Rattle.form_normal.specs.Normal.{shape_of, seen, SeenAt}
 use Rattle.form_build.specs.Measure.{degree_at, cut_of, at_least_one, measures_of, MeasuredAt}
@@ -128,11 +127,22 @@ module _ (m : ℕ) (few : m ≤ 4) (f : Form ℤ) (n : Normal ℤ_ring m f) wher
 
       go : (e : ℕ) → over_limit m f ≡ e → limited_m a ≡ judged_of m (fine e 0 (λ u. read f))
       go zero e =
-          pick_yes (Formed a) (Refused (fault (limit_m a) 0)) (eq-eqb (limit_m a) 0 (l ∙ e))
-          ∙ ap Formed (q ∙ exact (within-limits (over_limit m f) (measure m f) e))
+          pick_yes (Ok a) (Err (fault (limit_m a) 0)) (eq-eqb (limit_m a) 0 (l ∙ e))
+          ∙ ap Ok (q ∙ exact (within-limits (over_limit m f) (measure m f) e))
       go (suc k) e =
-          pick_no (Formed a) (Refused (fault (limit_m a) 0)) (ne_eqb (limit_m a) 0 (λ z. omega (arith, z, l, e)))
-          ∙ ap (λ x. Refused (fault x 0)) (l ∙ e)
+          pick_no (Ok a) (Err (fault (limit_m a) 0)) (ne_eqb (limit_m a) 0 (λ z. omega (arith, z, l, e)))
+          ∙ ap (λ x. Err (fault x 0)) (l ∙ e)
+
+-- ---- a limit that is passed, or none
+pub limited-ok : (a : Measures) (x : Result (Unit {0}) ℕ) {u : Unit {0}} → Within a x → x ≡ Ok u → Ok a ≡ limited_m a
+limited-ok a (Ok u) w q = sym (pick_yes _ _ (eq-eqb (limit_m a) 0 w))
+limited-ok a (Err e) w q = absurd (cc)
+
+pub limited-err : (a : Measures) (x : Result (Unit {0}) ℕ) {e : ℕ} → Within a x → x ≡ Err e → Err (fault e 0) ≡ limited_m a
+limited-err a (Ok u) w q = absurd (cc)
+limited-err a (Err k) {e = e} w q =
+    let same : limit_m a ≡ e = w.0 ∙ (cc) in
+    sym (pick_no _ _ (ne_eqb (limit_m a) 0 (λ z. w.1 (sym w.0 ∙ z))) ∙ ap (λ n. Err (fault n 0)) same)
 
 -- ---- the text
 module _ (m : ℕ) (few : m ≤ 4) (s : List ℕ) (R : IsRead s) where
@@ -146,32 +156,32 @@ module _ (m : ℕ) (few : m ≤ 4) (s : List ℕ) (R : IsRead s) where
   unfolding accept_form
   accept-read = ap (λ (r : Reading (Form ℤ)). onward r (form_judged m)) R.is
 
-  pub answer-wrong : (p : ℕ) → SeenAt m s 0 (Wrong p) → Refused (fault 7 p) ≡ judged_of m (accept_form m s)
+  pub answer-wrong : (p : ℕ) → SeenAt m s 0 (Err p) → Err (fault 7 p) ≡ judged_of m (accept_form m s)
   answer-wrong p S =
       go (judged_at m 0 0 R.f) (judged m R.f (nodes 0 0 R.f)) (S m 0 R.f [] (sub-zero m) (text-stands is-text))
       ∙ ap (judged_of m) (sym accept-read)
     where
       go :
-          (x : Reading (Form ℤ)) → Verdict m R.f (nodes 0 0 R.f) x → Wrong p ≡ seen x (shape_of R.f) (0 + length (text R.f)) →
-          Refused (fault 7 p) ≡ judged_of m (onward x (form_measured m))
+          (x : Reading (Form ℤ)) → Verdict m R.f (nodes 0 0 R.f) x → Err p ≡ seen x (shape_of R.f) (0 + length (text R.f)) →
+          Err (fault 7 p) ≡ judged_of m (onward x (form_measured m))
       go x (upright a e) q =
           absurd
           (let w = q ∙ ap (λ z. seen z (shape_of R.f) (0 + length (text R.f))) e in let z : ◌≡◌ {A = ℕ} 0 1 = cc in omega arith)
       go x (fallen ls k js j a w e) q =
-          let v : Wrong p ≡ Wrong k.place = q ∙ ap (λ z. seen z (shape_of R.f) (0 + length (text R.f))) e in
+          let v : Err p ≡ Err k.place = q ∙ ap (λ z. seen z (shape_of R.f) (0 + length (text R.f))) e in
           let u : p ≡ k.place = cc in
-          ap (λ x. Refused (fault 7 x)) u ∙ ap (λ z. judged_of m (onward z (form_measured m))) (sym e)
+          ap (λ x. Err (fault 7 x)) u ∙ ap (λ z. judged_of m (onward z (form_measured m))) (sym e)
 
   pub answer-fine :
-      (shape next : ℕ) → SeenAt m s 0 (Fine shape next) → {a b : Measures} {end : ℕ} → MeasuredAt s 0 a end → b ≡ at_least_one a →
+      (x : Seen) → SeenAt m s 0 (Ok x) → {a b : Measures} {end : ℕ} → MeasuredAt s 0 a end → b ≡ at_least_one a →
       limited_m b ≡ judged_of m (accept_form m s)
-  answer-fine shape next S {a} {b} M q =
+  answer-fine y S {a} {b} M q =
       go (judged_at m 0 0 R.f) (judged m R.f (nodes 0 0 R.f)) (S m 0 R.f [] (sub-zero m) (text-stands is-text))
       ∙ ap (judged_of m) (sym accept-read)
     where
       go :
           (x : Reading (Form ℤ)) → Verdict m R.f (nodes 0 0 R.f) x →
-          Fine shape next ≡ seen x (shape_of R.f) (0 + length (text R.f)) → limited_m b ≡ judged_of m (onward x (form_measured m))
+          Ok y ≡ seen x (shape_of R.f) (0 + length (text R.f)) → limited_m b ≡ judged_of m (onward x (form_measured m))
       go x (upright a e) v =
           limited-is m few R.f (rw sub-zero at (stand-normal m R.f 0 0 a)) b
           (q ∙ ap at_least_one (M.is R.f [] (text-stands is-text)))

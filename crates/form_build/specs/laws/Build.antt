@@ -1,7 +1,7 @@
 -- The code of a form from the codes of its parts, where its text stands at a place.
 use Rattle.std.specs.Prelude.{true, false, ◌≡◌, refl, ℕ, suc, ◌+◌, ◌*◌, ◌-◌, ◌%◌, ◌≤◌, ◌<◌, min, ℤ, pos, negsuc, nat_abs}
 use mathlib.Core.List.{List, [], ◌∷◌, ◌++◌}
-use Rattle.std.proofs.Common.{sym, ap, ◌∙◌, arith, length-append, eq-eqb, ne_eqb}
+use Rattle.std.proofs.Common.{sym, ap, ◌∙◌, arith, length-append}
 use Rattle.std.proofs.Math.Path.{subst}
 use Rattle.std.proofs.Math.Nat as NatL
 use Rattle.std.proofs.Math.ListN.{length}
@@ -10,7 +10,9 @@ use Rattle.horner.specs.definitions.Rings.{prime}
 use Rattle.code.specs.Coding.{Begins, enc}
 use Rattle.code.specs.laws.Good.{good-pop, good-pow}
 use Rattle.code.specs.laws.Sizes.{enc-pos}
-use Rattle.form_head.specs.Heads.{Stands, Standing, Headed, HeadIs}
+use Rattle.form_head.specs.declared.Kind.{Kind}
+use Rattle.form_head.specs.declared.Kind.TheVariants.{Pop, Pow}
+use Rattle.form_head.specs.Heads.{is_node, Stands, Standing, Headed, HeadIs}
 use Rattle.form_head.specs.laws.Parts.{pop-part, pow_left, pow_right, ends-pop, ends-pow}
 use Rattle.form_build.specs.Build.{over_p, leaf_word, Fit, ReadyAt, BuiltAt}
 
@@ -57,14 +59,10 @@ below_word n number h e =
     ap (λ x. x ∷ []) (ap (λ x. 2147483647 - x) k ∙ sym b ∙ ap (λ x. (prime - x) % prime) (sym a))
 
 leaf-code :
-    (kind number first at : ℕ) (z : ℤ) → nat_abs z ≤ 1073741823 → HeadIs at kind number first (int z) →
+    (kind : Kind) (number first at : ℕ) (z : ℤ) → nat_abs z ≤ 1073741823 → HeadIs at kind number first (int z) →
     leaf_word kind number ∷ [] ≡ enc 0 (over_p (int z))
-leaf-code kind number first at (pos n) h H =
-    ap (λ b. elim b [ true ↦ number | false ↦ 2147483647 - number ] ∷ []) (eq-eqb kind 0 H.is-kind)
-    ∙ natural-word n number h H.is_number
-leaf-code kind number first at (negsuc n) h H =
-    ap (λ b. elim b [ true ↦ number | false ↦ 2147483647 - number ] ∷ []) (ne_eqb kind 0 (λ e. omega (arith, H.is-kind)))
-    ∙ below_word n number h H.is_number
+leaf-code kind number first at (pos n) h H = ap (λ k. leaf_word k number ∷ []) H.is-kind ∙ natural-word n number h H.is_number
+leaf-code kind number first at (negsuc n) h H = ap (λ k. leaf_word k number ∷ []) H.is-kind ∙ below_word n number h H.is_number
 
 -- ---- what is asked and given, node by node
 -- n words of p and the head are not too many of l, and their number and i make a word
@@ -73,26 +71,19 @@ pub record NodeFits (l n number : ℕ) : Type 0 where
   pub small : l ≤ 33554432
   pub low : number ≤ 63
 
-module _ {s : List ℕ} {at kind number first : ℕ} (H : Headed s at kind number first) where
-  pub number_small : Standing s at → number ≤ 1073741824
-  number_small S = go S.g S.rest S.stands
-    where
-      go : (g : Form ℤ) (rest : List ℕ) → Stands s at g rest → number ≤ 1073741824
-      go (int z) rest h = omega (arith, (H _ _ h).is_number)
-      go (pop i p) rest h = omega (arith, (H _ _ h).is_number)
-      go (pow i p q) rest h = omega (arith, (H _ _ h).is_number)
-
-  pub leaf-made : kind < 2 → (g : Form ℤ) (rest : List ℕ) → Stands s at g rest → Fit g → leaf_word kind number ∷ [] ≡ enc 0 (over_p g)
+module _ {s : List ℕ} {at : ℕ} {kind : Kind} {number first : ℕ} (H : Headed s at kind number first) where
+  pub leaf-made : is_node kind ≡ false → (g : Form ℤ) (rest : List ℕ) → Stands s at g rest → Fit g →
+      leaf_word kind number ∷ [] ≡ enc 0 (over_p g)
   leaf-made k (int z) rest h f = leaf-code kind number first at z f.light (H _ _ h)
-  leaf-made k (pop i p) rest h f = absurd (omega (arith, (H _ _ h).is-kind))
-  leaf-made k (pow i p q) rest h f = absurd (omega (arith, (H _ _ h).is-kind))
+  leaf-made k (pop i p) rest h f = absurd (cc (k, ap is_node (H _ _ h).is-kind))
+  leaf-made k (pow i p q) rest h f = absurd (cc (k, ap is_node (H _ _ h).is-kind))
 
-  pub ready-first : 2 ≤ kind → {l : ℕ} (l' : ℕ) → l' ≡ l - 1 → ReadyAt s at l → ReadyAt s first l'
+  pub ready-first : is_node kind ≡ true → {l : ℕ} (l' : ℕ) → l' ≡ l - 1 → ReadyAt s at l → ReadyAt s first l'
   ready-first k {l} l' e r = go r.g r.rest r.stands r.fit r.room
     where
       go : (g : Form ℤ) (rest : List ℕ) → Stands s at g rest → Fit g → length (enc 0 (over_p g)) ≤ l → ReadyAt s first l'
-      go (int (pos n)) rest h f m = absurd (omega (arith, (H _ _ h).is-kind))
-      go (int (negsuc n)) rest h f m = absurd (omega (arith, (H _ _ h).is-kind))
+      go (int (pos n)) rest h f m = absurd (cc (k, ap is_node (H _ _ h).is-kind))
+      go (int (negsuc n)) rest h f m = absurd (cc (k, ap is_node (H _ _ h).is-kind))
       go (pop i p) rest h f m =
           record {
             g = p;
@@ -117,12 +108,12 @@ module _ {s : List ℕ} {at kind number first : ℕ} (H : Headed s at kind numbe
           }
 
   module _ {n mid : ℕ} {e : List ℕ} (B : BuiltAt s first n mid e) where
-    pub node-fits : 2 ≤ kind → {l : ℕ} → ReadyAt s at l → NodeFits l n number
+    pub node-fits : is_node kind ≡ true → {l : ℕ} → ReadyAt s at l → NodeFits l n number
     node-fits k {l} r = go r.g r.rest r.stands r.fit r.room
       where
         go : (g : Form ℤ) (rest : List ℕ) → Stands s at g rest → Fit g → length (enc 0 (over_p g)) ≤ l → NodeFits l n number
-        go (int (pos n)) rest h f m = absurd (omega (arith, (H _ _ h).is-kind))
-        go (int (negsuc n)) rest h f m = absurd (omega (arith, (H _ _ h).is-kind))
+        go (int (pos n)) rest h f m = absurd (cc (k, ap is_node (H _ _ h).is-kind))
+        go (int (negsuc n)) rest h f m = absurd (cc (k, ap is_node (H _ _ h).is-kind))
         go (pop i p) rest h f m =
             record {
               count = omega (arith, m, pop-length i p, (B.made p _ (pop-part H h) (pop-fit f).1).size);
@@ -136,13 +127,13 @@ module _ {s : List ℕ} {at kind number first : ℕ} (H : Headed s at kind numbe
               low = omega (arith, (H _ _ h).is_number, (pow-fit f).0);
             }
 
-    pub ready-second : kind ≡ 3 → {l : ℕ} (l' : ℕ) → l' ≡ l - (1 + n) → ReadyAt s at l → ReadyAt s (mid + 1) l'
+    pub ready-second : kind ≡ Pow → {l : ℕ} (l' : ℕ) → l' ≡ l - (1 + n) → ReadyAt s at l → ReadyAt s (mid + 1) l'
     ready-second k {l} l' q r = go r.g r.rest r.stands r.fit r.room
       where
         go : (g : Form ℤ) (rest : List ℕ) → Stands s at g rest → Fit g → length (enc 0 (over_p g)) ≤ l → ReadyAt s (mid + 1) l'
-        go (int (pos n)) rest h f m = absurd (omega (arith, (H _ _ h).is-kind))
-        go (int (negsuc n)) rest h f m = absurd (omega (arith, (H _ _ h).is-kind))
-        go (pop i p) rest h f m = absurd (omega (arith, (H _ _ h).is-kind))
+        go (int (pos n)) rest h f m = absurd (cc (k, (H _ _ h).is-kind))
+        go (int (negsuc n)) rest h f m = absurd (cc (k, (H _ _ h).is-kind))
+        go (pop i p) rest h f m = absurd (cc (k, (H _ _ h).is-kind))
         go (pow i x y) rest h f m =
             record {
               g = y;
@@ -154,13 +145,13 @@ module _ {s : List ℕ} {at kind number first : ℕ} (H : Headed s at kind numbe
             }
 
     -- the words of the whole
-    pub pow-count : kind ≡ 3 → (m next : ℕ) (e₂ : List ℕ) → BuiltAt s (mid + 1) m next e₂ → {l : ℕ} → ReadyAt s at l → 1 + n + m ≤ l
+    pub pow-count : kind ≡ Pow → (m next : ℕ) (e₂ : List ℕ) → BuiltAt s (mid + 1) m next e₂ → {l : ℕ} → ReadyAt s at l → 1 + n + m ≤ l
     pow-count k m next e₂ C {l} r = go r.g r.rest r.stands r.fit r.room
       where
         go : (g : Form ℤ) (rest : List ℕ) → Stands s at g rest → Fit g → length (enc 0 (over_p g)) ≤ l → 1 + n + m ≤ l
-        go (int (pos n)) rest h f w = absurd (omega (arith, (H _ _ h).is-kind))
-        go (int (negsuc n)) rest h f w = absurd (omega (arith, (H _ _ h).is-kind))
-        go (pop i p) rest h f w = absurd (omega (arith, (H _ _ h).is-kind))
+        go (int (pos n)) rest h f w = absurd (cc (k, (H _ _ h).is-kind))
+        go (int (negsuc n)) rest h f w = absurd (cc (k, (H _ _ h).is-kind))
+        go (pop i p) rest h f w = absurd (cc (k, (H _ _ h).is-kind))
         go (pow i x y) rest h f w =
             omega (
               arith,
@@ -172,30 +163,30 @@ module _ {s : List ℕ} {at kind number first : ℕ} (H : Headed s at kind numbe
 
     -- the head in front of p's code, and q's behind
     pub pop-made :
-        kind ≡ 2 → {d : List ℕ} → ((l : List ℕ) → Begins n l e → Begins (1 + n) ((2147483648 + number) ∷ l) d) →
+        kind ≡ Pop → {d : List ℕ} → ((l : List ℕ) → Begins n l e → Begins (1 + n) ((2147483648 + number) ∷ l) d) →
         BuiltAt s at (1 + n) (mid + 1) d
     unfolding enc
     pop-made k {d} put = record { ends = ends-pop H mid k B.ends; made = go }
       where
         go : (g : Form ℤ) (rest : List ℕ) → Stands s at g rest → Fit g → Begins (1 + n) (enc 0 (over_p g)) d
-        go (int (pos n)) rest h f = absurd (omega (arith, (H _ _ h).is-kind))
-        go (int (negsuc n)) rest h f = absurd (omega (arith, (H _ _ h).is-kind))
+        go (int (pos n)) rest h f = absurd (cc (k, (H _ _ h).is-kind))
+        go (int (negsuc n)) rest h f = absurd (cc (k, (H _ _ h).is-kind))
         go (pop i p) rest h f =
             let w : number ≡ i = omega (arith, (H _ _ h).is_number, (pop-fit f).0) in
             subst (λ x. Begins (1 + n) ((2147483648 + x) ∷ enc 0 (over_p p)) d) w
             (put (enc 0 (over_p p)) (B.made p _ (pop-part H h) (pop-fit f).1))
-        go (pow i p q) rest h f = absurd (omega (arith, (H _ _ h).is-kind))
+        go (pow i p q) rest h f = absurd (cc (k, (H _ _ h).is-kind))
 
-    pub pow-made : kind ≡ 3 → (m next : ℕ) (e₂ d : List ℕ) → BuiltAt s (mid + 1) m next e₂
+    pub pow-made : kind ≡ Pow → (m next : ℕ) (e₂ d : List ℕ) → BuiltAt s (mid + 1) m next e₂
         → ((k l : List ℕ) → Begins n k e → Begins m l e₂ → Begins (1 + n + m) ((2147483648 + 64 * n + number) ∷ k ++ l) d) → BuiltAt s
         at (1 + n + m) (next + 1) d
     unfolding enc
     pow-made k m next e₂ d C put = record { ends = ends-pow H mid B.ends next k C.ends; made = go }
       where
         go : (g : Form ℤ) (rest : List ℕ) → Stands s at g rest → Fit g → Begins (1 + n + m) (enc 0 (over_p g)) d
-        go (int (pos n)) rest h f = absurd (omega (arith, (H _ _ h).is-kind))
-        go (int (negsuc n)) rest h f = absurd (omega (arith, (H _ _ h).is-kind))
-        go (pop i p) rest h f = absurd (omega (arith, (H _ _ h).is-kind))
+        go (int (pos n)) rest h f = absurd (cc (k, (H _ _ h).is-kind))
+        go (int (negsuc n)) rest h f = absurd (cc (k, (H _ _ h).is-kind))
+        go (pop i p) rest h f = absurd (cc (k, (H _ _ h).is-kind))
         go (pow i p q) rest h f =
             let w : number ≡ i = omega (arith, (H _ _ h).is_number, (pow-fit f).0) in
             let b = B.made p _ (pow_left H h) (pow-fit f).1.0 in

@@ -1,5 +1,5 @@
 -- The measures of a form from those of its parts.
-use Rattle.std.specs.Prelude.{cond, List, [], ◌∷◌, ◌⊎◌, ◌≡◌, refl, ℕ, zero, suc, ◌+◌, ◌-◌, ◌≤◌, ◌<◌, min, max, eqb, ℤ, pos, negsuc, nat_abs, length, get_or}
+use Rattle.std.specs.Prelude.{false, cond, List, [], ◌∷◌, ◌⊎◌, ◌≡◌, refl, ℕ, zero, suc, ◌+◌, ◌-◌, ◌≤◌, ◌<◌, min, max, eqb, ℤ, pos, negsuc, nat_abs, length, get_or}
 use Rattle.std.proofs.Common.{inl, inr, sym, ap, ◌∙◌, arith, eq-eqb, ne_eqb}
 use Rattle.horner.specs.definitions.Form.{Form, int, pop, pow, Normal, tl}
 use Rattle.horner.specs.definitions.Rings.{ℤ_ring, is_zero_ℤ}
@@ -8,7 +8,9 @@ use Rattle.horner.proofs.laws.Compare.{lt-or-ge}
 use Rattle.horner.proofs.laws.Degree.{length-degrees, length-tl}
 use Rattle.text_laws.specs.laws.Picks.{pick}
 use Rattle.measure.specs.declared.Measures.{Measures}
-use Rattle.form_head.specs.Heads.{Stands, Headed}
+use Rattle.form_head.specs.declared.Kind.{Kind}
+use Rattle.form_head.specs.declared.Kind.TheVariants.{Pop, Pow}
+use Rattle.form_head.specs.Heads.{is_node, Stands, Headed}
 use Rattle.form_head.specs.laws.Parts.{pop-part, pow_left, pow_right, ends-int, ends-pop, ends-pow}
 use Rattle.form_build.specs.Measure.{behind, degree_at, cut_of, leaf_m, later_m, pop_m, pow_m, MeasuredAt}
 
@@ -109,36 +111,36 @@ pow-cut i p q =
     }
 
 -- ---- node by node
-module _ {s : List ℕ} {at kind number first : ℕ} (H : Headed s at kind number first) where
-  pub int-measured : kind < 2 → (r : Measures) → r ≡ leaf_m number → MeasuredAt s at r first
+module _ {s : List ℕ} {at : ℕ} {kind : Kind} {number first : ℕ} (H : Headed s at kind number first) where
+  pub int-measured : is_node kind ≡ false → (r : Measures) → r ≡ leaf_m number → MeasuredAt s at r first
   int-measured k r e = record { ends = ends-int H k; is = go }
     where
       go : (g : Form ℤ) (rest : List ℕ) → Stands s at g rest → r ≡ cut_of g
       go (int z) rest h = e ∙ leaf-cut z number (H _ _ h).is_number
-      go (pop i p) rest h = absurd (omega (arith, (H _ _ h).is-kind))
-      go (pow i p q) rest h = absurd (omega (arith, (H _ _ h).is-kind))
+      go (pop i p) rest h = absurd (cc (k, ap is_node (H _ _ h).is-kind))
+      go (pow i p q) rest h = absurd (cc (k, ap is_node (H _ _ h).is-kind))
 
   module _ {a : Measures} {mid : ℕ} (A : MeasuredAt s first a mid) where
-    pub pop-measured : kind ≡ 2 → (r : Measures) → r ≡ pop_m number a → MeasuredAt s at r (mid + 1)
+    pub pop-measured : kind ≡ Pop → (r : Measures) → r ≡ pop_m number a → MeasuredAt s at r (mid + 1)
     pop-measured k r e = record { ends = ends-pop H mid k A.ends; is = go }
       where
         go : (g : Form ℤ) (rest : List ℕ) → Stands s at g rest → r ≡ cut_of g
-        go (int (pos n)) rest h = absurd (omega (arith, (H _ _ h).is-kind))
-        go (int (negsuc n)) rest h = absurd (omega (arith, (H _ _ h).is-kind))
+        go (int (pos n)) rest h = absurd (cc (k, (H _ _ h).is-kind))
+        go (int (negsuc n)) rest h = absurd (cc (k, (H _ _ h).is-kind))
         go (pop i p) rest h =
             e ∙ ap (pop_m number) (A.is p _ (pop-part H h)) ∙ pop-cut number p ∙ ap (λ z. cut_of (pop z p)) (H _ _ h).is_number
             ∙ far-cut i p
-        go (pow i p q) rest h = absurd (omega (arith, (H _ _ h).is-kind))
+        go (pow i p q) rest h = absurd (cc (k, (H _ _ h).is-kind))
 
     pub pow-measured :
-        kind ≡ 3 → {b : Measures} {next : ℕ} → MeasuredAt s (mid + 1) b next → (r : Measures) → r ≡ pow_m number a b →
+        kind ≡ Pow → {b : Measures} {next : ℕ} → MeasuredAt s (mid + 1) b next → (r : Measures) → r ≡ pow_m number a b →
         MeasuredAt s at r (next + 1)
     pow-measured k {b} {next} B r e = record { ends = ends-pow H mid A.ends next k B.ends; is = go }
       where
         go : (g : Form ℤ) (rest : List ℕ) → Stands s at g rest → r ≡ cut_of g
-        go (int (pos n)) rest h = absurd (omega (arith, (H _ _ h).is-kind))
-        go (int (negsuc n)) rest h = absurd (omega (arith, (H _ _ h).is-kind))
-        go (pop i p) rest h = absurd (omega (arith, (H _ _ h).is-kind))
+        go (int (pos n)) rest h = absurd (cc (k, (H _ _ h).is-kind))
+        go (int (negsuc n)) rest h = absurd (cc (k, (H _ _ h).is-kind))
+        go (pop i p) rest h = absurd (cc (k, (H _ _ h).is-kind))
         go (pow i p q) rest h =
             e ∙ ap (λ z. pow_m z a b) (H _ _ h).is_number
             ∙ ap (λ z. pow_m (min i 64) z b) (A.is p _ (pow_left H h))

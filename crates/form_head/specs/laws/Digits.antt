@@ -1,5 +1,6 @@
 -- The digits that a text begins with.
-use Rattle.std.specs.Prelude.{Bool, true, false, List, [], ◌∷◌, ◌++◌, ◌≡◌, refl, ℕ, zero, suc, ◌+◌, ◌≤◌, ◌<◌, length, take, drop, get_or}
+use Rattle.std.specs.Prelude.{Bool, true, false, cond, List, [], ◌∷◌, ◌++◌, ◌≡◌, refl, ℕ, zero, suc, ◌+◌, ◌≤◌, ◌<◌, length, take, drop, get_or}
+use Rattle.std.specs.List.{prefix_len}
 use Rattle.std.proofs.Common.{sym, ap, ◌∙◌, arith, add-one, drop_of_length-le, drop-cons}
 use Rattle.text.specs.definitions.Bytes.{digit, all, decimal}
 use Rattle.text_laws.specs.laws.Bytes.{and_l, and_r, and_i, digit-range}
@@ -30,6 +31,16 @@ digits-all (x ∷ l) = by_first x l (λ d. all digit d ≡ true) (λ e. and_i e 
 pub digits-take : (l : List ℕ) → take (length (digits l)) l ≡ digits l
 digits-take [] = refl
 digits-take (x ∷ l) = by_first x l (λ d. take (length d) (x ∷ l) ≡ d) (λ e. ap (λ k. x ∷ k) (digits-take l)) (λ e. refl)
+
+pub digits-count : (l : List ℕ) → prefix_len digit l ≡ length (digits l)
+digits-count [] = refl
+digits-count (x ∷ l) = go (digit x) (digits-count l)
+  where
+    go :
+        (b : Bool) → prefix_len digit l ≡ length (digits l) →
+        cond b (1 + prefix_len digit l) 0 ≡ length {A = ℕ} (elim b [ true ↦ x ∷ digits l | false ↦ [] ])
+    go true e = omega arith
+    go false e = refl
 
 -- ---- from one place to the next
 one_on : (s : List ℕ) (i : ℕ) → i < length s → drop i s ≡ get_or s i 0 ∷ drop (i + 1) s

@@ -7,6 +7,7 @@ use Rattle.horner.specs.definitions.Form.{Form, int, pop, pow}
 use Rattle.text.specs.definitions.FormReading.{text, pop_head, pow_head}
 use Rattle.text.specs.definitions.Bytes.{decimal, write_int, value_from}
 use Rattle.text_laws.specs.laws.Numerals.{value-decimal}
+use Rattle.form_head.specs.declared.Kind.TheVariants.{Integer, Negative, Pop, Pow}
 use Rattle.form_head.specs.Heads.{digits, NoDigit, NumberAt, Stands, Standing, Headed}
 use Rattle.form_head.specs.laws.Digits.{digits-of, decimal-digits}
 
@@ -55,7 +56,7 @@ abbrev node_head : ℕ → ℕ → List ℕ
 node_head b i = 40 ∷ 80 ∷ 79 ∷ b ∷ 32 ∷ (decimal i ++ (32 ∷ []))
 
 module _ {s : List ℕ} (at : ℕ) {v n : ℕ} where
-  pub head-below : get_or s at 0 ≡ 45 → NumberAt s (at + 1) 1073741824 v n → Headed s at 1 v n
+  pub head-below : get_or s at 0 ≡ 45 → NumberAt s (at + 1) 1073741824 v n → Headed s at Negative v n
   head-below b N (int (pos k)) rest h = absurd (omega (arith, b, natural-byte s at k rest h.parts))
   head-below b N (int (negsuc k)) rest h =
       let m = number_is (suc k) rest N (drop-on s at (45 ∷ []) (decimal (suc k) ++ rest) h.parts) h.calm in
@@ -63,7 +64,7 @@ module _ {s : List ℕ} (at : ℕ) {v n : ℕ} where
   head-below b N (pop i p) rest h = absurd (omega (arith, b, first_byte s at _ h.parts))
   head-below b N (pow i p q) rest h = absurd (omega (arith, b, first_byte s at _ h.parts))
 
-  pub head-natural : (get_or s at 0 ≡ 45 → ⊥) → (get_or s at 0 ≡ 40 → ⊥) → NumberAt s at 1073741824 v n → Headed s at 0 v n
+  pub head-natural : (get_or s at 0 ≡ 45 → ⊥) → (get_or s at 0 ≡ 40 → ⊥) → NumberAt s at 1073741824 v n → Headed s at Integer v n
   head-natural b c N (int (pos k)) rest h =
       let m = number_is k rest N h.parts h.calm in
       record { is-kind = refl; is_number = m.0; is-next = m.1 }
@@ -79,7 +80,7 @@ module _ {s : List ℕ} (at : ℕ) {v n : ℕ} where
       let m = number_is i (32 ∷ tail) N f refl in
       (m.0, omega (arith, m.1, length-append (decimal i) (32 ∷ [])))
 
-  pub head-pop : get_or s at 0 ≡ 40 → get_or s (at + 3) 0 ≡ 80 → NumberAt s (at + 5) 64 v n → Headed s at 2 v (n + 1)
+  pub head-pop : get_or s at 0 ≡ 40 → get_or s (at + 3) 0 ≡ 80 → NumberAt s (at + 5) 64 v n → Headed s at Pop v (n + 1)
   head-pop b d N (int (pos k)) rest h = absurd (omega (arith, b, natural-byte s at k rest h.parts))
   head-pop b d N (int (negsuc k)) rest h = absurd (omega (arith, b, first_byte s at _ h.parts))
   head-pop b d N (pop i p) rest h =
@@ -87,7 +88,7 @@ module _ {s : List ℕ} (at : ℕ) {v n : ℕ} where
       record { is-kind = refl; is_number = m.0; is-next = m.1 }
   head-pop b d N (pow i p q) rest h = absurd (omega (arith, d, byte-on s at 3 _ h.parts))
 
-  pub head-pow : get_or s at 0 ≡ 40 → (get_or s (at + 3) 0 ≡ 80 → ⊥) → NumberAt s (at + 5) 64 v n → Headed s at 3 v (n + 1)
+  pub head-pow : get_or s at 0 ≡ 40 → (get_or s (at + 3) 0 ≡ 80 → ⊥) → NumberAt s (at + 5) 64 v n → Headed s at Pow v (n + 1)
   head-pow b d N (int (pos k)) rest h = absurd (omega (arith, b, natural-byte s at k rest h.parts))
   head-pow b d N (int (negsuc k)) rest h = absurd (omega (arith, b, first_byte s at _ h.parts))
   head-pow b d N (pop i p) rest h = absurd (d (byte-on s at 3 _ h.parts))

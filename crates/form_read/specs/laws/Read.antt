@@ -1,5 +1,5 @@
 -- The passes over a form's text, one after the other.
-use Rattle.std.specs.Prelude.{List, ◌++◌, refl, ℕ, ◌≤◌, ℤ, take}
+use Rattle.std.specs.Prelude.{Result, Ok, Err, List, ◌++◌, refl, ℕ, ◌≤◌, ℤ, take}
 use Rattle.std.proofs.Math.Path.{◌≡◌, ap}
 use Rattle.std.proofs.Common.{sym, subst, ◌∙◌, arith}
 use Rattle.std.proofs.lemmas.List.{take-append-le}
@@ -12,61 +12,57 @@ use Rattle.text.specs.definitions.FormReading.{accept_form, form_judged, read_fo
 use Rattle.measure.specs.declared.Measures.{Measures}
 use Rattle.measure.specs.Measure.{Small}
 use Rattle.form_syntax.specs.Answer.{form_syntax_of}
-use Rattle.form_syntax.specs.declared.FormSyntax.TheVariants as Syn
-use Rattle.form_build.specs.Answer.{IsRead, judged_of}
-use Rattle.form_build.specs.Build.{over_p, Accepted}
-use Rattle.form_build.specs.declared.FormJudged.TheVariants as J
+use Rattle.form_build.specs.Answer.{judged_of}
+use Rattle.form_build.specs.Build.{over_p}
 use Rattle.form_build.specs.laws.Accepted.{accepted-words, accepted-coded}
 use Rattle.form_build.specs.laws.Answered.{form-accepted, form-refused, accepted-small}
 use Rattle.form_read.specs.Read.{IsForm, FormRead, refusal, form}
-use Rattle.form_read.specs.declared.FormReading.{FormReading}
-use Rattle.form_read.specs.declared.FormReading.TheVariants.{Form, Refused}
+use Rattle.form_read.specs.declared.FormCode.{FormCode}
 
 -- ---- the syntax
 module _ (m : ℕ) (s : List ℕ) where
-  pub syntax-refused : (bad : Fault) → form_syntax_of (read_form s) ≡ Syn.Refused bad → J.Refused bad ≡ judged_of m (accept_form m s)
+  pub syntax_refused : (bad : Fault) → form_syntax_of (read_form s) ≡ Err bad → Err bad ≡ judged_of m (accept_form m s)
   unfolding accept_form
-  syntax-refused bad = go (read_form s)
+  syntax_refused bad = go (read_form s)
     where
-      go : (x : Reading (HForm ℤ)) → form_syntax_of x ≡ Syn.Refused bad → J.Refused bad ≡ judged_of m (onward x (form_judged m))
+      go : (x : Reading (HForm ℤ)) → form_syntax_of x ≡ Err bad → Err bad ≡ judged_of m (onward x (form_judged m))
       go (read f) h = absurd (let z : ◌≡◌ {A = ℕ} 0 1 = cc in omega arith)
-      go (refused worse) h = let i : bad ≡ worse = cc in ap J.Refused i
-
-pub syntax-read : (s : List ℕ) → form_syntax_of (read_form s) ≡ Syn.Form → IsRead s
-syntax-read s = go (read_form s) refl
-  where
-    go : (x : Reading (HForm ℤ)) → read_form s ≡ x → form_syntax_of x ≡ Syn.Form → IsRead s
-    go (read f) e h = record { f = f; is = e }
-    go (refused bad) e h = absurd (let z : ◌≡◌ {A = ℕ} 0 1 = cc in omega arith)
+      go (refused worse) h = let i : bad ≡ worse = cc in ap Err i
 
 -- ---- the judging
 module _ (m : ℕ) (s : List ℕ) where
-  pub judged-refused : (bad : Fault) (l : List ℕ) → judged_of m (accept_form m s) ≡ J.Refused bad → FormRead m s (Refused bad) l
+  pub judged-refused : (bad : Fault) (l : List ℕ) → judged_of m (accept_form m s) ≡ Err bad → FormRead m s (Err bad) l
   judged-refused bad l h = refusal bad (form-refused m s bad (sym h)) refl
-
-  pub judged-accepted : (a : Measures) → judged_of m (accept_form m s) ≡ J.Form a → Accepted m s
-  judged-accepted a h = let A = form-accepted m s a (sym h) in record { f = A.f; is = A.is }
 
 -- what stands at the front of a table stands there also where more follows
 begins-front : {r : ℕ} {w : List ℕ} (l k : List ℕ) → Begins r w l → Begins r w (l ++ k)
 begins-front {r} l k b = record { size = b.size; is = take-append-le r l k (begins-le b) ∙ b.is }
 
-pub built : (m : ℕ) (s : List ℕ) (a : Measures) {n : ℕ} (l k : List ℕ) → judged_of m (accept_form m s) ≡ J.Form a
-    → ((f : HForm ℤ) → accept_form m s ≡ read f → Made 0 (over_p f) n l) → FormRead m s (Form a n) (l ++ k)
+pub built : (m : ℕ) (s : List ℕ) (a : Measures) {n : ℕ} (l k : List ℕ) → judged_of m (accept_form m s) ≡ Ok a
+    → ((f : HForm ℤ) → accept_form m s ≡ read f → Made 0 (over_p f) n l) → FormRead m s (Ok (record { measures = a; words = n })) (l ++ k)
 built m s a {n} l k h b =
     let A = form-accepted m s a (sym h) in
     form a n (record { f = A.f; accepted = A.is; found = A.found; made = begins-front l k (b A.f A.is) }) refl
 
 -- ---- what was read, by the enum
-no-form : {P : Type 0} {a : Measures} {n : ℕ} {bad : Fault} → ◌≡◌ {A = FormReading} (Form a n) (Refused bad) → P
+no-form :
+    {P : Type 0} {a : Measures} {n : ℕ} {bad : Fault} →
+    ◌≡◌ {A = Result FormCode Fault} (Ok (record { measures = a; words = n })) (Err bad) → P
 no-form h = absurd (let z : ◌≡◌ {A = ℕ} 0 1 = cc in omega arith)
 
-pub read-form : {m : ℕ} {s l : List ℕ} {a : Measures} {n : ℕ} {r : FormReading} → r ≡ Form a n → FormRead m s r l → IsForm m s a n l
+pub read-form :
+    {m : ℕ} {s l : List ℕ} {a : Measures} {n : ℕ} {r : Result FormCode Fault} →
+    r ≡ Ok (record { measures = a; words = n }) → FormRead m s r l →
+    IsForm m s a n l
 read-form h (refusal bad x i) = no-form (sym h ∙ i)
-read-form {a = a} {n} h (form b k t i) = let d : b ≡ a = cc in let e : k ≡ n = cc in rw (d, e) at t
+read-form {a = a} {n} h (form b k t i) =
+    let q : ◌≡◌ {A = FormCode} (record { measures = b; words = k }) (record { measures = a; words = n }) = cc in
+    let d : b ≡ a = ap (λ (c : FormCode). c.measures) q in
+    let e : k ≡ n = ap (λ (c : FormCode). c.words) q in
+    rw (d, e) at t
 
 pub read-refusal :
-    {m : ℕ} {s l : List ℕ} {bad : Fault} {r : FormReading} → r ≡ Refused bad → FormRead m s r l → accept_form m s ≡ refused bad
+    {m : ℕ} {s l : List ℕ} {bad : Fault} {r : Result FormCode Fault} → r ≡ Err bad → FormRead m s r l → accept_form m s ≡ refused bad
 read-refusal h (form a n t i) = no-form (sym i ∙ h)
 read-refusal {bad = bad} h (refusal worse a i) = let j : worse ≡ bad = cc in a ∙ ap refused j
 

@@ -15,4 +15,4 @@ returns-then-is_at c =
 
 pub returns : goal.returns
 returns c =
-    expect-no c.args.s.now _ _ (sym c.is_at.ensures ∙ c.if-is_at.false)
+    rw c.unexpected.ensures (expect-no c.args.s.now _ _ (sym c.is_at.ensures ∙ c.if-is_at.false))

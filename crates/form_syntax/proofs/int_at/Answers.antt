@@ -2,13 +2,8 @@
 use Rattle.std.proofs.Common.{sym, arith}
 use Rattle.std.proofs.Math.Path.{◌∙◌}
 use Rattle.form_syntax.specs.laws.Steps.{at-inside}
-use Rattle.form_syntax.specs.laws.Numbers.{int-natural, int-zero, int-signed}
+use Rattle.form_syntax.specs.laws.Numbers.{int-zero, int-signed}
 use Rattle.form_syntax.proofs.int_at.Goals as goal
-
-pub returns-then-not-is_at : goal.returns-then-not-is_at
-returns-then-not-is_at c =
-    int-natural c.args.s.now _ _ c.requires (sym c.is_at.ensures ∙ c.if-not-is_at.true)
-    c.natural_at.ensures
 
 pub overflow_add-i : goal.overflow_add-i
 overflow_add-i c =
@@ -19,8 +14,8 @@ overflow_add-i c =
 
 pub returns-then-is_at : goal.returns-then-is_at
 returns-then-is_at c =
-    int-zero c.args.s.now _ (sym c.is_at.ensures ∙ c.if-not-is_at.false)
-    (sym c.is_at-2.ensures ∙ c.if-is_at.true)
+    rw c.unexpected.ensures (int-zero c.args.s.now _ (sym c.is_at.ensures ∙ c.if-not-is_at.false)
+    (sym c.is_at-2.ensures ∙ c.if-is_at.true))
 
 pub returns : goal.returns
 returns c =

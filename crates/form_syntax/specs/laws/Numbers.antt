@@ -1,15 +1,16 @@
 -- Digits, and integers without a sign.
-use Rattle.std.specs.Prelude.{◌≡◌, refl, ◌⊎◌, Bool, true, false, cond, not, ◌&&◌, List, [], ◌∷◌, ℕ, ◌+◌, ◌≤◌, ◌<◌, eqb, length, get_or}
-use Rattle.std.proofs.Common.{sym, ap, ap₂, ◌∙◌, inl, inr, arith, eq-eqb, ne_eqb}
+use Rattle.std.specs.Prelude.{Result, Ok, Err, ◌≡◌, refl, ◌⊎◌, Bool, true, false, cond, not, ◌&&◌, List, [], ◌∷◌, ℕ, zero, suc, ◌+◌, ◌-◌, ◌≤◌, ◌<◌, eqb, length, get_or, drop}
+use Rattle.std.proofs.Common.{sym, ap, ap₂, subst, ◌∙◌, inl, inr, arith, eq-eqb, ne_eqb}
 use Rattle.refusal.specs.Refusal.{fault}
 use Rattle.horner.proofs.laws.Compare.{lt-or-ge}
+use Rattle.refusal.specs.declared.Fault.{Fault}
 use Rattle.text.specs.definitions.Bytes.{digit}
 use Rattle.text.specs.definitions.FormReading.{Kind}
 use Rattle.text.specs.program.FormKinds.{start, sign, zero_int, digits, open0, before-i, zero-i, digits-i, done, Wait, moved, stuck}
 use Rattle.text.specs.program.FormKinds.{pushed, leave, first, move, is_whole, check}
 use Rattle.text_laws.specs.laws.Bytes.{digit-range, not-both}
-use Rattle.form_syntax.specs.declared.Part.{Part}
-use Rattle.form_syntax.specs.declared.Part.TheVariants.{On, Off}
+use Rattle.form_head.specs.Heads.{digits as leading}
+use Rattle.form_head.specs.laws.Digits.{digits-on, digits-off, digits-stop}
 use Rattle.form_syntax.specs.Found.{room, from, is_at, DigitsAt, NaturalAt, IntAt}
 use Rattle.form_syntax.specs.laws.Steps.{at-inside, at_byte, is_byte, within-from, step, stops, ends, step-at, alike, alike_end}
 
@@ -65,6 +66,24 @@ module _ (s : List ℕ) (at i : ℕ) (r : Running s at i) where
       whole [] = refl
       whole (w ∷ ws) = refl
 
+-- the digits that stand at a place
+pub digits-found : (s : List ℕ) (at : ℕ) → at ≤ length s → DigitsAt s at (at + length (leading (drop at s)))
+digits-found s at h = go (length s - at) at (running-start s at h) refl
+  where
+    go : (n i : ℕ) → Running s at i → length s - i ≡ n → DigitsAt s at (i + length (leading (drop i s)))
+    go zero i r e = subst (DigitsAt s at) (sym (digits-stop s i (omega arith))) (running-end s at i r (omega arith))
+    go (suc n) i r e = by (digit (get_or s i 0)) refl (go n (i + 1))
+      where
+        inside : i < length s
+        inside = omega arith
+
+        by :
+            (b : Bool) → digit (get_or s i 0) ≡ b →
+            (Running s at (i + 1) → length s - (i + 1) ≡ n → DigitsAt s at (i + 1 + length (leading (drop (i + 1) s)))) →
+            DigitsAt s at (i + length (leading (drop i s)))
+        by true d f = subst (DigitsAt s at) (sym (digits-on s i inside d)) (f (running-on s at i r inside d) (omega arith))
+        by false d f = subst (DigitsAt s at) (sym (digits-off s i inside d)) (running-off s at i r inside d)
+
 -- ---- an integer without a sign
 whole-zero : (ws : List Wait) → is_whole zero_int ws ≡ is_whole done ws
 whole-zero [] = refl
@@ -93,7 +112,7 @@ sign-move x ws true z e = ap₂ (λ (a b : Bool). cond (a && not b) (moved digit
 sign-move x ws false z e = ap₂ (λ (a b : Bool). cond (a && not b) (moved digits ws) stuck) e z
 
 module _ (s : List ℕ) (at : ℕ) where
-  pub natural-end : length s ≤ at → NaturalAt s at (Off (fault 4 at))
+  pub natural-end : length s ≤ at → NaturalAt s at (Err (fault 4 at))
   natural-end h = record {
     within = tt;
     index = λ k ws. record { leads = ends s at (before-i k) ws h refl };
@@ -101,7 +120,7 @@ module _ (s : List ℕ) (at : ℕ) where
     signed = λ z ws. record { leads = ends s at sign ws h refl };
   }
 
-  pub natural-zero : at < length s → get_or s at 0 ≡ 48 → NaturalAt s at (On (at + 1))
+  pub natural-zero : at < length s → get_or s at 0 ≡ 48 → NaturalAt s at (Ok (at + 1))
   natural-zero h e = record {
     within = (omega arith, omega arith);
     index = λ k ws. record { leads = step s at (before-i k) ws h (ap (move (before-i k) ws) e) refl };
@@ -131,7 +150,7 @@ module _ (s : List ℕ) (at : ℕ) where
         start_move (get_or s at 0) ws (none 40 o) (none 45 m)
         ∙ ap₂ (λ (x y : Bool). cond x (moved zero_int ws) (cond y (moved digits ws) stuck)) none-48 e
 
-    pub natural-none : digit (get_or s at 0) ≡ false → NaturalAt s at (Off (fault 4 at))
+    pub natural-none : digit (get_or s at 0) ≡ false → NaturalAt s at (Err (fault 4 at))
     natural-none d = record {
       within = tt;
       index = λ k ws. record { leads = stops s at (before-i k) ws h (index_goes k ws d) };
@@ -139,7 +158,7 @@ module _ (s : List ℕ) (at : ℕ) where
       signed = λ z ws. record { leads = stops s at sign ws h (sign-move (get_or s at 0) ws false none-48 d) };
     }
 
-    pub natural-more : (e : ℕ) → digit (get_or s at 0) ≡ true → DigitsAt s (at + 1) e → NaturalAt s at (On e)
+    pub natural-more : (e : ℕ) → digit (get_or s at 0) ≡ true → DigitsAt s (at + 1) e → NaturalAt s at (Ok e)
     natural-more e d r = record {
       within = (omega (arith, r.more), r.inside);
       index = λ k ws. record { leads = step s at (before-i k) ws h (index_goes k ws d) refl ∙ r.index k ws };
@@ -151,14 +170,11 @@ module _ (s : List ℕ) (at : ℕ) where
 
 -- ---- an integer
 module _ (s : List ℕ) (at : ℕ) where
-  pub int-natural : (r : Part) → is_at s at 40 ≡ false → is_at s at 45 ≡ false → NaturalAt s at r → IntAt s at r
-  int-natural r o m n = record { within = n.within; takes = n.number o m }
-
   module _ (h : is_at s at 45 ≡ true) where
     minus : (ws : List Wait) → from s at start ws ≡ from s (at + 1) sign ws
     minus ws = step-at s at start ws 45 h refl refl
 
-    pub int-zero : is_at s (at + 1) 48 ≡ true → IntAt s at (Off (fault 4 (at + 1)))
+    pub int-zero : is_at s (at + 1) 48 ≡ true → IntAt s at (Err (fault 4 (at + 1)))
     int-zero z = record {
       within = tt;
       takes =
@@ -166,7 +182,7 @@ module _ (s : List ℕ) (at : ℕ) where
           { leads = minus ws ∙ stops s (at + 1) sign ws (at-inside s (at + 1) 48 z) (ap (move sign ws) (at_byte s (at + 1) 48 z)) };
     }
 
-    pub int-signed : (r : Part) → is_at s (at + 1) 48 ≡ false → NaturalAt s (at + 1) r → IntAt s at r
+    pub int-signed : (r : Result ℕ Fault) → is_at s (at + 1) 48 ≡ false → NaturalAt s (at + 1) r → IntAt s at r
     int-signed r z n = record {
       within = within-from s at (at + 1) r (omega arith) n.within;
       takes = λ ws. record { leads = minus ws ∙ (n.signed z ws).leads };

@@ -1,5 +1,5 @@
 -- The walk over a form's text, one byte on.
-use Rattle.std.specs.Prelude.{◌≡◌, Bool, true, false, ◌&&◌, ℕ, ◌+◌, ◌≤◌, ◌<◌, ltb, length, get_or, drop}
+use Rattle.std.specs.Prelude.{Result, Ok, Err, ◌≡◌, Bool, true, false, ◌&&◌, ℕ, ◌+◌, ◌≤◌, ◌<◌, ltb, length, get_or, drop}
 use Rattle.std.proofs.Common.{sym, ap₂, subst, ◌∙◌, arith, add-one, drop_of_length-le}
 use Rattle.std.proofs.Math.Path.{ap}
 use mathlib.Core.List.{List}
@@ -10,8 +10,6 @@ use Rattle.text.specs.definitions.Bytes.{Reading, refused_at, fine}
 use Rattle.text.specs.program.FormKinds.{Stand, Wait, Move, moved, stuck, move, is_whole, case_move, check, ended, walk}
 use Rattle.text_laws.specs.laws.Bytes.{and_l, and_r}
 use Rattle.text_word.proofs.Walk.{one_on}
-use Rattle.form_syntax.specs.declared.Part.{Part}
-use Rattle.form_syntax.specs.declared.Part.TheVariants.{On, Off}
 use Rattle.form_syntax.specs.Found.{room, from, is_at, after, Within, Takes}
 
 -- ---- a byte at a place
@@ -33,19 +31,19 @@ module _ (s : List ℕ) (p x : ℕ) where
   is-end h = ap (λ (b : Bool). b && eqb (get_or s p 0) x) (le-ltb p (length s) h)
 
 -- ---- a part
-pub within-from : (s : List ℕ) (at p : ℕ) (r : Part) → at ≤ p → Within s p r → Within s at r
-within-from s at p (On e) h w = (omega (arith, w.0), w.1)
-within-from s at p (Off bad) h w = tt
+pub within-from : (s : List ℕ) (at p : ℕ) (r : Result ℕ Fault) → at ≤ p → Within s p r → Within s at r
+within-from s at p (Ok e) h w = (omega (arith, w.0), w.1)
+within-from s at p (Err bad) h w = tt
 
-pub within_on : (s : List ℕ) (at e : ℕ) (x : Part) → x ≡ On e → Within s at x → (at < e) × (e ≤ length s)
+pub within_on : (s : List ℕ) (at e : ℕ) (x : Result ℕ Fault) → x ≡ Ok e → Within s at x → (at < e) × (e ≤ length s)
 within_on s at e x q w = subst (Within s at) q w
 
 -- the part x, and then the part r; or x is refused
-module _ {s : List ℕ} {at : ℕ} {x : Part} {a b c : Stand} {us vs ws : List Wait} where
-  pub on : {p : ℕ} {r : Part} → x ≡ On p → Takes s at x a us b vs → Takes s p r b vs c ws → Takes s at r a us c ws
+module _ {s : List ℕ} {at : ℕ} {x : Result ℕ Fault} {a b c : Stand} {us vs ws : List Wait} where
+  pub on : {p : ℕ} {r : Result ℕ Fault} → x ≡ Ok p → Takes s at x a us b vs → Takes s p r b vs c ws → Takes s at r a us c ws
   on q t u = record { leads = t.leads ∙ ap (λ z. after z (λ e. from s e b vs)) q ∙ u.leads }
 
-  pub off : {bad : Fault} → x ≡ Off bad → Takes s at x a us b vs → Takes s at x a us c ws
+  pub off : {bad : Fault} → x ≡ Err bad → Takes s at x a us b vs → Takes s at x a us c ws
   off q t = record { leads = t.leads ∙ ap (λ z. after z (λ e. from s e b vs)) q ∙ sym (ap (λ z. after z (λ e. from s e c ws)) q) }
 
 -- ---- the walk at a place

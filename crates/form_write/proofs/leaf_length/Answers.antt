@@ -1,5 +1,4 @@
 -- `form_write::leaf_length` meets its contract: a leaf above half of P has a sign.
--- Assumes nothing.
 use Rattle.std.proofs.Common.{sym, arith, ◌-◌}
 use Rattle.std.proofs.Math.Path.{◌∙◌}
 use Rattle.form_write.specs.laws.Sizes.{leaf-length-plain, leaf-length-minus, numeral-most}

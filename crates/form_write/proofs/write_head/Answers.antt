@@ -1,5 +1,4 @@
 -- `form_write::write_head` meets its contract: five bytes, a numeral, a space.
--- Assumes nothing.
 use Rattle.std.proofs.Common.{arith, length-set}
 use Rattle.form_write.specs.laws.Sizes.{head-length}
 use Rattle.form_write.specs.laws.Wrote.{wrote_on, wrote-room, wrote-length}
@@ -39,10 +38,6 @@ write_number-n-requires c =
     let l = head-length c.args.c c.args.i in
     omega (arith, c.requires, l, wrote-room (wrote-five c.args.c c.args.out.now (omega (arith, c.requires, l))))
 
-pub overflow_add-e : goal.overflow_add-e
-overflow_add-e c =
-    omega (arith, c.requires, head-length c.args.c c.args.i, c.write_number-n.ensures.size)
-
 pub bounds-out-e : goal.bounds-out-e
 bounds-out-e c =
     let l = head-length c.args.c c.args.i in
@@ -54,16 +49,6 @@ bounds-out-e c =
       c.write_number-n.ensures.size,
       wrote-length (wrote_on f c.write_number-n.ensures),
     )
-
-pub overflow_add-result : goal.overflow_add-result
-overflow_add-result c =
-    omega (arith, c.requires, head-length c.args.c c.args.i, c.write_number-n.ensures.size)
-
-pub shape_of-out : goal.shape_of-out
-shape_of-out c =
-    wrote-length (wrote-head c.args.c c.args.i c.args.out.now c.write_number-n.new.out
-    (omega (arith, c.requires, head-length c.args.c c.args.i, c.write_number-n.ensures.size))
-    c.write_number-n.ensures)
 
 pub returns : goal.returns
 returns c =

@@ -1,7 +1,5 @@
 -- `form_write::write_leaf` meets its contract: a leaf above half of P is written as a sign and what it lacks of P.
--- Assumes nothing.
 use Rattle.std.proofs.Common.{arith, length-set}
-use Rattle.std.proofs.Math.Path.{◌∙◌}
 use Rattle.form_write.specs.laws.Sizes.{leaf-length-plain, leaf-length-minus}
 use Rattle.form_write.specs.laws.Texts.{leaf-plain, leaf-minus}
 use Rattle.form_write.specs.laws.Wrote.{wrote_none, wrote_as, wrote-byte, wrote_on, wrote-room}
@@ -19,10 +17,6 @@ pub bounds-out-0 : goal.bounds-out-0
 bounds-out-0 c =
     omega (arith, leaf-length-minus c.args.x c.if-x-le-HALF.false c.requires.x_bound, c.requires.x_in_bounds)
 
-pub overflow_cast-x-2 : goal.overflow_cast-x-2
-overflow_cast-x-2 c =
-    omega arith
-
 pub slice_bounds-write_number-count : goal.slice_bounds-write_number-count
 slice_bounds-write_number-count c =
     simp length-set (omega (arith, leaf-length-minus c.args.x c.if-x-le-HALF.false c.requires.x_bound, c.requires.x_in_bounds))
@@ -35,19 +29,6 @@ pub write_number-n-requires : goal.write_number-n-requires
 write_number-n-requires c =
     let l = leaf-length-minus c.args.x c.if-x-le-HALF.false c.requires.x_bound in
     omega (arith, l, c.requires.x_in_bounds, wrote-room (wrote-byte (wrote_none c.args.out.now) 45 (omega (arith, l, c.requires.x_in_bounds))))
-
-pub overflow_add-result : goal.overflow_add-result
-overflow_add-result c =
-    omega (
-      arith,
-      c.write_number-n.ensures.size,
-      leaf-length-minus c.args.x c.if-x-le-HALF.false c.requires.x_bound,
-      c.requires.x_in_bounds,
-    )
-
-pub shape_of-out : goal.shape_of-out
-shape_of-out c =
-    c.out-2-1.given.1 ∙ length-set c.args.out.now 0 45
 
 pub returns : goal.returns
 returns c =

@@ -1,5 +1,5 @@
 -- How many bytes the texts take: a numeral at most 10, a leaf at most 11, a form at most 11 for each word of its code.
-use Rattle.std.specs.Prelude.{List, [], ◌∷◌, Bool, true, false, ◌≡◌, refl, ℕ, ◌+◌, ◌-◌, ◌/◌, ◌%◌, ◌*◌, ◌≤◌, ◌<◌, leb, length, get_or}
+use Rattle.std.specs.Prelude.{List, [], ◌∷◌, Bool, true, false, ◌≡◌, refl, ℕ, zero, suc, ◌+◌, ◌-◌, ◌/◌, ◌%◌, ◌*◌, ◌^◌, ◌≤◌, ◌<◌, max, leb, length, get_or}
 use Rattle.std.proofs.Common.{sym, ap, ◌∙◌, arith, leb-true, leb-false, length-append}
 use Rattle.text_laws.specs.laws.Length.{decimal-length}
 use Rattle.text_laws.specs.laws.Numerals.{decimal-short, decimal-long, short-or-long}
@@ -24,6 +24,16 @@ numeral-most n h = decimal-length 9 n (omega arith)
 
 pub numeral-some : (n : ℕ) → 0 < length (numeral n)
 numeral-some n = short-or-long n (0 < length (numeral n)) (λ s. omega (arith, numeral-short n s)) (λ l. omega (arith, numeral-long n l))
+
+-- a power of ten has one digit more than its exponent
+pub numeral_log : (k n : ℕ) → 10 ^ k ≤ n → n < 10 * 10 ^ k → length (numeral n) ≡ k + 1
+numeral_log zero n l h = omega (arith, numeral-short n (omega arith))
+numeral_log (suc k) n l h = omega (arith, numeral-long n (omega arith), numeral_log k (n / 10) (omega arith) (omega arith))
+
+pub numeral_log_or_1 : (k n m : ℕ) → m ≡ max n 1 → 10 ^ k ≤ m → m < 10 * 10 ^ k → length (numeral n) ≡ k + 1
+numeral_log_or_1 k zero m e l h =
+    omega (arith, numeral-short 0 (omega arith), numeral-short 1 (omega arith), numeral_log k 1 (omega arith) (omega arith))
+numeral_log_or_1 k (suc n) m e l h = numeral_log k (suc n) (omega arith) (omega arith)
 
 pub head-length : (c i : ℕ) → length (head_text c i) ≡ length (numeral i) + 6
 unfolding head_text

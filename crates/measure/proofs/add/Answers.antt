@@ -5,5 +5,5 @@ use Rattle.measure.proofs.add.Goals as goal
 
 pub returns : goal.returns
 returns c =
-    made (min (c.args.a.terms + c.args.b.terms)) refl c.larger-d0.ensures c.larger-d1.ensures c.larger-d2.ensures
-    c.larger-d3.ensures c.box_of.ensures c.lesser.ensures
+    made (min (c.args.a.terms + c.args.b.terms)) refl c.max-d0.ensures c.max-d1.ensures c.max-d2.ensures
+    c.max-d3.ensures c.box_of.ensures c.min.ensures

@@ -13,4 +13,4 @@ overflow_mul-a c =
 pub returns : goal.returns
 returns c =
     made (min (c.args.a.terms * c.args.b.terms)) c.cut_product.ensures refl refl refl refl
-    c.box_of.ensures c.lesser.ensures
+    c.box_of.ensures c.min.ensures

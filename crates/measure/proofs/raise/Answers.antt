@@ -34,4 +34,4 @@ pub returns : goal.returns
 returns c =
     made (λ x. min (min (c.args.a.terms ^ c.args.k) 16777216) x) c.cut_power.ensures refl refl refl refl
     c.box_of.ensures
-    (c.lesser.ensures ∙ ap (λ m. min m c.box_of.result) c.cut_power-2.ensures)
+    (c.min.ensures ∙ ap (λ m. min m c.box_of.result) c.cut_power-2.ensures)

@@ -7,16 +7,10 @@ use Rattle.horner.specs.definitions.Rings.{ℤ_ring, remainder_by, prime}
 use Rattle.horner.specs.definitions.Points.{point_of, leaves}
 use Rattle.horner.specs.definitions.Term.{norm_ℤ, eval_ℤ, Term, diff}
 use Rattle.refusal.specs.declared.Side.TheVariants.{Left, Right}
-use Rattle.reply.specs.declared.Compared.{Compared}
-use Rattle.reply.specs.declared.Compared.TheVariants as C
-use Rattle.reply.specs.declared.Counted.{Counted}
-use Rattle.reply.specs.declared.Counted.TheVariants as D
-use Rattle.reply.specs.declared.Judged.{Judged}
-use Rattle.reply.specs.declared.Judged.TheVariants as J
-use Rattle.reply.specs.declared.Remaindered.{Remaindered}
-use Rattle.reply.specs.declared.Written.{Written}
+use Rattle.reply.specs.declared.Comparison.{Comparison}
+use Rattle.reply.specs.declared.Comparison.TheVariants as C
 use Rattle.reply.specs.definitions.Reply.{Reply, gives, asked, read_as, opened, fitted, Work, lengths, Writes, Remainders, refuses}
-use Rattle.reply.specs.definitions.Reply.{said, over, work_after}
+use Rattle.reply.specs.definitions.Reply.{Told, told, Written, Remaindered, Judged, Counted, said, over, work_after}
 use Rattle.text.specs.definitions.Bytes.{all, is_row, same}
 use Rattle.text.specs.definitions.FormReading.{accept_form, text}
 use Rattle.text.specs.definitions.Limits.{accept_term}
@@ -52,12 +46,8 @@ RemainderCall row s N r w w' = Remainders (remainder_reply row (lengths w) s N) 
 unfoldable pub judge_reply : (row s : List ℕ) → Reply (Unit {0})
 judge_reply row s = asked (is_row row) 1 (λ u. read_as Left (accept_form (length row) s) (λ f. gives tt))
 
-abbrev pub told_judged : Judged → Reply (Unit {0})
-told_judged J.Form = gives tt
-told_judged (J.Refused bad) = refuses bad
-
 pub record JudgeCall (row s : List ℕ) (r : Judged) : Type 0 where
-  pub answer : told_judged r ≡ judge_reply row s
+  pub answer : told r ≡ judge_reply row s
 
 -- ---- the measures of a result
 -- degrees, weight and terms, before terms are cut down to the box
@@ -171,10 +161,15 @@ abbrev pub remainders : Verdict → Option (ℕ × ℕ)
 remainders equal = none
 remainders (different N l r) = some (l, r)
 
+abbrev pub Compared : Type 0
+Compared = Told Comparison
+
+abbrev pub remainders_told : Comparison → Option (ℕ × ℕ)
+remainders_told C.Same = none
+remainders_told (C.Different l r) = some (l, r)
+
 abbrev pub told_compared : Compared → Reply (Option (ℕ × ℕ))
-told_compared C.Same = gives none
-told_compared (C.Different l r) = gives (some (l, r))
-told_compared (C.Refused bad) = refuses bad
+told_compared r = said remainders_told (told r)
 
 pub record Compares (x : Reply Verdict) (r : Compared) (p p' : List ℕ) (w w' : Work) : Type 0 where
   pub answer : told_compared r ≡ said remainders x
@@ -201,13 +196,8 @@ counters_of row w s t =
 unfoldable pub counters_reply : (row lengths : List ℕ) (w : ℕ) (s t : List ℕ) → Reply Bool
 counters_reply row lengths w s t = opened row lengths (λ u. asked (is_width w) 14 (λ v. counters_of row w s t))
 
-abbrev pub told_counted : Counted → Reply Bool
-told_counted D.Same = gives true
-told_counted D.Different = gives false
-told_counted (D.Refused bad) = refuses bad
-
 pub record Counts (x : Reply Bool) (r : Counted) (w w' : Work) : Type 0 where
-  pub answer : told_counted r ≡ x
+  pub answer : told r ≡ x
   pub tables : w' ≡ work_after x w
 
 abbrev pub CountersCall : (row : List ℕ) (width : ℕ) (s t : List ℕ) (r : Counted) (w w' : Work) → Type 0

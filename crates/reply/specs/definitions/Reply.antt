@@ -1,17 +1,35 @@
 -- What a call replies, and what every lent buffer holds afterwards.
-use Rattle.std.specs.Prelude.{Bool, true, false, cond, ◌&&◌, List, [], ◌∷◌, ◌++◌, ◌≡◌, ℕ, leb, length, drop, replicate}
+use Rattle.std.specs.Prelude.{Result, Ok, Err, Bool, true, false, cond, ◌&&◌, List, [], ◌∷◌, ◌++◌, ◌≡◌, ℕ, leb, length, drop, replicate}
 use Rattle.refusal.specs.Refusal.{on_side, of_neither}
 use Rattle.refusal.specs.declared.Refusal.{Refusal}
 use Rattle.refusal.specs.declared.Side.{Side}
 use Rattle.text.specs.definitions.Bytes.{Reading, read, refused, is_row}
-use Rattle.reply.specs.declared.Remaindered.{Remaindered}
-use Rattle.reply.specs.declared.Remaindered.TheVariants as R
-use Rattle.reply.specs.declared.Written.{Written}
-use Rattle.reply.specs.declared.Written.TheVariants as W
 
 pub data Reply (A : Type 0) : Type 0 where
   gives : A → Reply A
   refuses : Refusal → Reply A
+
+-- what the code answers with: a value or the refusal
+abbrev pub Told : Type 0 → Type 0
+Told A = Result A Refusal
+
+abbrev pub told : {A : Type 0} → Told A → Reply A
+told (Ok a) = gives a
+told (Err bad) = refuses bad
+
+-- "Where an answer is an enum, a definition gives this paper's number and values for each case of the enum": the bytes written, the remainder,
+-- that the text is a form, whether two terms are the same as counters
+abbrev pub Written : Type 0
+Written = Told ℕ
+
+abbrev pub Remaindered : Type 0
+Remaindered = Told ℕ
+
+abbrev pub Judged : Type 0
+Judged = Told (Unit {0})
+
+abbrev pub Counted : Type 0
+Counted = Told Bool
 
 -- what is said of the value that is given
 abbrev pub said : {A B : Type 0} → (A → B) → Reply A → Reply B
@@ -80,20 +98,11 @@ result_after (gives w) b = over w b
 result_after (refuses bad) b = b
 
 -- ---- contracts: "what it answers and what every lent buffer then holds"; b and w when the call begins, b' and w' when it ends
--- "Where an answer is an enum, a definition gives this paper's number and values for each case of the enum": here, the bytes written
-abbrev pub told_written : Written → Reply ℕ
-told_written (W.Text n) = gives n
-told_written (W.Refused bad) = refuses bad
-
 pub record Writes (x : Reply (List ℕ)) (r : Written) (b b' : List ℕ) (w w' : Work) : Type 0 where
-  pub answer : told_written r ≡ said length x
+  pub answer : told r ≡ said length x
   pub result : b' ≡ result_after x b
   pub tables : w' ≡ work_after x w
 
-abbrev pub told_remainder : Remaindered → Reply ℕ
-told_remainder (R.Remainder n) = gives n
-told_remainder (R.Refused bad) = refuses bad
-
 pub record Remainders (x : Reply ℕ) (r : Remaindered) (w w' : Work) : Type 0 where
-  pub answer : told_remainder r ≡ x
+  pub answer : told r ≡ x
   pub tables : w' ≡ work_after x w

@@ -1,24 +1,19 @@
--- `run_code::cut` meets its contract. The loop's invariant: the keys of the words passed are from limit on.
+-- `run_code::cut` meets its contract: the keys fall, so that those from limit on stand in front.
 -- Assumes nothing.
-use Rattle.std.proofs.Common.{◌-◌, arith}
-use Rattle.run_code.specs.laws.Cutting.{even-two, cut_on, cut-here, cut-end}
+use Rattle.std.proofs.Common.{rules, of_calls, arith, sym, subst, length, ℕ, ◌/◌, ◌≡◌, true, false}
+use Rattle.std.specs.List.Sorted.{IsPartitionedBy, IsPartitionPoint}
+use Rattle.std.proofs.lemmas.List.Sorted.{IsPartitionPoint-from_clause}
+use Rattle.run_code.proofs.Chunks.{from-limit, parted, cut-found}
 use Rattle.run_code.proofs.cut.Goals as goal
-
-pub loop-e-init : goal.loop-e-init
-loop-e-init c =
-    (tt, omega arith, tt)
-
-pub returns-then-x-e : goal.returns-then-x-e
-returns-then-x-e c =
-    cut-here c.args.limit c.args.x.now c.loop-e.e c.loop-e.invariant.0 (omega arith) c.loop-e.invariant.2 (omega arith) c.requires
-
-pub loop-e-preserved : goal.loop-e-preserved
-loop-e-preserved c = (
-  even-two c.loop-e.e c.loop-e.invariant.0,
-  omega arith,
-  cut_on c.args.limit c.args.x.now c.loop-e.e c.loop-e.invariant.0 (omega arith) c.loop-e.invariant.2 (omega arith),
-)
 
 pub returns : goal.returns
 returns c =
-    cut-end c.args.limit c.args.x.now c.loop-e.e c.loop-e.invariant.0 c.loop-e.invariant.1 (omega arith) c.loop-e.invariant.2
+    let limit : ℕ = c.args.limit in
+    let k : ℕ = length c.args.x.now / 2 in
+    let front = c.as_chunks.ensures.front in
+    let found = IsPartitionPoint-from_clause (from-limit limit) _ _ c.partition_point.ensures.partitioned
+    (subst (IsPartitionedBy (from-limit limit)) (sym front) (parted limit c.args.x.now c.requires k (omega arith)))
+    (λ a r f t. search (rules, of_calls)) in
+    cut-found limit c.args.x.now c.requires k c.partition_point.result (omega arith) (omega arith)
+    (omega (arith, c.partition_point.ensures.bound, c.as_chunks.ensures.front_len))
+    (subst (λ l. IsPartitionPoint (λ m. from-limit limit m ≡ true) (λ m. from-limit limit m ≡ false) l c.partition_point.result) front found)

@@ -16,12 +16,6 @@ use Rattle.run_code.specs.laws.Digits.{unit-pos}
 use Rattle.run_code.specs.laws.Parts.{each-front, each_back, falls-front, falls-back, placed-front, placed-back, form-pow, form-pop}
 use Rattle.run_code.specs.laws.Parts.{form-none, form-leaf, form-leads, words-pow, words-pop}
 
--- even numbers
-pub even-two : (e : ℕ) → Even e → Even (e + 2)
-even-two e h =
-    let q : suc (suc e) ≡ e + 2 = omega arith in
-    subst Even q h
-
 even-less : (e : ℕ) → Even e → (e ≡ 0 → ⊥) → (2 ≤ e) × Even (e - 2)
 even-less zero h g = absurd (g refl)
 even-less (suc zero) h g = absurd h

@@ -1,12 +1,11 @@
-use Rattle.std.proofs.Common.{length, ◌++◌, ◌-◌}
-use Rattle.std.proofs.Math.Path.{◌≡◌}
-use Rattle.std.specs.Prelude.{take, drop}
+use Rattle.std.proofs.Common.{length, ◌++◌}
+use Rattle.std.specs.Prelude.{take}
 use Rattle.run_merge.specs.Words.{scaled}
 use Rattle.run_merge.specs.laws.Steps.{Resting}
 use Rattle.run_merge.proofs.rest.Given as goal
 
-abbrev pub invariant-loop-j : goal.invariant-loop-j
-invariant-loop-j l = (length l.out ≡ length l.initial.out) × Resting (take l.to l.initial.out ++ scaled l.k l.c (drop l.from l.y)) l.k l.c l.y l.j l.n l.out
+abbrev pub invariant-loop-y : goal.invariant-loop-y
+invariant-loop-y l = Resting (take l.fn.n l.fn.out ++ scaled l.k l.c l.fn.y) l.k l.c l.y 0 l.n l.out
 
-abbrev pub decreases-loop-j : goal.decreases-loop-j
-decreases-loop-j l = length l.y - l.j
+abbrev pub decreases-loop-y : goal.decreases-loop-y
+decreases-loop-y l = length l.y

@@ -5,6 +5,7 @@ use Rattle.std.proofs.Math.Path.{sym, ap, subst}
 use Rattle.std.proofs.Common.{◌∙◌, arith, length-append, take_at, length-take-le}
 use Rattle.std.proofs.Math.ListN.{length, take, get_or}
 use Rattle.code.specs.Coding.{Begins}
+use Rattle.code.specs.laws.Codes.{tail-part}
 use Rattle.horner.specs.definitions.Rings.{Res, prime, p_ring}
 use Rattle.run.specs.Merging.{cmp_l, Each}
 use Rattle.run.specs.Runs.{Run, Long, sum_r, times_r, prod_into}
@@ -13,11 +14,11 @@ use Rattle.run_merge.specs.Words.{code_of, pairs, flat, summed, Fits, produced, 
 use Rattle.run_merge.specs.laws.Coding.{Small, summed-code}
 use Rattle.run_merge.specs.laws.Steps.{pairs-drop, pairs_end}
 
--- ---- a product half way: out begins with what is added up so far
-pub record Multiplying (x y : List ℕ) (w i n : ℕ) (d : List ℕ) : Type 0 where
+-- ---- a product half way: out begins with what is added up so far, and with the products of x from i on it makes t
+pub record Multiplying (t x y : List ℕ) (w i n : ℕ) (d : List ℕ) : Type 0 where
   pub inside : n ≤ length d
   pub producing : Producing (take n d) (pairs (drop i x)) y w
-  pub is : produced (take n d) (pairs (drop i x)) y ≡ produced [] (pairs x) y
+  pub is : produced (take n d) (pairs (drop i x)) y ≡ t
 
 -- what the next sum asks, and what comes after it
 pub record Next (k c i w : ℕ) (x y z : List ℕ) : Type 0 where
@@ -27,17 +28,17 @@ pub record Next (k c i w : ℕ) (x y z : List ℕ) : Type 0 where
   pub room : length z + length y ≤ w
   pub producing : Producing (summed k c z y) (pairs (drop (i + 2) x)) y w
 
-module _ {x y : List ℕ} {w i n : ℕ} {d : List ℕ} where
-  pub next : Multiplying x y w i n d → i + 1 < length x → Next (get_or x i 0) (get_or x (i + 1) 0) i w x y (take n d)
+module _ {t x y : List ℕ} {w i n : ℕ} {d : List ℕ} where
+  pub next : Multiplying t x y w i n d → i + 1 < length x → Next (get_or x i 0) (get_or x (i + 1) 0) i w x y (take n d)
   unfolding Producing
   next s h =
       let p : Producing (take n d) ((get_or x i 0, get_or x (i + 1) 0) ∷ pairs (drop (i + 2) x)) y w = subst (λ l. Producing (take n d) l y w)
       (pairs-drop x i h) s.producing in
       record { below = p.0; fits-y = p.1; fits-z = p.2; room = p.3; producing = p.4 }
 
-  multiplying-on : (m : ℕ) (e : List ℕ) → Multiplying x y w i n d → (h : i + 1 < length x) → m ≤ length e
+  multiplying-on : (m : ℕ) (e : List ℕ) → Multiplying t x y w i n d → (h : i + 1 < length x) → m ≤ length e
       → take m e ≡ summed (get_or x i 0) (get_or x (i + 1) 0) (take n d) y
-      → Multiplying x y w (i + 2) m e
+      → Multiplying t x y w (i + 2) m e
   unfolding produced
   multiplying-on m e s h l q = record {
     inside = l;
@@ -46,22 +47,23 @@ module _ {x y : List ℕ} {w i n : ℕ} {d : List ℕ} where
   }
 
   -- at the end of x the product is there
-  pub multiplying-end : Multiplying x y w i n d → length x ≤ i + 1 → Begins n (produced [] (pairs x) y) d
+  pub multiplying-end : Multiplying t x y w i n d → length x ≤ i + 1 → Begins n t d
   unfolding produced
   multiplying-end s h = record { size = sym (length-take-le n d s.inside) ∙ ap length done; is = done }
     where
-      done : take n d ≡ produced [] (pairs x) y
+      done : take n d ≡ t
       done = ap (λ l. produced (take n d) l y) (sym (pairs_end x i h)) ∙ s.is
 
--- at the beginning of x nothing is
-pub multiplying-start : (x y : List ℕ) (w : ℕ) (d : List ℕ) → Producing [] (pairs x) y w → Multiplying x y w 0 0 d
-multiplying-start x y w d p = record { inside = omega arith; producing = p; is = refl }
+  -- the words before i are past: what is left of x stands alone
+  pub multiplying-past : Multiplying t x y w i n d → Multiplying t (take (length x - i) (drop i x)) y w 0 n d
+  multiplying-past s = subst (λ z. Multiplying t z y w 0 n d) (sym (tail-part i x))
+      (record { inside = s.inside; producing = s.producing; is = s.is })
 
 -- the sum is written to another table, and copied over
-pub multiplying-copied : {x y : List ℕ} {w i n : ℕ} {d : List ℕ} (m : ℕ) (a e : List ℕ) → Multiplying x y w i n d → i + 1 < length x
+pub multiplying-copied : {t x y : List ℕ} {w i n : ℕ} {d : List ℕ} (m : ℕ) (a e : List ℕ) → Multiplying t x y w i n d → i + 1 < length x
     → Begins m (summed (get_or x i 0) (get_or x (i + 1) 0) (take n d) y) a → e ≡ take m a ++ drop (length (take m a)) d
-    → Multiplying x y w (i + 2) m e
-multiplying-copied {x} {y} {w} {i} {n} {d} m a e s h g q = multiplying-on m e s h inside (front ∙ g.is)
+    → Multiplying t x y w (i + 2) m e
+multiplying-copied {t} {x} {y} {w} {i} {n} {d} m a e s h g q = multiplying-on m e s h inside (front ∙ g.is)
   where
     size : length (take m a) ≡ m
     size = ap length g.is ∙ sym g.size

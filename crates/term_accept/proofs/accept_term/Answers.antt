@@ -1,41 +1,23 @@
 -- `term_accept::accept_term` meets its contract: the reading, and then the measures.
-use Rattle.std.proofs.Common.{arith}
-use Rattle.term_accept.specs.Accepted.{refused-first, inside, parsed, codes, fits, over}
+use Rattle.std.proofs.Common.{◌∙◌, sym, subst}
+use Rattle.refusal.proofs.Exits.{exits}
+use Rattle.term_accept.specs.Accepted.{AcceptedAs, refused-first, fits, over}
 use Rattle.term_accept.proofs.accept_term.Goals as goal
 
-pub returns-in_default : goal.returns-in_default
-returns-in_default c =
-    refused-first c.args.d c.args.row.now c.args.s.now c.parse-tree.new.out
-    c.parse-tree.result c.parse-tree.ensures _ _ _ c.in_default.is
+pub returns-in_err-k : goal.returns-in_err-k
+returns-in_err-k c =
+    subst (AcceptedAs c.args.d c.args.row.now c.args.s.now c.parse.new.out)
+    (c.in_err-k.was ∙ sym (exits c.from_residual.ensures.1))
+    (refused-first c.args.d c.args.row.now c.args.s.now c.parse.new.out c.parse.result c.parse.ensures _ c.in_err-k.was)
 
-pub slice_bounds-measure_tree-end : goal.slice_bounds-measure_tree-end
-slice_bounds-measure_tree-end c =
-    omega (
-      arith,
-      inside c.args.d c.args.row.now c.args.s.now c.parse-tree.new.out
-          c.parse-tree.result c.parse-tree.ensures c.in-Tree.k c.in-Tree.is,
-    )
+pub returns-in_err-measure_tree : goal.returns-in_err-measure_tree
+returns-in_err-measure_tree c =
+    subst (AcceptedAs c.args.d c.args.row.now c.args.s.now c.parse.new.out)
+    (sym (exits c.from_residual-in_err-measure_tree.ensures.1))
+    (over c.args.d c.args.row.now c.args.s.now c.parse.new.out c.parse.result c.parse.ensures _ c.in_ok-k.was c.requires.four _
+    c.measure_tree.ensures _ c.in_err-measure_tree.was)
 
-pub measure_tree-found-requires : goal.measure_tree-found-requires
-measure_tree-found-requires c =
-    record {
-      row = c.args.row.now;
-      tree = (parsed c.args.d c.args.row.now c.args.s.now
-          c.parse-tree.new.out c.parse-tree.result c.parse-tree.ensures c.in-Tree.k
-          c.in-Tree.is).tree;
-      codes = codes c.args.d c.args.row.now c.args.s.now
-          c.parse-tree.new.out c.parse-tree.result c.parse-tree.ensures c.in-Tree.k
-          c.in-Tree.is c.requires.four;
-    }
-
-pub returns-in-Fits : goal.returns-in-Fits
-returns-in-Fits c =
-    fits c.args.d c.args.row.now c.args.s.now c.parse-tree.new.out c.parse-tree.result
-    c.parse-tree.ensures c.in-Tree.k c.in-Tree.is c.requires.four _
-    c.measure_tree-found.ensures _ c.in-Fits.is
-
-pub returns-in-Over : goal.returns-in-Over
-returns-in-Over c =
-    over c.args.d c.args.row.now c.args.s.now c.parse-tree.new.out c.parse-tree.result
-    c.parse-tree.ensures c.in-Tree.k c.in-Tree.is c.requires.four _
-    c.measure_tree-found.ensures _ _ _ c.in-Over.is
+pub returns : goal.returns
+returns c =
+    fits c.args.d c.args.row.now c.args.s.now c.parse.new.out c.parse.result c.parse.ensures _ c.in_ok-k.was c.requires.four _
+    c.measure_tree.ensures _ c.in_ok-measure_tree.was

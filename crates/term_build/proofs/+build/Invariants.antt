@@ -1,4 +1,4 @@
-use Rattle.std.proofs.Common.{length, ◌-◌}
+use Rattle.std.proofs.Common.{length}
 use Rattle.term_build.proofs.+build.Given as goal
 
 abbrev pub decreases-build : goal.decreases-build

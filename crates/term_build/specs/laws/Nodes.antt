@@ -1,5 +1,5 @@
 -- Building, node by node: what each call on the way is given, and that its run is the node's.
-use Rattle.std.specs.Prelude.{List, [], ◌≡◌, ℕ, suc, ◌*◌, ◌≤◌, ◌<◌, length, get_or, take}
+use Rattle.std.specs.Prelude.{List, [], ◌≡◌, ℕ, suc, ◌*◌, ◌≤◌, length, get_or, take}
 use Rattle.std.proofs.Common.{sym, ap, ◌∙◌, subst, arith}
 use Rattle.code.proofs.Lists.{begins-le}
 use Rattle.code.specs.Coding.{Begins}
@@ -21,6 +21,8 @@ use Rattle.term_tree.specs.Shapes.{Codes, long, head_of, tag_of, number_of, oper
 use Rattle.term_tree.proofs.Shapes.{num_of, letter-of}
 use Rattle.term_tree.specs.Shapes.{IsNeg, is-neg, IsPower, is-power, IsOne, one-neg, one_power, OneTag}
 use Rattle.term_tree.proofs.Shapes.{neg_of, power-of, one_of}
+use Rattle.term_tree.specs.Heads.{HeadIs}
+use Rattle.term_tree.specs.declared.Head.TheVariants.{Integer, Letter}
 use Rattle.term_build.specs.Build.{Env, Given, Built, term_in, SizedIn, run_in}
 use Rattle.term_build.specs.Terms.{AllSized}
 use Rattle.term_build.specs.laws.Leaves.{int-run, code_is, wrote-begins}
@@ -78,33 +80,33 @@ given-as {S = S} {S'} {O} {O'} {T} {T'} s o t G = record {
 -- ---- by the head word
 module _ (w : List ℕ) (E : List (List ℕ)) where
   -- an integer
-  pub built-int : head_of w < 2147483648 → {r : ℕ} {l d : List ℕ} → Wrote (pushed 0 (head_of w)) d 0 r l → Built w E r l
-  built-int low {r} {l} W = record { is = λ row t τ C ρ S. by row t τ (num_of C low) S }
+  pub built-int : {m : ℕ} → HeadIs (head_of w) (Integer m) → {r : ℕ} {l d : List ℕ} → Wrote (pushed 0 m) d 0 r l → Built w E r l
+  built-int h {r} {l} W = record { is = λ row t τ C ρ S. by row t τ (num_of C h.1) S }
     where
       by : (row : List ℕ) (t : Tree) (τ : ℕ → Term) → IsNum w t → SizedIn τ row t → Begins r (run_in τ row t) l
       by row t τ (is-num p u z a b) S =
-          subst (λ q. Begins r q l) (ap (pushed 0) (a ∙ code_is z S) ∙ int-run (length row) (red_ℤ prime prime-pos z)) (wrote-begins W)
+          subst (λ q. Begins r q l) (ap (pushed 0) (sym h.0 ∙ a ∙ code_is z S) ∙ int-run (length row) (red_ℤ prime prime-pos z))
+          (wrote-begins W)
+
+  -- ---- a letter
+  module _ (i : ℕ) (h : HeadIs (head_of w) (Letter i)) where
+    letter-is :
+        (row : List ℕ) (t : Tree) (τ : ℕ → Term) → Codes row t w → IsLetter row w t → Env (length row) τ E → get_or E i [] ≡ run_in τ row t
+    letter-is row t τ C (is-letter p b e c) ρ =
+        ap (λ j. get_or E j []) (sym h.1.1 ∙ e) ∙ ρ.each (index_in row b) (index_below row b C.known)
+
+    -- there is room for its run
+    pub letter-room : {S O T : ℕ} → Given w E S O T → length (get_or E i []) ≤ S
+    letter-room G =
+        let e = letter-is G.row G.tree G.τ G.codes (letter-of h.0 G.codes h.1.0) G.env in
+        omega (arith, ap length e, run_length (n G) (norm_p (term G)), sized-count (n G) (term G) G.sized, stack-room G)
+
+    -- that is the environment's
+    pub built-letter : {r : ℕ} {l : List ℕ} → Begins r (get_or E i []) l → Built w E r l
+    built-letter {r} {l} B =
+        record { is = λ row t τ C ρ S. subst (λ q. Begins r q l) (letter-is row t τ C (letter-of h.0 C h.1.0) ρ) B }
 
   module _ (node : 2147483648 ≤ head_of w) where
-    -- ---- a letter
-    module _ (tag : tag_of w ≡ 0) where
-      letter-is :
-          (row : List ℕ) (t : Tree) (τ : ℕ → Term) → Codes row t w → IsLetter row w t → Env (length row) τ E →
-          get_or E (number_of w) [] ≡ run_in τ row t
-      letter-is row t τ C (is-letter p b i c) ρ =
-          ap (λ j. get_or E j []) i ∙ ρ.each (index_in row b) (index_below row b C.known)
-
-      -- there is room for its run
-      pub letter-room : {S O T : ℕ} → Given w E S O T → length (get_or E (number_of w) []) ≤ S
-      letter-room G =
-          let e = letter-is G.row G.tree G.τ G.codes (letter-of node G.codes tag) G.env in
-          omega (arith, ap length e, run_length (n G) (norm_p (term G)), sized-count (n G) (term G) G.sized, stack-room G)
-
-      -- that is the environment's
-      pub built-letter : {r : ℕ} {l : List ℕ} → Begins r (get_or E (number_of w) []) l → Built w E r l
-      built-letter {r} {l} B =
-          record { is = λ row t τ C ρ S. subst (λ q. Begins r q l) (letter-is row t τ C (letter-of node C tag) ρ) B }
-
     -- ---- one operand: `(- x)` or a power
     -- it is built first, with the same tables
     pub given-one : {S O T : ℕ} → OneTag w → Given w E S O T → Given (operand w) E S O T

@@ -1,5 +1,5 @@
 -- The environment in which each letter stands for itself.
-use Rattle.std.specs.Prelude.{List, [], ◌∷◌, ◌≡◌, refl, ℕ, zero, suc, ◌+◌, ◌-◌, ◌*◌, ◌≤◌, ◌<◌, length, get_or, take, drop}
+use Rattle.std.specs.Prelude.{List, [], ◌∷◌, ◌≡◌, refl, ℕ, zero, suc, ◌-◌, ◌*◌, ◌≤◌, ◌<◌, length, get_or, take, drop}
 use Rattle.std.proofs.Common.{sym, subst, arith}
 use Rattle.code.specs.Coding.{Begins}
 use Rattle.horner.specs.definitions.Term.{var, norm_p}
@@ -20,11 +20,11 @@ part l a e = take (e - a) (drop a l)
 -- the runs of the letters of a row of n, in the words of a table
 abbrev pub letters_in : List ℕ → ℕ → List (List ℕ)
 letters_in l n =
-    let f = 8 - 2 * n in
-    part l f (f + 2) ∷ part l (f + 2) (f + 4) ∷ part l (f + 4) (f + 6) ∷ part l (f + 6) (f + 8) ∷ []
+    let own = part l (8 - 2 * n) (length l) in
+    take 2 own ∷ part own 2 4 ∷ part own 4 6 ∷ part own 6 8 ∷ []
 
 -- in those of the table
-abbrev letters : ℕ → List (List ℕ)
+abbrev pub letters : ℕ → List (List ℕ)
 letters n = letters_in table n
 
 -- the run of a letter is that of the term that it is
@@ -56,8 +56,8 @@ pub plain-few : {n S O T : ℕ} {w : List ℕ} → Plain n w S O T → n ≤ 4
 plain-few P = omega (arith, P.letters, P.codes.four)
 
 -- what is asked of building over the environment of the letters
-pub plain-given : {n S O T : ℕ} {w : List ℕ} (l : List ℕ) → l ≡ table → Plain n w S O T → Given w (letters_in l n) S O T
-plain-given {n} {S} {O} {T} {w} l e P = subst (λ k. Given w (letters_in k n) S O T) (sym e) record {
+pub plain-given : {n S O T : ℕ} {w : List ℕ} (E : List (List ℕ)) → E ≡ letters n → Plain n w S O T → Given w E S O T
+plain-given {n} {S} {O} {T} {w} E e P = subst (λ k. Given w k S O T) (sym e) record {
   row = P.row;
   tree = P.tree;
   τ = var;
@@ -72,11 +72,11 @@ plain-given {n} {S} {O} {T} {w} l e P = subst (λ k. Given w (letters_in k n) S 
 }
 
 -- and what it leaves
-pub plain-built : {n r : ℕ} {w l : List ℕ} (k : List ℕ) → k ≡ table → n ≤ 4 → Built w (letters_in k n) r l → PlainBuilt n w r l
-plain-built {n} {r} {w} {l} k q four A = record { is = by }
+pub plain-built : {n r : ℕ} {w l : List ℕ} (E : List (List ℕ)) → E ≡ letters n → n ≤ 4 → Built w E r l → PlainBuilt n w r l
+plain-built {n} {r} {w} {l} E q four A = record { is = by }
   where
     B : Built w (letters n) r l
-    B = subst (λ m. Built w (letters_in m n) r l) q A
+    B = subst (λ m. Built w m r l) q A
 
     by : (row : List ℕ) (t : Tree) → length row ≡ n → Codes row t w → AllSized n (term_of row t)
         → Begins r (run_words n (norm_p (term_of row t))) l

@@ -1,7 +1,8 @@
 -- Building a node with two operands: their runs stand side by side on the stack, and its own is made of them in their place.
 use Rattle.std.specs.Prelude.{List, ◌≡◌, refl, ℕ, suc, ◌+◌, ◌*◌, ◌-◌, ◌≤◌, ◌<◌, max, length, take, drop}
 use Rattle.std.proofs.Common.{sym, ap, ap₂, ◌∙◌, subst, arith}
-use borrow.Rule.Slice.PartMut.{put_mid, take_put}
+use borrow.Rule.Slice.PartMut.{put_mid, same_len_mid, take_put}
+use Rattle.code.proofs.Lists.{length-tail-part}
 use Rattle.code.proofs.Regions.{region-put}
 use Rattle.code.specs.Coding.{Begins}
 use Rattle.horner.specs.definitions.Term.{Term, times, norm_p}
@@ -11,54 +12,48 @@ use Rattle.run_form.proofs.laws.Sums.{sum-run, difference-run}
 use Rattle.run_form.proofs.laws.Under.{run_length}
 use Rattle.run_merge.specs.Words.{pairs, Fits, summed}
 use Rattle.run_stack.specs.Stack.{multiplied, ProductRoom}
-use Rattle.text.specs.definitions.Tree.{Sign, add, sub, mul, signed, term_of, nesting, Tree, two}
-use Rattle.term_tree.specs.Shapes.{tag_of, number_of, Operator, is-add, is-sub, is_mul, left_of, right_of, Pair, TwoTag}
-use Rattle.term_tree.proofs.Shapes.{pair}
-use Rattle.term_tree.specs.Shapes.{left-shorter, right-shorter}
+use Rattle.text.specs.definitions.Tree.{mul, signed, term_of, nesting, Tree, two}
+use Rattle.term_tree.specs.Heads.{sign_of, HeadIs, first_of, second_of, Operands}
+use Rattle.term_tree.specs.Shapes.{head_of}
+use Rattle.term_tree.specs.declared.Head.TheVariants.{Pair}
+use Rattle.term_tree.specs.declared.Operation.{Operation}
+use Rattle.term_tree.specs.declared.Operation.TheVariants.{Add, Subtract, Multiply}
+use Rattle.term_tree.proofs.Heads.{operands, first-shorter, second-shorter}
 use Rattle.term_build.specs.Build.{Env, Given, Built, SizedIn, run_in, left_run, right_run, joined, Joining}
 use Rattle.term_build.specs.Terms.{put, AllSized}
-use Rattle.term_build.specs.laws.Nodes.{built-size, built-fits}
+use Rattle.term_build.specs.laws.Nodes.{built-size, built-fits, given-as}
 use Rattle.term_build.specs.laws.Sized.{sized-low, sized-count, few-times}
 
 -- both operands are within the limits
 operands-sized :
-    (n : ℕ) (τ : ℕ → Term) (g : Sign) (s t : Term) → AllSized n (put τ (signed g s t)) → AllSized n (put τ s) × AllSized n (put τ t)
-operands-sized n τ add s t h = h.1
-operands-sized n τ sub s t h = h.1
-operands-sized n τ mul s t h = h.1
+    (n : ℕ) (τ : ℕ → Term) (o : Operation) (s t : Term) → AllSized n (put τ (signed (sign_of o) s t)) → AllSized n (put τ s) × AllSized n (put τ t)
+operands-sized n τ Add s t h = h.1
+operands-sized n τ Subtract s t h = h.1
+operands-sized n τ Multiply s t h = h.1
 
 -- there is room for a product of two runs, on a table of m words
 abbrev Room : ℕ → List ℕ → List ℕ → Type 0
 Room m x y = ProductRoom x y m × (length (multiplied x y) ≤ 512)
 
--- ---- the runs of two operands, before the operator in the head word of w
-module _ (n : ℕ) (four : n ≤ 4) (τ : ℕ → Term) (s t : Term) (w : List ℕ) where
+-- ---- the runs of two operands
+module _ (n : ℕ) (four : n ≤ 4) (τ : ℕ → Term) (s t : Term) where
   abbrev X : Term
   X = put τ s
 
   abbrev Y : Term
   Y = put τ t
 
-  -- the run that it makes of them
+  -- the run that an operator makes of them
   makes :
-      (g : Sign) → Operator w g → AllSized n (put τ (signed g s t)) → (a b : ℕ) (d : List ℕ) → left_run a d ≡ run_words n (norm_p X) →
-      right_run a b d ≡ run_words n (norm_p Y) → joined (tag_of w) a b d ≡ run_words n (norm_p (put τ (signed g s t)))
-  makes g (is-add e) z a b d l r =
-      ap (λ k. joined k a b d) e ∙ ap₂ (summed 0 1) l r ∙ sum-run (sized-low n X z.1.0 four) (sized-low n Y z.1.1 four)
-  makes g (is-sub e) z a b d l r =
-      ap (λ k. joined k a b d) e ∙ ap₂ (summed 0 2147483646) l r
-      ∙ difference-run (sized-low n X z.1.0 four) (sized-low n Y z.1.1 four)
-  makes g (is_mul e) z a b d l r =
-      ap (λ k. joined k a b d) e ∙ ap₂ multiplied l r
-      ∙ multiply-run (sized-low n X z.1.0 four) (sized-low n Y z.1.1 four) z.0.degrees
+      (o : Operation) → AllSized n (put τ (signed (sign_of o) s t)) → (a b : ℕ) (d : List ℕ) → left_run a d ≡ run_words n (norm_p X) →
+      right_run a b d ≡ run_words n (norm_p Y) → joined o a b d ≡ run_words n (norm_p (put τ (signed (sign_of o) s t)))
+  makes Add z a b d l r = ap₂ (summed 0 1) l r ∙ sum-run (sized-low n X z.1.0 four) (sized-low n Y z.1.1 four)
+  makes Subtract z a b d l r = ap₂ (summed 0 2147483646) l r ∙ difference-run (sized-low n X z.1.0 four) (sized-low n Y z.1.1 four)
+  makes Multiply z a b d l r = ap₂ multiplied l r ∙ multiply-run (sized-low n X z.1.0 four) (sized-low n Y z.1.1 four) z.0.degrees
 
   -- there is room for a product
-  room :
-      (g : Sign) → Operator w g → AllSized n (put τ (signed g s t)) → tag_of w ≡ 4 → (m : ℕ) → 1024 ≤ m →
-      Room m (run_words n (norm_p X)) (run_words n (norm_p Y))
-  room g (is-add e) z q m l = absurd (omega (arith, e, q))
-  room g (is-sub e) z q m l = absurd (omega (arith, e, q))
-  room g (is_mul e) z q m l = (
+  room : AllSized n (put τ (signed mul s t)) → (m : ℕ) → 1024 ≤ m → Room m (run_words n (norm_p X)) (run_words n (norm_p Y))
+  room z m l = (
     both-room (sized-low n X z.1.0 four) (sized-low n Y z.1.1 four) z.0.degrees (few-times n X Y z)
         (sized-count n X z.1.0) (sized-count n Y z.1.1) m l,
     omega (
@@ -69,39 +64,39 @@ module _ (n : ℕ) (four : n ≤ 4) (τ : ℕ → Term) (s t : Term) (w : List �
     ),
   )
 
-module _ (w : List ℕ) (E : List (List ℕ)) (tag : TwoTag w) where
+module _ (w : List ℕ) (E : List (List ℕ)) (o : Operation) (k : ℕ) (h : HeadIs (head_of w) (Pair o k)) where
   module _ {S O T : ℕ} (G : Given w E S O T) where
-    abbrev P : Pair G.row w G.tree
-    P = pair tag G.codes
+    abbrev P : Operands G.row w o k G.tree
+    P = operands h G.codes
 
-    whole : SizedIn G.τ G.row (two P.p P.o P.c P.g P.x P.y)
+    whole : SizedIn G.τ G.row (two P.p P.o P.c (sign_of o) P.x P.y)
     whole = subst (SizedIn G.τ G.row) P.is G.sized
 
     sized : SizedIn G.τ G.row P.x × SizedIn G.τ G.row P.y
-    sized = operands-sized (length G.row) G.τ P.g (term_of G.row P.x) (term_of G.row P.y) whole
+    sized = operands-sized (length G.row) G.τ o (term_of G.row P.x) (term_of G.row P.y) whole
 
     deep : 512 * suc (suc (max (nesting P.x) (nesting P.y))) ≤ S
     deep = omega (arith, G.room, ap (λ t. nesting t) P.is)
 
     -- both lie inside the words
-    pub pair_inside : 2 + number_of w + 2 ≤ length w
+    pub pair_inside : 2 + k + 2 ≤ length w
     pair_inside = P.inside
 
     -- the words of the first are fewer
-    pub fewer-left : length (left_of w) < length w
-    fewer-left = left-shorter P
+    pub fewer-left : length (first_of k w) < length w
+    fewer-left = first-shorter o h G.codes
 
     -- so are those of the second
-    pub fewer-right : length (right_of w) < length w
-    fewer-right = right-shorter P
+    pub fewer-right : length (second_of k w) < length w
+    fewer-right = second-shorter o h G.codes
 
     -- the first is built
-    pub given-left : Given (left_of w) E S O T
+    pub given-left : Given (first_of k w) E S O T
     given-left = record {
       row = G.row;
       tree = P.x;
       τ = G.τ;
-      codes = P.left;
+      codes = P.first;
       env = G.env;
       sized = sized.0;
       room = omega (arith, deep);
@@ -110,12 +105,12 @@ module _ (w : List ℕ) (E : List (List ℕ)) (tag : TwoTag w) where
     }
 
     -- the second, behind a run of a words
-    pub given-right : (a : ℕ) → a ≤ 512 → (S' : ℕ) → S' ≡ S - a → Given (right_of w) E S' O T
+    pub given-right : (a : ℕ) → a ≤ 512 → (S' : ℕ) → S' ≡ S - a → Given (second_of k w) E S' O T
     given-right a f S' q = record {
       row = G.row;
       tree = P.y;
       τ = G.τ;
-      codes = P.right;
+      codes = P.second;
       env = G.env;
       sized = sized.1;
       room = omega (arith, deep, q);
@@ -123,11 +118,25 @@ module _ (w : List ℕ) (E : List (List ℕ)) (tag : TwoTag w) where
       most = G.most;
     }
 
+    -- in tables of the same lengths
+    pub given-behind :
+        {a : ℕ} {d : List ℕ} → Built (first_of k w) E a d → length d ≡ S → {O' T' : ℕ} → O' ≡ O → T' ≡ T →
+        Given (second_of k w) E (length (take (length d - a) (drop a d))) O' T'
+    given-behind {a} {d} L ld eo et =
+        given-as refl (sym eo) (sym et)
+        (given-right a (built-size given-left L) _ (length-tail-part a d ∙ ap (λ n. n - a) ld))
+
     module _
-        {a b : ℕ} {d m : List ℕ} (L : Built (left_of w) E a d) (R : Built (right_of w) E b m)
-        (ld : length d ≡ S) (lm : length m ≡ S - a) where
+        {a b : ℕ} {d m : List ℕ} (L : Built (first_of k w) E a d) (R : Built (second_of k w) E b m)
+        (ld : length d ≡ S) (lt : length m ≡ length (take (length d - a) (drop a d))) where
+      lm : length m ≡ S - a
+      lm = lt ∙ length-tail-part a d ∙ ap (λ n. n - a) ld
+
       abbrev stack : List ℕ
       stack = put_mid a (length d - a) d m
+
+      ls : length stack ≡ S
+      ls = same_len_mid a (length d - a) d m lt ∙ ld
 
       left-size : a ≤ 512
       left-size = built-size given-left L
@@ -145,23 +154,23 @@ module _ (w : List ℕ) (E : List (List ℕ)) (tag : TwoTag w) where
           ∙ region-put a 0 b d m (omega (arith, left-size, deep, ld)) (omega (arith, right-size, left-size, deep, lm))
 
       left_is : left_run a stack ≡ run_in G.τ G.row P.x
-      left_is = at_left ∙ (L.is G.row P.x G.τ P.left G.env sized.0).is
+      left_is = at_left ∙ (L.is G.row P.x G.τ P.first G.env sized.0).is
 
       right_is : right_run a b stack ≡ run_in G.τ G.row P.y
-      right_is = at_right ∙ (R.is G.row P.y G.τ P.right G.env sized.1).is
+      right_is = at_right ∙ (R.is G.row P.y G.τ P.second G.env sized.1).is
 
-      product : tag_of w ≡ 4 → Room T (left_run a stack) (right_run a b stack)
+      product : o ≡ Multiply → Room T (left_run a stack) (right_run a b stack)
       product q =
           let x = term_of G.row P.x in
           let y = term_of G.row P.y in
           let n = length G.row in
           subst (λ k. Room T k (right_run a b stack)) (sym left_is)
           (subst (λ k. Room T (run_in G.τ G.row P.x) k) (sym right_is)
-          (room n G.codes.four G.τ x y w P.g P.operator whole q T G.more))
+          (room n G.codes.four G.τ x y (subst (λ f. SizedIn G.τ G.row (two P.p P.o P.c (sign_of f) P.x P.y)) q whole) T G.more))
 
       -- there is room for what the operator makes of the two runs
-      pub joining : length stack ≡ S → Joining (tag_of w) a b stack O T
-      joining ls = record {
+      pub joining : Joining o a b stack O T
+      joining = record {
         both = omega (arith, left-size, right-size, deep, ls);
         sum_room = omega (arith, left-size, right-size, G.more, G.most);
         most = G.most;
@@ -172,19 +181,19 @@ module _ (w : List ℕ) (E : List (List ℕ)) (tag : TwoTag w) where
       }
 
       -- and it is the node's run
-      pub built-two : {r : ℕ} {l : List ℕ} → Begins r (joined (tag_of w) a b stack) l → Built w E r l
-      built-two {r} {l} B = record { is = λ row t τ C ρ z. by row t τ (pair tag C) ρ z C.four }
+      pub built-two : {r : ℕ} {l : List ℕ} → Begins r (joined o a b stack) l → Built w E r l
+      built-two {r} {l} B = record { is = λ row t τ C ρ z. by row t τ (operands h C) ρ z C.four }
         where
           by :
-              (row : List ℕ) (t : Tree) (τ : ℕ → Term) → Pair row w t → Env (length row) τ E → SizedIn τ row t → length row ≤ 4 →
+              (row : List ℕ) (t : Tree) (τ : ℕ → Term) → Operands row w o k t → Env (length row) τ E → SizedIn τ row t → length row ≤ 4 →
               Begins r (run_in τ row t) l
           by row t τ Q ρ z four =
               let x = term_of row Q.x in
               let y = term_of row Q.y in
-              let z' : AllSized (length row) (put τ (signed Q.g x y)) = subst (SizedIn τ row) Q.is z in
-              let zs = operands-sized (length row) τ Q.g x y z' in
+              let z' : AllSized (length row) (put τ (signed (sign_of o) x y)) = subst (SizedIn τ row) Q.is z in
+              let zs = operands-sized (length row) τ o x y z' in
               subst (λ q. Begins r q l)
-              (makes (length row) four τ x y w Q.g Q.operator z' a b stack
-              (at_left ∙ (L.is row Q.x τ Q.left ρ zs.0).is)
-              (at_right ∙ (R.is row Q.y τ Q.right ρ zs.1).is)
+              (makes (length row) four τ x y o z' a b stack
+              (at_left ∙ (L.is row Q.x τ Q.first ρ zs.0).is)
+              (at_right ∙ (R.is row Q.y τ Q.second ρ zs.1).is)
               ∙ ap (run_in τ row) (sym Q.is)) B

@@ -1,20 +1,15 @@
--- `term_hex::hex_digits` meets its contract, by the first byte and the length.
-use Rattle.std.proofs.Common.{sym, arith, ◌<◌, ◌≤◌, length}
-use Rattle.std.proofs.Math.Path.{◌∙◌}
-use Rattle.term_hex.specs.Laws.{digits-none, digits-zero, digits-all}
+-- `term_hex::hex_digits` meets its contract: one to eight digits that do not begin with 0.
+use Rattle.std.proofs.Common.{◌∙◌, sym, arith, rules, tests}
+use Rattle.std.proofs.lemmas.Iterator.{YieldsList-from_slice}
+use Rattle.std.proofs.lemmas.Iterator.Search.{all_from_yields_List}
+use Rattle.text.specs.definitions.Integers.{hex_digit}
+use Rattle.text_word.proofs.Walk.{all-list}
+use Rattle.term_hex.specs.Laws.{digits-all}
 use Rattle.term_hex.proofs.hex_digits.Goals as goal
 
-pub returns-then-w-eq0 : goal.returns-then-w-eq0
-returns-then-w-eq0 c =
-    sym (digits-none c.args.w.now c.if-w-eq0.true)
-
-pub returns-then-w-eq48 : goal.returns-then-w-eq48
-returns-then-w-eq48 c =
-    let l : 0 < length c.args.w.now = omega arith in
-    sym (digits-zero c.args.w.now l c.if-w-eq48.true)
-
-pub returns : goal.returns
-returns c =
-    let l : 0 < length c.args.w.now = omega arith in
-    let few : length c.args.w.now ≤ 8 = omega arith in
-    c.all_hex.ensures ∙ sym (digits-all c.args.w.now l c.if-w-eq48.false few)
+pub returns-then-w-le8 : goal.returns-then-w-le8
+returns-then-w-le8 c =
+    all_from_yields_List hex_digit _ _ c.all.result c.all.ensures.ran (YieldsList-from_slice c.args.w.now cc)
+    (λ x b q k. search (rules, tests))
+    ∙ sym (all-list hex_digit c.args.w.now)
+    ∙ sym (digits-all c.args.w.now (omega arith) (λ z. omega arith) c.if-w-le8.true)

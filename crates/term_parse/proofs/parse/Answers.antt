@@ -1,8 +1,8 @@
 -- `term_parse::parse` meets its contract: the length, the term, and that nothing stands behind it.
-use Rattle.std.proofs.Common.{sym, ap, arith, ◌/◌, ◌%◌}
+use Rattle.std.proofs.Common.{refl, sym, arith}
 use Rattle.std.proofs.Math.Path.{◌∙◌}
-use Rattle.term_leaf.specs.Leaf.{Off}
-use Rattle.term_leaf.specs.laws.Answers.{part-on, part_off}
+use Rattle.term_leaf.specs.laws.Answers.{part-on}
+use Rattle.term_leaf.specs.laws.Tokens.{kind-is, kind-not}
 use Rattle.term_parse.specs.laws.Whole.{parse-long, parse-off, whole-made, parse-on, parse-more}
 use Rattle.term_parse.proofs.parse.Goals as goal
 
@@ -10,37 +10,24 @@ pub returns-then-d-s : goal.returns-then-d-s
 returns-then-d-s c =
     parse-long c.args.d c.args.row.now c.args.s.now c.if-d-s.true c.args.out.now
 
-pub term_at-x-requires : goal.term_at-x-requires
-term_at-x-requires c =
-    record {
-      four = c.requires.four;
-      short = omega (arith, c.if-d-s.false, c.requires.short);
-      inside = omega arith;
-      below = omega
-          arith;
-      room = omega (arith, c.if-d-s.false, c.requires.room);
-    }
-
-pub returns-then-x-ge-OFF : goal.returns-then-x-ge-OFF
-returns-then-x-ge-OFF c =
-    parse-off c.args.d c.args.row.now c.args.s.now (omega (arith, c.if-d-s.false)) _ _
-    c.term_at-x.ensures _ _ _
-    (part_off c.args.d c.term_at-x.result c.if-x-ge-OFF.true
-    ∙ ap (λ n. Off n (c.term_at-x.result / 8 % 65536) (c.term_at-x.result / 524288 % 65536)) (sym c.number_of.ensures))
+pub returns-then-is_refusal : goal.returns-then-is_refusal
+returns-then-is_refusal c =
+    parse-off c.args.d c.args.row.now c.args.s.now (omega (arith, c.if-d-s.false)) _ _ c.term_at-x.ensures _
+    (c.flaw.ensures.refusal (sym c.is_refusal.ensures ∙ c.if-is_refusal.true))
 
 pub peek-t-requires : goal.peek-t-requires
 peek-t-requires c =
-    (whole-made c.args.d c.args.row.now c.args.s.now (omega (arith, c.if-d-s.false)) _ _
-    c.term_at-x.ensures _ _ (part-on c.args.d c.term_at-x.result (omega (arith, c.if-x-ge-OFF.false)))).inside
+    (whole-made c.args.d c.args.row.now c.args.s.now (omega (arith, c.if-d-s.false)) _ _ c.term_at-x.ensures _ _
+    (part-on c.args.d c.term_at-x.result (sym c.is_refusal.ensures ∙ c.if-is_refusal.false) refl c.past.ensures)).inside
 
-pub returns-then-t-eq0 : goal.returns-then-t-eq0
-returns-then-t-eq0 c =
-    parse-on c.args.d c.args.row.now c.args.s.now (omega (arith, c.if-d-s.false)) _ _
-    c.term_at-x.ensures _ _ (part-on c.args.d c.term_at-x.result (omega (arith, c.if-x-ge-OFF.false))) _ _ _
-    c.peek-t.ensures c.if-t-eq0.true
+pub returns-then-ne : goal.returns-then-ne
+returns-then-ne c =
+    parse-more c.args.d c.args.row.now c.args.s.now (omega (arith, c.if-d-s.false)) _ _ c.term_at-x.ensures _ _
+    (part-on c.args.d c.term_at-x.result (sym c.is_refusal.ensures ∙ c.if-is_refusal.false) refl c.past.ensures) _ _ _
+    c.peek-t.ensures (kind-not _ _ c.if-ne.ensures)
 
 pub returns : goal.returns
 returns c =
-    parse-more c.args.d c.args.row.now c.args.s.now (omega (arith, c.if-d-s.false)) _ _
-    c.term_at-x.ensures _ _ (part-on c.args.d c.term_at-x.result (omega (arith, c.if-x-ge-OFF.false))) _ _ _
-    c.peek-t.ensures c.if-t-eq0.false
+    parse-on c.args.d c.args.row.now c.args.s.now (omega (arith, c.if-d-s.false)) _ _ c.term_at-x.ensures _ _
+    (part-on c.args.d c.term_at-x.result (sym c.is_refusal.ensures ∙ c.if-is_refusal.false) c.words.ensures c.past.ensures) _ _ _
+    c.peek-t.ensures (kind-is _ _ c.if-ne.ensures)

@@ -1,21 +1,22 @@
 -- Words in a slice, signs, and an operand that was made behind two free words.
-use Rattle.std.specs.Prelude.{◌≡◌, refl, Bool, true, false, cond, List, [], ◌∷◌, ◌++◌, ℕ, zero, suc, ◌+◌, ◌-◌, ◌≤◌, eqb, length, take, drop}
-use Rattle.std.proofs.Common.{sym, ap, ◌∙◌, true≢false, arith, length-take, length-drop, take_all, ne_eqb, eqb-true}
+use Rattle.std.specs.Prelude.{◌≡◌, refl, Bool, true, false, List, [], ◌∷◌, ◌++◌, ℕ, suc, ◌+◌, ◌-◌, ◌≤◌, length, take, drop}
+use Rattle.std.proofs.Common.{sym, ap, ◌∙◌, true≢false, arith, length-take}
 use Rattle.std.proofs.lemmas.List.{take-append-le}
 use Rattle.std.proofs.Math.Seq.{take-append-add}
-use Rattle.std.proofs.lemmas.Bool.{eqb-false}
 use borrow.Rule.Slice.PartMut.{put_mid}
 use Rattle.text.specs.definitions.Bytes.{Token}
-use Rattle.text.specs.definitions.Tree.{add, sub, mul, Tree}
+use Rattle.text.specs.definitions.Tree.{sub, Tree}
 use Rattle.dialect.specs.declared.Dialect.{Dialect}
 use Rattle.text.specs.definitions.Answer.{Reading}
 use Rattle.term_tree.specs.Coding.{sign_code, enc}
 use Rattle.text.specs.definitions.Reading.{Frame, Next}
-use Rattle.term_parse.specs.Found.{stopped, Made, Operand, sign_of, closes_only}
+use denote.Enum.Bare.{sameb, same_true, same_false}
+use Rattle.text_word.specs.contracts.Operator.{the_type}
+use Rattle.text_word.specs.declared.Operator.{Operator}
+use Rattle.text_word.specs.declared.Operator.TheVariants.{Plus, Minus, Times, Power}
+use Rattle.term_parse.specs.Found.{stopped, Made, Operand, code_of, sign_of, closes_only}
 
 -- ---- words in a slice
-pub length-tail : (a : ℕ) (w : List ℕ) → length (take (length w - a) (drop a w)) ≡ length w - a
-length-tail a w = ap length (take_all (length w - a) (drop a w) (omega (arith, length-drop a w))) ∙ length-drop a w
 
 -- as many words as were taken are there
 pub taken-le : (k : ℕ) (l x : List ℕ) → take k l ≡ x → k ≡ length x → k ≤ length l
@@ -49,42 +50,39 @@ node-words h v k n l x e f =
     ap (λ m. take m (h ∷ (v ∷ l))) c ∙ ap (λ z. h ∷ (v ∷ z)) f
 
 -- ---- signs
--- the operator 2 is `-`, and no other is
-pub sign-two : (D : Dialect) (g : ℕ) → g ≡ 2 → sign_of D [] g ≡ sub
+-- only `-` is the sign of a difference
+pub sign-two : (D : Dialect) (g : Operator) → g ≡ Minus → sign_of D [] g ≡ sub
 sign-two D g e = ap (λ n. sign_of D [] n) e
 
-pub sign-not : (D : Dialect) (g : ℕ) → (g ≡ 2 → ⊥) → sign_of D [] g ≡ sub → ⊥
-sign-not D g n = by (eqb g 1) (eqb g 2) (ne_eqb g 2 n)
-  where
-    by : (a b : Bool) → b ≡ false → cond a add (cond b sub mul) ≡ sub → ⊥
-    by true b e f = let z : ◌≡◌ {A = ℕ} 0 1 = cc in omega arith
-    by false true e f = true≢false e
-    by false false e f = let z : ◌≡◌ {A = ℕ} 0 1 = cc in omega arith
+-- what the derived `==` says of operators
+pub operator-same : (g h : Operator) → true ≡ sameb the_type g h → g ≡ h
+operator-same g h e = same_true the_type tt g h (sym e)
+
+pub operator-other : (g h : Operator) → false ≡ sameb the_type g h → g ≡ h → ⊥
+operator-other g h e = same_false the_type g h (sym e)
 
 -- the head word of two operands
-pub sign-head : (D : Dialect) (g : ℕ) → 1 ≤ g → g ≤ 3 → sign_code (sign_of D [] g) ≡ 2147483649 + g
-sign-head D zero l h = absurd (omega arith)
-sign-head D (suc zero) l h = refl
-sign-head D (suc (suc zero)) l h = refl
-sign-head D (suc (suc (suc zero))) l h = refl
-sign-head D (suc (suc (suc (suc g)))) l h = absurd (omega arith)
+pub sign-head : (D : Dialect) (g : Operator) → (g ≡ Power → ⊥) → sign_code (sign_of D [] g) ≡ code_of g
+sign-head D Plus n = refl
+sign-head D Minus n = refl
+sign-head D Times n = refl
+sign-head D Power n = absurd (n refl)
 
 -- behind the first operand only a `)` may stand, or a second operand may
-pub data Only (D : Dialect) (g : ℕ) : Bool → Type 0 where
-  is-only : g ≡ 2 → D.panel ≡ true → Only D g true
+pub data Only (D : Dialect) (g : Operator) : Bool → Type 0 where
+  is-only : g ≡ Minus → D.panel ≡ true → Only D g true
   not-only : (sign_of D [] g ≡ sub → D.panel ≡ false) → Only D g false
 
 -- by the test
-pub only : (D : Dialect) (g : ℕ) (b : Bool) → closes_only D [] g ≡ b → Only D g b
-only D g b e = by (eqb g 2) refl D.panel refl b e
-  where
-    by : (c : Bool) → eqb g 2 ≡ c → (d : Bool) → D.panel ≡ d → (b : Bool) → closes_only D [] g ≡ b → Only D g b
-    by true q true r true e = is-only (eqb-true g 2 q) r
-    by true q true r false e = absurd (true≢false (sym (λ i. cond (q i) (r i) false) ∙ e))
-    by true q false r true e = absurd (true≢false (sym e ∙ (λ i. cond (q i) (r i) false)))
-    by true q false r false e = not-only (λ s. r)
-    by false q d r true e = absurd (true≢false (sym e ∙ (λ i. cond (q i) D.panel false)))
-    by false q d r false e = not-only (λ s. absurd (sign-not D g (eqb-false g 2 q) s))
+pub only : (D : Dialect) (g : Operator) (b : Bool) → closes_only D [] g ≡ b → Only D g b
+only D Minus true e = is-only refl e
+only D Minus false e = not-only (λ s. e)
+only D Plus true e = absurd (true≢false (sym e))
+only D Plus false e = not-only (λ s. cc)
+only D Times true e = absurd (true≢false (sym e))
+only D Times false e = not-only (λ s. cc)
+only D Power true e = absurd (true≢false (sym e))
+only D Power false e = not-only (λ s. cc)
 
 -- the row makes no difference where nothing leads on
 pub stopped-row : (D : Dialect) (row : List ℕ) (n : ℕ) (ts : List Token) → stopped D row n ts ≡ stopped D [] n ts
@@ -93,8 +91,8 @@ stopped-row D row n (k ∷ ts) = refl
 
 module _ (D : Dialect) (row s : List ℕ) where
   -- an operand that was made in the part `&mut out[2..]`
-  pub made-operand : {b k nx : ℕ} {e : List ℕ} {Ok : List Frame → Type 0} {f : List Frame → Reading Tree} {g : Tree → List Frame → Next}
-      (m : Made D row s b e k nx Ok f g) (w : List ℕ) → 2 ≤ length w
+  pub made-operand : {b k nx : ℕ} {e : List ℕ} {Fits : List Frame → Type 0} {f : List Frame → Reading Tree} {g : Tree → List Frame → Next}
+      (m : Made D row s b e k nx Fits f g) (w : List ℕ) → 2 ≤ length w
       → Operand D row m.tree k (drop 2 (put_mid 2 (length w - 2) w e))
   made-operand {b} {k} {nx} {e} m w h = record {
     size = m.size;

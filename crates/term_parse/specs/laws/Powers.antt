@@ -1,44 +1,37 @@
 -- Behind `(EXPT`: the base, the exponent.
-use Rattle.std.specs.Prelude.{◌≡◌, refl, true, false, ◌⊎◌, List, ◌∷◌, ℕ, ◌+◌, ◌*◌, ◌-◌, ◌≤◌, min, length, take, drop}
-use Rattle.std.proofs.Common.{sym, ◌∙◌, subst, inl, inr, arith}
+use Rattle.std.specs.Prelude.{◌≡◌, refl, true, false, List, ◌∷◌, ℕ, ◌+◌, ◌*◌, ◌-◌, ◌≤◌, min, length, take, drop}
+use Rattle.std.proofs.Common.{sym, ◌∙◌, subst, arith}
 use Rattle.std.proofs.Math.Path.{ap}
-use Rattle.std.proofs.Math.Option.{Option, none, some}
 use borrow.Rule.Slice.PartMut.{put_mid}
-use Rattle.text.specs.definitions.Bytes.{canonical, value_from, is_in_row}
+use Rattle.text.specs.definitions.Bytes.{canonical, value_from}
 use Rattle.term_token.specs.Views.{from}
 use Rattle.dialect.specs.declared.Dialect.{Dialect}
-use Rattle.text.specs.definitions.Answer.{refused, fine}
+use Rattle.text.specs.definitions.Answer.{refused}
 use Rattle.term_tree.specs.Coding.{span_of, enc}
-use Rattle.text.specs.definitions.Reading.{Frame, first, base, operand, exponent, raised, a_letter, on, lone, after_expt, deliver}
-use Rattle.text.specs.definitions.Reading.{raise_letter, letter_check, run_in}
-use Rattle.text.specs.definitions.Tree.{Tree, two, power}
+use Rattle.text.specs.definitions.Reading.{Frame, base, operand, exponent, raised, a_letter, on, after_expt, deliver}
+use Rattle.text.specs.definitions.Reading.{run_in}
+use Rattle.text.specs.definitions.Tree.{Tree, power}
+use Rattle.term_leaf.specs.declared.Kind.{Kind}
+use Rattle.term_leaf.specs.declared.Kind.TheVariants as K
 use Rattle.term_leaf.specs.Leaf.{Part, On, Off}
-use Rattle.term_leaf.specs.Leaf.{part, TokenAt, letter_tree, WordSays}
+use Rattle.term_leaf.specs.Leaf.{part, TokenAt}
 use Rattle.term_parse.specs.Found.{TermSays, go_on, Made, Says, Shut, TermAt, PowerAt, LetterAt, ExponentAt, ClosedAt}
-use Rattle.term_parse.specs.laws.Steps.{close-power, raised-stops, exponent-stops, letter-stops, exponent-good, exponent-bad}
-use Rattle.term_parse.specs.laws.Parts.{behind, no_word, stopped-is, says-as}
+use Rattle.term_parse.specs.laws.Steps.{close-power, raised-stops, exponent-good, exponent-bad}
+use Rattle.term_parse.specs.laws.Parts.{says-as}
 use Rattle.term_parse.specs.laws.Operands.{node-words, stopped-row, made-operand}
 
 module _ (D : Dialect) (row s : List ℕ) where
   -- ---- an exponent
-  module _ (p k at kind a e : ℕ) (t : TokenAt s at kind a e) (before : List ℕ) where
-    -- no word
-    pub exp-none : (kind ≡ 3 → ⊥) → (out : List ℕ) → ExponentAt D row s p k at before out (Off D.wrong a e)
-    exp-none n out =
-        record {
-          says = λ o x X fs z. exponent-stops D row p o x fs (length s) (from s at) (no_word D row s at kind a e t n)
-              ∙ stopped-is D row s at kind a e t;
-        }
-
+  module _ (p k at : ℕ) (kind : Kind) (a e : ℕ) (t : TokenAt s at kind a e) (before : List ℕ) where
     -- no exponent
-    pub exp-bad : kind ≡ 3 → canonical (part s a e) ≡ false → (out : List ℕ) → ExponentAt D row s p k at before out (Off D.wrong a e)
+    pub exp-bad : kind ≡ K.Word → canonical (part s a e) ≡ false → (out : List ℕ) → ExponentAt D row s p k at before out (Off D.wrong a e)
     exp-bad h b out = record {
       says = λ o x X fs z.
           ap (run_in D row (length s) (exponent p o x) fs) (t.worded h).0
           ∙ exponent-bad D row p o x a (part s a e) fs (length s) (from s e) b ∙ ap (refused D.wrong a) (sym (t.worded h).1);
     }
 
-    module _ (h : kind ≡ 3) (b : canonical (part s a e) ≡ true) (short : length s ≤ 65535) (below : p ≤ at)
+    module _ (h : kind ≡ K.Word) (b : canonical (part s a e) ≡ true) (short : length s ≤ 65535) (below : p ≤ at)
         (bound : 2 * k + 5 ≤ 3 * (at - p)) where
       starts₃ : (o : ℕ) (x : Tree) (fs : List Frame) → run_in D row (length s) (exponent p o x) fs (from s at)
           ≡ run_in D row (length s) (raised p o x a (value_from 0 (part s a e))) fs (from s e)
@@ -65,73 +58,16 @@ module _ (D : Dialect) (row s : List ℕ) where
               is =
                   ap (take k') cl.words ∙ node-words (2147483653 + 8 * n) (span_of p (cl.c + 1)) k k' (drop 2 before) (enc row x)
                   cl.is-size X.is ∙ ap (λ z. (2147483653 + 8 * z) ∷ (span_of p (cl.c + 1) ∷ enc row x)) q;
-              more = omega (arith, below, t.later, t.more (λ z. omega arith), cl.later);
+              more = omega (arith, below, t.later, t.more (λ z. cc), cl.later);
               inside = cl.inside;
-              bound = omega (arith, cl.is-size, bound, below, t.later, t.more (λ z. omega arith), cl.later);
+              bound = omega (arith, cl.is-size, bound, below, t.later, t.more (λ z. cc), cl.later);
               known = X.known;
-              short = (omega (arith, below, t.later, t.more (λ z. omega arith), t.inside, short), X.short);
+              short = (omega (arith, below, t.later, t.more (λ z. cc), t.inside, short), X.short);
               leads =
                   λ fs z. starts₃ o x fs ∙ ap (run_in D row (length s) (raised p o x a m) fs) cl.first
                   ∙ close-power D row p o cl.c x a m fs (length s) (from s nx);
             };
       }
-
-  -- ---- a letter
-  module _ (at kind a e : ℕ) (t : TokenAt s at kind a e) where
-    -- no word
-    pub base-none : (kind ≡ 3 → ⊥) → (out : List ℕ) → LetterAt D row s at out (Off D.wrong a e)
-    base-none n out =
-        record {
-          says = λ p o fs z. letter-stops D row p o fs (length s) (from s at) (no_word D row s at kind a e t n)
-              ∙ stopped-is D row s at kind a e t;
-        }
-
-    lone-run : kind ≡ 3 → (L : Option Tree) → lone a (part s a e) ≡ L → (p o : ℕ) (fs : List Frame) →
-        run_in D row (length s) (a_letter p o) fs (from s at)
-        ≡ behind D row s a e (letter_check (is_in_row row) (part s a e)) (raise_letter p o L fs)
-    lone-run h L q p o fs =
-        ap (run_in D row (length s) (a_letter p o) fs) (t.worded h).0
-        ∙ ap (λ L'. behind D row s a e (letter_check (is_in_row row) (part s a e)) (raise_letter p o L' fs)) q
-
-    lone-some : kind ≡ 3 → (x : Tree) → lone a (part s a e) ≡ some x → (z : ℕ) → letter_check (is_in_row row) (part s a e) ≡ z →
-        (p o : ℕ) (fs : List Frame)
-        → run_in D row (length s) (a_letter p o) fs (from s at) ≡ fine z a e (λ u. run_in D row (length s) (exponent p o x) fs (from s e))
-    lone-some h x q z c p o fs =
-        lone-run h (some x) q p o fs ∙ (λ i. fine (c i) a (sym (t.worded h).1 i)
-        (λ u. run_in D row (length s) (exponent p o x) fs (from s e)))
-
-    -- what is answered of the word
-    pub base_word : kind ≡ 3 → (out : List ℕ) (r : Part) → WordSays D row (letter_tree a (part s a e)) (part s a e) a e out r →
-        LetterAt D row s at out r
-    base_word h out (On k nx) W =
-        let w = W.case in
-        record {
-          says = λ p o. record {
-            tree = w.tree;
-            size = omega (arith, w.two, w.size);
-            is = ap (λ n. take n out) w.two ∙ w.is;
-            more = omega (arith, w.past, t.later, t.more (λ z. omega arith));
-            inside = omega (arith, w.past, t.inside);
-            bound = omega (arith, w.two, w.past, t.later, t.more (λ z. omega arith));
-            known = w.known;
-            short = w.short;
-            leads =
-                λ fs z. lone-some h w.tree w.found 0 w.fine p o fs
-                ∙ ap (λ n. run_in D row (length s) (exponent p o w.tree) fs (from s n)) (sym w.past);
-          };
-        }
-    base_word h out (Off n p' q) W = record { says = λ p o fs z. by (lone a (part s a e)) refl W.case.why p o fs }
-      where
-        by : (L : Option Tree) → lone a (part s a e) ≡ L →
-            ((lone a (part s a e) ≡ none) × (n ≡ D.wrong))
-            ⊎ ((Tree × (n ≡ 5)) × ((letter_check (is_in_row row) (part s a e) ≡ 5) × (lone a (part s a e) ≡ none → ⊥))) → (p o : ℕ)
-            (fs : List Frame)
-            → run_in D row (length s) (a_letter p o) fs (from s at) ≡ refused n p' q
-        by L l (inl (x, y)) p o fs =
-            lone-run h none x p o fs ∙ (λ i. refused (sym y i) (sym W.case.place i) ((sym (t.worded h).1 ∙ sym W.case.end) i))
-        by none l (inr (x, y)) p o fs = absurd (y.1 l)
-        by (some z) l (inr (x, y)) p o fs =
-            lone-some h z l 5 y.0 p o fs ∙ (λ i. refused (sym x.1 i) (sym W.case.place i) (sym W.case.end i))
 
   -- ---- behind `(EXPT`
   module _ (p at depth : ℕ) where

@@ -1,5 +1,5 @@
 -- Behind the first operand: a `)`, or the second operand.
-use Rattle.std.specs.Prelude.{◌≡◌, true, false, List, [], ◌∷◌, ◌++◌, ℕ, ◌+◌, ◌*◌, ◌-◌, ◌≤◌, ◌<◌, take, drop}
+use Rattle.std.specs.Prelude.{◌≡◌, false, List, [], ◌∷◌, ◌++◌, ℕ, ◌+◌, ◌*◌, ◌-◌, ◌≤◌, ◌<◌, take, drop}
 use Rattle.std.proofs.Math.Path.{refl, ap}
 use Rattle.std.proofs.Common.{sym, ◌∙◌, subst, arith}
 use Rattle.std.proofs.Math.ListN.{length, length-append}
@@ -8,6 +8,11 @@ use Rattle.text.specs.definitions.Bytes.{Token, closing}
 use Rattle.text.specs.definitions.Tree.{sub, Tree, neg, two}
 use Rattle.text_laws.specs.laws.Bytes.{and_i}
 use Rattle.term_token.specs.Views.{from}
+use Rattle.std.specs.Prelude.{Some}
+use Rattle.term_leaf.specs.declared.Kind.{Kind}
+use Rattle.term_leaf.specs.declared.Kind.TheVariants as K
+use Rattle.text_word.specs.declared.Operator.{Operator}
+use Rattle.text_word.specs.declared.Operator.TheVariants.{Minus, Power}
 use Rattle.text_word.specs.Words.{operator_of}
 use Rattle.dialect.specs.declared.Dialect.{Dialect}
 use Rattle.text.specs.definitions.Answer.{refused}
@@ -15,19 +20,19 @@ use Rattle.term_tree.specs.Coding.{span_of, sign_code, enc}
 use Rattle.text.specs.definitions.Reading.{Frame, first, second, operand, ending, after_first, deliver, run_in}
 use Rattle.term_leaf.specs.Leaf.{Part, On, Off}
 use Rattle.term_leaf.specs.Leaf.{part, TokenAt}
-use Rattle.term_parse.specs.Found.{TermSays, go_on, Shut, TermAt, ListAt, sign_of, closes_only, SecondAt, NoClosing, ClosedAt}
-use Rattle.term_parse.specs.laws.Steps.{close-two, close-minus, close-binary, ending-stops, negated-stops, second-on}
-use Rattle.term_parse.specs.laws.Parts.{no-closing, stopped-is, says-as, first_made, sign-run, ok}
-use Rattle.term_parse.specs.laws.Operands.{is-only, not-only, taken-le, behind-first, node-words, sign-two, sign-not, sign-head}
+use Rattle.term_parse.specs.Found.{TermSays, go_on, Shut, TermAt, ListAt, code_of, sign_of, closes_only, SecondAt, NoClosing, ClosedAt}
+use Rattle.term_parse.specs.laws.Steps.{close-two, close-minus, ending-stops, second-on}
+use Rattle.term_parse.specs.laws.Parts.{no-closing, says-as, first_made, sign-run, ok}
+use Rattle.term_parse.specs.laws.Operands.{not-only, taken-le, behind-first, node-words, sign-two, sign-head}
 use Rattle.term_parse.specs.laws.Operands.{Only, only, stopped-row, made-operand}
 
 module _ (D : Dialect) (row s : List ℕ) where
   -- ---- behind the first operand
-  module _ (p at depth kind a e : ℕ) (t : TokenAt s at kind a e) (h : kind ≡ 3) (g : ℕ) (op : g ≡ operator_of (part s a e)) (nz : g ≡ 0 → ⊥)
-      (f : g ≡ 4 → ⊥)
+  module _ (p at depth : ℕ) (kind : Kind) (a e : ℕ) (t : TokenAt s at kind a e) (h : kind ≡ K.Word) (g : Operator)
+      (op : operator_of (part s a e) ≡ Some g) (f : g ≡ Power → ⊥)
       (outx : List ℕ) (x : Part) (X : TermAt D row s e (depth + 1) outx x) (k nx : ℕ) (E : x ≡ On k nx) where
     pub made : TermSays D row s e (depth + 1) outx (On k nx)
-    made = first_made D row s p at depth kind a e t h g op nz f outx x X k nx E
+    made = first_made D row s p at depth kind a e t h g op f outx x X k nx E
 
     -- it is there, and what is answered of what follows it
     pub list-second : (w : List ℕ) → 2 ≤ length w → (out : List ℕ) (r : Part) →
@@ -36,23 +41,23 @@ module _ (D : Dialect) (row s : List ℕ) where
       says = says-as D row s p out (deliver D) r
           (λ fs o. (
             o,
-            sign-run D row s p at depth kind a e t h g op nz f fs
-                ∙ made.leads (first p a (sign_of D row g) ∷ fs) (ok D row s p at depth kind a e t h g op nz f outx x X fs o),
+            sign-run D row s p at depth kind a e t h g op f fs
+                ∙ made.leads (first p a (sign_of D row g) ∷ fs) (ok D row s p at depth kind a e t h g op f outx x X fs o),
           ))
           (S.says a made.tree (made-operand D row s made w l));
     }
 
   -- ---- behind the first operand: a `)`, or the second
-  module _ (p g k at depth kind a e : ℕ) (t : TokenAt s at kind a e) (before : List ℕ) (short : length s ≤ 65535) (below : p ≤ at)
+  module _ (p : ℕ) (g : Operator) (k at depth : ℕ) (kind : Kind) (a e : ℕ) (t : TokenAt s at kind a e) (before : List ℕ) (short : length s ≤ 65535) (below : p ≤ at)
       (bound : 2 * k + 5 ≤ 3 * (at - p)) where
     -- `(- x)`
-    pub second-neg : kind ≡ 2 → g ≡ 2 → (out : List ℕ) → out ≡ 2147483649 ∷ ((p + 65536 * e) ∷ drop 2 before) →
+    pub second-neg : kind ≡ K.Close → g ≡ Minus → (out : List ℕ) → out ≡ 2147483649 ∷ ((p + 65536 * e) ∷ drop 2 before) →
         SecondAt D row s p g k at depth before out (On (2 + k) e)
     unfolding enc
     second-neg h q out w = record {
       says = λ o x X.
           let c : e ≡ a + 1 = omega (arith, (t.closes h).1) in
-          let l : a < e = t.more (λ z. omega arith) in
+          let l : a < e = t.more (λ z. cc) in
           record {
             tree = neg p o a x;
             size = omega (arith, X.size);
@@ -70,30 +75,8 @@ module _ (D : Dialect) (row s : List ℕ) where
           };
     }
 
-    -- `(+ x)` or `(* x)`
-    pub second-wrong : kind ≡ 2 → (g ≡ 2 → ⊥) → (out : List ℕ) → SecondAt D row s p g k at depth before out (Off D.wrong a e)
-    second-wrong h q out = record {
-      says = λ o x X fs z.
-          ap (go_on D row (length s) (after_first D.panel p o (sign_of D row g) x fs)) (t.closes h).0
-          ∙ close-binary D row p o a (sign_of D row g) x fs (length s) (from s e) (sign-not D g q)
-          ∙ ap (refused D.wrong a) (sym (t.closes h).1);
-    }
-
-    -- a panel term's `(- x` without its `)`
-    pub second-only : (kind ≡ 2 → ⊥) → closes_only D [] g ≡ true → (out : List ℕ) →
-        SecondAt D row s p g k at depth before out (Off D.wrong a e)
-    second-only n c out = by (only D g true c)
-      where
-        by : Only D g true → SecondAt D row s p g k at depth before out (Off D.wrong a e)
-        by (is-only q r) = record {
-          says = λ o x X fs z.
-              ap (λ y. go_on D row (length s) (after_first D.panel p o y x fs) (from s at)) (sign-two D g q)
-              ∙ negated-stops D row r p o x fs (length s) (from s at) (no-closing D row s at kind a e t n)
-              ∙ stopped-is D row s at kind a e t;
-        }
-
     -- the second operand
-    module _ (n : kind ≡ 2 → ⊥) (c : closes_only D [] g ≡ false) (outy : List ℕ) (y : Part) (Y : TermAt D row s at (depth + 1) outy y) where
+    module _ (n : kind ≡ K.Close → ⊥) (c : closes_only D [] g ≡ false) (outy : List ℕ) (y : Part) (Y : TermAt D row s at (depth + 1) outy y) where
       may : sign_of D [] g ≡ sub → D.panel ≡ false
       may = by (only D g false c)
         where
@@ -125,27 +108,27 @@ module _ (D : Dialect) (row s : List ℕ) where
             subst (TermSays D row s at (depth + 1) outy) E Y.says
 
         -- it is there, and what is answered of the `)`
-        pub second-both : 2 + k ≤ length before → 1 ≤ g → g ≤ 3 → (out : List ℕ) (r : Part) →
-            ClosedAt D s p (2147483649 + g + 8 * k) (2 + k + j) nx (put_mid (2 + k) (length before - (2 + k)) before outy) out r
+        pub second-both : 2 + k ≤ length before → (g ≡ Power → ⊥) → (out : List ℕ) (r : Part) →
+            ClosedAt D s p (code_of g + 8 * k) (2 + k + j) nx (put_mid (2 + k) (length before - (2 + k)) before outy) out r
             → SecondAt D row s p g k at depth before out r
         unfolding enc
-        second-both l g₁ g₃ out (Off m q q') C = record {
+        second-both l n₄ out (Off m q q') C = record {
           says = λ o x X fs z.
               starts o x fs ∙ made₂.leads (second p o (sign_of D row g) x ∷ fs) (ok₂ o x fs z)
               ∙ ending-stops D row p o (sign_of D row g) x made₂.tree fs (length s) (from s nx) C.case.0
               ∙ stopped-row D row (length s) (from s nx) ∙ C.case.1;
         }
-        second-both l g₁ g₃ out (On k' nx') C = record {
+        second-both l n₄ out (On k' nx') C = record {
           says = λ o x X.
               let cl = C.case in
               let y' = made₂.tree in
-              let head : 2147483649 + g + 8 * k ≡ sign_code (sign_of D row g) + 8 * length (enc row x) = omega
-              (arith, sign-head D g g₁ g₃, X.size) in
+              let head : code_of g + 8 * k ≡ sign_code (sign_of D row g) + 8 * length (enc row x) = omega
+              (arith, sign-head D g n₄, X.size) in
               record {
                 tree = two p o cl.c (sign_of D row g) x y';
                 size = omega (arith, cl.is-size, X.size, made₂.size, length-append (enc row x) (enc row y'));
                 is = ap (take k') cl.words
-                    ∙ node-words (2147483649 + g + 8 * k) (span_of p (cl.c + 1)) (k + j) k'
+                    ∙ node-words (code_of g + 8 * k) (span_of p (cl.c + 1)) (k + j) k'
                     (drop 2 (put_mid (2 + k) (length before - (2 + k)) before outy)) (enc row x ++ enc row y') (omega (arith, cl.is-size))
                     (behind-first k j before outy (enc row x) (enc row y') _ l X.is X.size made₂.is
                     (taken-le j outy (enc row y') made₂.is made₂.size))

@@ -1,17 +1,20 @@
 -- What one token does to the reading.
-use Rattle.std.specs.Prelude.{◌≡◌, refl, Bool, true, false, cond, List, [], ◌∷◌, ℕ, suc, ◌+◌, ◌≤◌, eqb}
-use Rattle.std.proofs.Common.{sym, ◌∙◌, subst, true≢false, arith}
+use Rattle.std.specs.Prelude.{◌≡◌, refl, Bool, true, false, cond, List, [], ◌∷◌, ℕ, suc, ◌+◌}
+use Rattle.std.proofs.Common.{sym, ◌∙◌, subst, true≢false}
 use Rattle.std.proofs.Math.Path.{ap}
 use Rattle.std.proofs.Math.Option.{none, some}
 use Rattle.std.proofs.Math.ListN.{length}
 use Rattle.text.specs.definitions.Bytes.{bytes, same, canonical, read_nat, value_from, Token, opening, closing, word, is_in_row}
 use Rattle.text.specs.definitions.Tree.{Sign, add, sub, mul, Tree, neg, two, power}
 use Rattle.text_laws.specs.laws.Bytes.{same-eq, same_refl, not-both}
+use Rattle.std.specs.Prelude.{Option as Maybe, Some, None}
+use Rattle.text_word.specs.declared.Operator.{Operator}
+use Rattle.text_word.specs.declared.Operator.TheVariants.{Plus, Minus, Times, Power}
 use Rattle.text_word.specs.Words.{operator_of}
 use Rattle.text_word.specs.Laws.{operator-0}
 use Rattle.dialect.specs.declared.Dialect.{Dialect}
 use Rattle.text.specs.definitions.Answer.{Reading, fine}
-use Rattle.text.specs.definitions.Reading.{Frame, first, second, base, operand, operator, exponent, ending, raised, a_letter, Next, on, off}
+use Rattle.text.specs.definitions.Reading.{Frame, first, second, base, operand, exponent, ending, raised, Next, on, off}
 use Rattle.text.specs.definitions.Reading.{after_first, after_expt, raise, case_next, deliver, operator_word, letter_check, wrong_at, only_end}
 use Rattle.text.specs.definitions.Reading.{run_in}
 use Rattle.term_leaf.specs.laws.Words.{check-natural}
@@ -58,20 +61,6 @@ module _ (D : Dialect) (row : List ℕ) where
       → go_on D row n (after_first D.panel p o sub x fs) (closing c ∷ ks) ≡ go_on D row n (deliver D (neg p o c x) fs) ks
   close-minus p o c x fs n ks = close-neg D.panel p o c x fs n ks
 
-  close-off : (b : Bool) (p o c : ℕ) (g : Sign) (x : Tree) (fs : List Frame) (n : ℕ) (ks : List Token) → (g ≡ sub → ⊥)
-      → go_on D row n (after_first b p o g x fs) (closing c ∷ ks) ≡ wrong_at D (closing c)
-  close-off false p o c add x fs n ks h = refl
-  close-off false p o c sub x fs n ks h = absurd (h refl)
-  close-off false p o c mul x fs n ks h = refl
-  close-off true p o c add x fs n ks h = refl
-  close-off true p o c sub x fs n ks h = absurd (h refl)
-  close-off true p o c mul x fs n ks h = refl
-
-  -- of one operand where there have to be two
-  pub close-binary : (p o c : ℕ) (g : Sign) (x : Tree) (fs : List Frame) (n : ℕ) (ks : List Token) → (g ≡ sub → ⊥)
-      → go_on D row n (after_first D.panel p o g x fs) (closing c ∷ ks) ≡ wrong_at D (closing c)
-  close-binary p o c g x fs n ks h = close-off D.panel p o c g x fs n ks h
-
   -- ---- where only a `)` may stand
   -- behind two operands
   pub ending-stops : (p o : ℕ) (g : Sign) (x y : Tree) (fs : List Frame) (n : ℕ) (ts : List Token) → NoClosing ts →
@@ -89,19 +78,6 @@ module _ (D : Dialect) (row : List ℕ) where
   raised-stops p o x q m fs n (closing r ∷ ts) h = absurd h
   raised-stops p o x q m fs n (word r w ∷ ts) h = refl
 
-  negated-by : (b : Bool) → b ≡ true → (p o : ℕ) (x : Tree) (fs : List Frame) (n : ℕ) (ts : List Token) → NoClosing ts →
-      go_on D row n (after_first b p o sub x fs) ts ≡ stopped D row n ts
-  negated-by false e p o x fs n ts h = absurd (true≢false (sym e))
-  negated-by true e p o x fs n [] h = refl
-  negated-by true e p o x fs n (opening r ∷ ts) h = refl
-  negated-by true e p o x fs n (closing r ∷ ts) h = absurd h
-  negated-by true e p o x fs n (word r w ∷ ts) h = refl
-
-  -- behind a panel term's `(- x`
-  pub negated-stops : D.panel ≡ true → (p o : ℕ) (x : Tree) (fs : List Frame) (n : ℕ) (ts : List Token) → NoClosing ts →
-      go_on D row n (after_first D.panel p o sub x fs) ts ≡ stopped D row n ts
-  negated-stops e p o x fs n ts h = negated-by D.panel e p o x fs n ts h
-
   -- a second operand may stand
   second-by : (b : Bool) (p o : ℕ) (g : Sign) (x : Tree) (fs : List Frame) → (g ≡ sub → b ≡ false) → after_first b p o g x fs
       ≡ on operand (second p o g x ∷ fs)
@@ -114,37 +90,6 @@ module _ (D : Dialect) (row : List ℕ) where
   pub second-on : (p o : ℕ) (g : Sign) (x : Tree) (fs : List Frame) → (g ≡ sub → D.panel ≡ false) → after_first D.panel p o g x fs
       ≡ on operand (second p o g x ∷ fs)
   second-on p o g x fs h = second-by D.panel p o g x fs h
-
-  -- ---- where only a word may stand
-  abbrev pub NoWord : List Token → Type 0
-  NoWord [] = Unit {0}
-  NoWord (opening p ∷ ks) = Unit {0}
-  NoWord (closing p ∷ ks) = Unit {0}
-  NoWord (word p w ∷ ks) = ⊥
-
-  -- for an exponent
-  pub exponent-stops : (p o : ℕ) (x : Tree) (fs : List Frame) (n : ℕ) (ts : List Token) → NoWord ts → run_in D row n (exponent p o x) fs ts
-      ≡ stopped D row n ts
-  exponent-stops p o x fs n [] h = refl
-  exponent-stops p o x fs n (opening r ∷ ts) h = refl
-  exponent-stops p o x fs n (closing r ∷ ts) h = refl
-  exponent-stops p o x fs n (word r w ∷ ts) h = absurd h
-
-  -- for a letter
-  pub letter-stops : (p o : ℕ) (fs : List Frame) (n : ℕ) (ts : List Token) → NoWord ts → run_in D row n (a_letter p o) fs ts
-      ≡ stopped D row n ts
-  letter-stops p o fs n [] h = refl
-  letter-stops p o fs n (opening r ∷ ts) h = refl
-  letter-stops p o fs n (closing r ∷ ts) h = refl
-  letter-stops p o fs n (word r w ∷ ts) h = absurd h
-
-  -- for an operator
-  pub operator-stops : (p : ℕ) (fs : List Frame) (n : ℕ) (ts : List Token) → NoWord ts → run_in D row n (operator p) fs ts
-      ≡ stopped D row n ts
-  operator-stops p fs n [] h = refl
-  operator-stops p fs n (opening r ∷ ts) h = refl
-  operator-stops p fs n (closing r ∷ ts) h = refl
-  operator-stops p fs n (word r w ∷ ts) h = absurd h
 
   -- ---- an exponent
   -- it is one
@@ -166,15 +111,26 @@ module _ (D : Dialect) (row : List ℕ) where
       (λ s' fs'. fine (letter_check (is_in_row row) w) q (q + length w) (λ u. run_in D row n s' fs' ks))
       (λ t. fine (letter_check (is_in_row row) w) q (q + length w) (λ u. only_end D t ks))) e
 
-  -- ---- an operator's word, by its code
-  abbrev pub by_code : ℕ → ℕ → ℕ → List Frame → Next
-  by_code g p o fs = cond (eqb g 0) off (cond (eqb g 4) (after_expt D.panel p o fs) (on operand (first p o (sign_of D row g) ∷ fs)))
+  -- ---- an operator's word, by what it says
+  abbrev pub by_code : Maybe Operator → ℕ → ℕ → List Frame → Next
+  by_code None p o fs = off
+  by_code (Some Plus) p o fs = on operand (first p o (sign_of D row Plus) ∷ fs)
+  by_code (Some Minus) p o fs = on operand (first p o (sign_of D row Minus) ∷ fs)
+  by_code (Some Times) p o fs = on operand (first p o (sign_of D row Times) ∷ fs)
+  by_code (Some Power) p o fs = after_expt D.panel p o fs
 
-  -- the word by its code, which is 0 where it is no operator
+  -- an operator that is no power
+  pub by-sign : (g : Operator) → (g ≡ Power → ⊥) → (p o : ℕ) (fs : List Frame)
+      → by_code (Some g) p o fs ≡ on operand (first p o (sign_of D row g) ∷ fs)
+  by-sign Plus n p o fs = refl
+  by-sign Minus n p o fs = refl
+  by-sign Times n p o fs = refl
+  by-sign Power n p o fs = absurd (n refl)
+
+  -- the word by its operator, if it is one
   pub record Operates (p o : ℕ) (w : List ℕ) : Type 0 where
-    pub small : operator_of w ≤ 4
     pub is : (fs : List Frame) → operator_word D p o w fs ≡ by_code (operator_of w) p o fs
-    pub checked : (operator_of w ≡ 0 → ⊥) → letter_check (is_in_row row) w ≡ 0
+    pub checked : (operator_of w ≡ None → ⊥) → letter_check (is_in_row row) w ≡ 0
 
   -- every word
   pub operates : (p o : ℕ) (w : List ℕ) → Operates p o w
@@ -188,14 +144,13 @@ module _ (D : Dialect) (row : List ℕ) where
 
       at : (a : Bool) → same w (bytes "+") ≡ a → (b : Bool) → same w (bytes "-") ≡ b → (c : Bool) → same w (bytes "*") ≡ c → (d : Bool) →
           same w (bytes "EXPT") ≡ d → Operates p o w
-      at true e b f c g d h = hit (bytes "+") e (record { small = omega arith; is = λ fs. refl; checked = λ z. refl })
-      at false e true f c g d h = hit (bytes "-") f (record { small = omega arith; is = λ fs. refl; checked = λ z. refl })
-      at false e false f true g d h = hit (bytes "*") g (record { small = omega arith; is = λ fs. refl; checked = λ z. refl })
-      at false e false f false g true h = hit (bytes "EXPT") h (record { small = omega arith; is = λ fs. refl; checked = λ z. refl })
+      at true e b f c g d h = hit (bytes "+") e (record { is = λ fs. refl; checked = λ z. refl })
+      at false e true f c g d h = hit (bytes "-") f (record { is = λ fs. refl; checked = λ z. refl })
+      at false e false f true g d h = hit (bytes "*") g (record { is = λ fs. refl; checked = λ z. refl })
+      at false e false f false g true h = hit (bytes "EXPT") h (record { is = λ fs. refl; checked = λ z. refl })
       at false e false f false g false h =
-          let k : operator_of w ≡ 0 = operator-0 w (miss (bytes "+") e) (miss (bytes "-") f) (miss (bytes "*") g) (miss (bytes "EXPT") h) in
+          let k : operator_of w ≡ None = operator-0 w (miss (bytes "+") e) (miss (bytes "-") f) (miss (bytes "*") g) (miss (bytes "EXPT") h) in
           record {
-            small = omega arith;
             is = λ fs.
                 (λ t. cond (e t) (on operand (first p o add ∷ fs))
                 (cond (f t) (on operand (first p o sub ∷ fs))

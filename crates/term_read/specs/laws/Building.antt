@@ -1,6 +1,6 @@
 -- From the words of an accepted tree to its run, and from the run to the form.
-use Rattle.std.specs.Prelude.{true, List, ◌++◌, ◌≡◌, refl, ℕ, ◌+◌, ◌≤◌, length, take}
-use Rattle.std.proofs.Common.{sym, ap, ◌∙◌, subst, arith, length-take}
+use Rattle.std.specs.Prelude.{true, Result, Ok, Err, List, ◌++◌, ◌≡◌, refl, ℕ, ◌+◌, ◌≤◌, length, take}
+use Rattle.std.proofs.Common.{sym, ap, ◌∙◌, subst, arith}
 use Rattle.dialect.specs.Dialects.{ordinary}
 use Rattle.dialect.specs.declared.Dialect.{Dialect}
 use Rattle.horner.specs.definitions.Term.{norm_p}
@@ -11,42 +11,29 @@ use Rattle.run_merge.specs.Words.{pairs}
 use Rattle.text.specs.definitions.Bytes.{is_row}
 use Rattle.text.specs.definitions.Tree.{term_of}
 use Rattle.text_laws.specs.laws.Rows.{row-length}
-use Rattle.refusal.specs.Refusal.{fault}
+use Rattle.refusal.specs.Refusal.{fault_of}
+use Rattle.refusal.specs.declared.Flaw.{Flaw}
 use Rattle.term_accept.specs.Accepted.{Accepted, AcceptedAs}
 use Rattle.term_accept.specs.Ordinary.{accepted-ordinary, refused-ordinary}
-use Rattle.term_parse.specs.Found.{ParseReady}
-use Rattle.term_parse.specs.declared.Parsed.{Parsed}
-use Rattle.term_parse.specs.declared.Parsed.TheVariants as P
 use Rattle.term_build.specs.Build.{Plain, PlainBuilt}
 use Rattle.term_build.specs.laws.Sized.{sized-dialect, shallow-dialect}
 use Rattle.term_tree.specs.Shapes.{Codes}
-use Rattle.term_read.specs.declared.TermReading.TheVariants.{Words, Refused}
 use Rattle.term_read.specs.Read.{IsRun, RunRead, TermRead, refusal, words}
 use Rattle.term_read.specs.laws.Reading.{begins-front}
 use Rattle.term_read.specs.laws.Terms.{accepted-low, accepted-words}
 
--- what parsing asks for document 01's own terms
-pub parse-ready : (row : List ℕ) (d : Dialect) {n : ℕ} → is_row row ≡ true → d ≡ ordinary → 6145 ≤ n → ParseReady d row n
-parse-ready row d {n} r e h =
-    subst (λ D. ParseReady D row n) (sym e) (record { four = (row-length row r).1; short = omega arith; room = omega (arith, h) })
-
 -- ---- what is accepted
-module _ (row s out : List ℕ) (q : Parsed) (d : Dialect) (e : d ≡ ordinary) (B : AcceptedAs d row s out q) where
+module _ (row s out : List ℕ) (q : Result ℕ Flaw) (d : Dialect) (e : d ≡ ordinary) (B : AcceptedAs d row s out q) where
   A : AcceptedAs ordinary row s out q
   A = subst (λ D. AcceptedAs D row s out q) e B
 
   -- refused while parsing or measuring
-  pub run-refused : {n p k : ℕ} (l : List ℕ) → q ≡ P.Refused n p k → RunRead row s (Refused (fault n p)) l
-  run-refused {n} {p} {k} l h =
-      refusal (fault n p) (refused-ordinary row s out n p k (subst (AcceptedAs ordinary row s out) h A)) refl
+  pub run-refused : {f : Flaw} (l : List ℕ) → q ≡ Err f → RunRead row s (Err (fault_of f)) l
+  run-refused {f} l h = refusal (fault_of f) (refused-ordinary row s out f (subst (AcceptedAs ordinary row s out) h A)) refl
 
-  module _ {k : ℕ} (h : q ≡ P.Tree k) where
-    found : Accepted ordinary row s out k
+  module _ {k : ℕ} (h : q ≡ Ok k) where
+    pub found : Accepted ordinary row s out k
     found = subst (AcceptedAs ordinary row s out) h A
-
-    -- the words of the tree lie in their table
-    pub tree-inside : k ≤ length out
-    tree-inside = omega (arith, length-take k out, ap length found.is, found.size)
 
     module _ (r : is_row row ≡ true) where
       codes : Codes row found.tree (take k out)
@@ -68,7 +55,7 @@ module _ (row s out : List ℕ) (q : Parsed) (d : Dialect) (e : d ≡ ordinary) 
           }
 
       -- and leaves the run
-      pub run-built : {n : ℕ} {l : List ℕ} → PlainBuilt (length row) (take k out) n l → RunRead row s (Words n) l
+      pub run-built : {n : ℕ} {l : List ℕ} → PlainBuilt (length row) (take k out) n l → RunRead row s (Ok n) l
       run-built {n} {l} B =
           words n
           record {
@@ -97,7 +84,7 @@ module _ {row s l : List ℕ} {n : ℕ} (r : is_row row ≡ true) (R : IsRun row
       omega (arith, h, ap (λ x. length (enc 0 x)) form-is, accepted-words row s r R.t R.accepted, (row-length row r).1)
 
   -- and it is the form's
-  pub form-built : {m : ℕ} (a k : List ℕ) → Made 0 (form_at (length row) 0 (take n l)) m a → TermRead row s (Words m) (a ++ k)
+  pub form-built : {m : ℕ} (a k : List ℕ) → Made 0 (form_at (length row) 0 (take n l)) m a → TermRead row s (Ok m) (a ++ k)
   form-built {m} a k M =
       words m
       record {

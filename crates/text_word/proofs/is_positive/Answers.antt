@@ -1,18 +1,16 @@
--- `text_word::is_positive` meets its contract, by the first byte and the length.
-use Rattle.std.proofs.Common.{sym, arith, ◌<◌, length}
-use Rattle.std.proofs.Math.Path.{◌∙◌}
-use Rattle.text_word.specs.Words.{positive-none, positive-zero, positive-digits}
+-- `text_word::is_positive` meets its contract: digits that do not begin with 0.
+use Rattle.std.proofs.Common.{◌≡◌, ◌∙◌, sym, arith, rules, tests}
+use Rattle.std.proofs.lemmas.Iterator.{YieldsList-from_slice}
+use Rattle.std.proofs.lemmas.Iterator.Search.{all_from_yields_List}
+use Rattle.std.specs.List.{list_all}
+use Rattle.text.specs.definitions.Bytes.{digit}
+use Rattle.text_word.specs.Words.{positive-digits}
+use Rattle.text_word.proofs.Walk.{all-list}
 use Rattle.text_word.proofs.is_positive.Goals as goal
 
-pub returns-then-w-eq0 : goal.returns-then-w-eq0
-returns-then-w-eq0 c =
-    sym (positive-none c.args.w.now c.if-w-eq0.true)
-
-pub returns-then-w-eq48 : goal.returns-then-w-eq48
-returns-then-w-eq48 c =
-    sym (positive-zero c.args.w.now c.if-w-eq48.true)
-
-pub returns : goal.returns
-returns c =
-    let some : 0 < length c.args.w.now = omega arith in
-    c.all_digits.ensures ∙ sym (positive-digits c.args.w.now some c.if-w-eq48.false)
+pub returns-in_default : goal.returns-in_default
+returns-in_default c =
+    let e : c.all.result ≡ list_all digit c.args.w.now =
+    all_from_yields_List digit _ _ c.all.result c.all.ensures.ran (YieldsList-from_slice c.args.w.now cc)
+    (λ x b q k. search (rules, tests)) in
+    e ∙ sym (all-list digit c.args.w.now) ∙ sym (positive-digits c.args.w.now (omega arith) (λ z. omega arith))

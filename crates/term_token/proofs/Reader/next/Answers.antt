@@ -3,7 +3,7 @@ use Rattle.std.proofs.Common.{refl, List, length, sym, ap, subst, ℕ, ◌+◌, 
 use Rattle.std.proofs.Math.Path.{◌≡◌, ◌∙◌}
 use Rattle.std.specs.Prelude.{drop}
 use Rattle.std.proofs.Math.ListN.{get_or}
-use Rattle.text.specs.definitions.Bytes.{in_word}
+use Rattle.text.specs.definitions.Bytes.{blank, in_word}
 use Rattle.term_token.specs.declared.Step.TheVariants.{Open, Close, Word, End}
 use Rattle.term_token.specs.Steps.{lead, step_of}
 use Rattle.term_token.specs.Views.{from, begin, width, says-end, says-open, says-close, says-word, step-open, step-close, step-word}
@@ -34,19 +34,25 @@ module _ (s : List ℕ) (at b : ℕ) (found : b ≡ begin s at) (l : at ≤ leng
       (λ e f h n m. ap (λ q. Word (begin s at) (record { at = q })) f
       ∙ sym (step-word s at (begin s at) (record { at = begin s at + width s at l }) (says-word s at l h n m)))
 
-pub returns-then-s-b : goal.returns-then-s-b
-returns-then-s-b c =
-    at-end c.args.s.now _ _ c.skip-b.ensures.value c.requires c.if-s-b.true
+pub returns-in-None : goal.returns-in-None
+returns-in-None c =
+    at-end c.args.s.now _ _ (c.run_end-from.ensures.value blank (λ x r p. p)) c.requires c.in-None.ensures.lookup.3
 
-pub returns-then-x-eq40 : goal.returns-then-x-eq40
-returns-then-x-eq40 c =
-    at_open c.args.s.now _ _ c.skip-b.ensures.value c.requires c.if-s-b.false c.if-x-eq40.true
+pub returns-in-Some-eq40 : goal.returns-in-Some-eq40
+returns-in-Some-eq40 c =
+    let here = c.in-Some-eq40.ensures.lookup.3 in
+    at_open c.args.s.now _ _ (c.run_end-from.ensures.value blank (λ x r p. p)) c.requires here.0
+    (sym (here.1 0) ∙ c.in-Some-eq40.field-0-test)
 
-pub returns-then-x-eq41 : goal.returns-then-x-eq41
-returns-then-x-eq41 c =
-    at-close c.args.s.now _ _ c.skip-b.ensures.value c.requires c.if-s-b.false c.if-x-eq41.true
+pub returns-in-Some-eq41 : goal.returns-in-Some-eq41
+returns-in-Some-eq41 c =
+    let here = c.in-Some-eq41.ensures.lookup.3 in
+    at-close c.args.s.now _ _ (c.run_end-from.ensures.value blank (λ x r p. p)) c.requires here.0
+    (sym (here.1 0) ∙ c.in-Some-eq41.field-0-test)
 
-pub returns : goal.returns
-returns c =
-    at-word c.args.s.now _ _ c.skip-b.ensures.value c.requires _ c.run-e.ensures.value
-    c.if-s-b.false c.if-x-eq40.false c.if-x-eq41.false
+pub returns-in-Some : goal.returns-in-Some
+returns-in-Some c =
+    let here = c.in-Some.ensures.lookup.3 in
+    at-word c.args.s.now _ _ (c.run_end-from.ensures.value blank (λ x r p. p)) c.requires _
+    (c.run_end.ensures.value in_word (λ x r p. p)) here.0
+    (λ e. c.in-Some.field-0-test.0.1 (here.1 0 ∙ e)) (λ e. c.in-Some.field-0-test.1 (here.1 0 ∙ e))

@@ -1,7 +1,0 @@
--- `term_leaf::found` meets its contract.
-use Rattle.term_leaf.specs.laws.Answers.{found-is}
-use Rattle.term_leaf.proofs.found.Goals as goal
-
-pub returns : goal.returns
-returns c =
-    found-is _ _ c.requires.0 c.requires.1
