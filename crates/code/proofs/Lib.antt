@@ -1,4 +1,5 @@
 pub mod Lists
 pub mod Regions
 pub mod Making
-mod Placed
+pub mod Placed
+pub mod Theorems

@@ -53,36 +53,36 @@ module _ {w : ℕ} {h : Form (Leaf w)} (a n : ℕ) (d : List ℕ) (room : a + n 
 
 -- The code of pop(i, h)
 
-mkpop-int : {w : ℕ} {h : Form (Leaf w)} {x : ℕ} (i : ℕ) → 0 < i → IsInt w h x → x ∷ [] ≡ enc w (pop_of w i h)
+pub mkpop-int : {w : ℕ} {h : Form (Leaf w)} {x : ℕ} (i : ℕ) → 0 < i → IsInt w h x → x ∷ [] ≡ enc w (pop_of w i h)
 unfolding pop_of
 mkpop-int zero l v = absurd (omega arith)
 mkpop-int {w} {h} {x} (suc i) l v = leaf-code v ∙ ap (enc w) (v.is ∙ rw v.is)
 
-mkpop-pop :
+pub mkpop-pop :
     {w : ℕ} {h : Form (Leaf w)} {l : List ℕ} (i : ℕ) → 0 < i → (v : IsPop w h l) →
     (2147483648 + (i + v.i)) ∷ enc w v.p ≡ enc w (pop_of w i h)
 unfolding enc pop_of
 mkpop-pop zero z v = absurd (omega arith)
 mkpop-pop (suc i) z v = rw v.is
 
-mkpop-pow : {w : ℕ} {h : Form (Leaf w)} {l : List ℕ} (i : ℕ) → 0 < i → (v : IsPow w h l) → (2147483648 + i) ∷ l ≡ enc w (pop_of w i h)
+pub mkpop-pow : {w : ℕ} {h : Form (Leaf w)} {l : List ℕ} (i : ℕ) → 0 < i → (v : IsPow w h l) → (2147483648 + i) ∷ l ≡ enc w (pop_of w i h)
 unfolding enc pop_of
 mkpop-pow zero z v = absurd (omega arith)
 mkpop-pow (suc i) z v = rw v.is (ap (λ r. (2147483648 + suc i) ∷ r) v.list)
 
-mkpop-pop-small : {w : ℕ} {h : Form (Leaf w)} {l : List ℕ} (i : ℕ) → 0 < i → (v : IsPop w h l) → Good w (pop_of w i h) → i + v.i ≤ 63
+pub mkpop-pop-small : {w : ℕ} {h : Form (Leaf w)} {l : List ℕ} (i : ℕ) → 0 < i → (v : IsPop w h l) → Good w (pop_of w i h) → i + v.i ≤ 63
 unfolding pop_of
 mkpop-pop-small zero z v g = absurd (omega arith)
 mkpop-pop-small {w} (suc i) z v g = let h : Good w (pop (suc i + v.i) v.p) = rw v.is at g in omega (arith, (good-pop h).1.0)
 
-mkpop-pow-small : {w : ℕ} {h : Form (Leaf w)} {l : List ℕ} (i : ℕ) → 0 < i → IsPow w h l → Good w (pop_of w i h) → i ≤ 63
+pub mkpop-pow-small : {w : ℕ} {h : Form (Leaf w)} {l : List ℕ} (i : ℕ) → 0 < i → IsPow w h l → Good w (pop_of w i h) → i ≤ 63
 unfolding pop_of
 mkpop-pow-small zero z v g = absurd (omega arith)
 mkpop-pow-small {w} (suc i) z v g =
     let h : Good w (pop (suc i) (pow v.i v.p v.q)) = rw v.is at g in omega (arith, (good-pop h).1.0)
 
 -- the words of a pop's form, moved down
-popped :
+pub popped :
     {w : ℕ} {h : Form (Leaf w)} (d e : List ℕ) (n x : ℕ) → 1 + n ≤ length d → (v : IsPop w h (take n (drop 1 d))) →
     e ≡ take (n - 1) (drop 1 (take (length (set d 0 x) - 1) (drop 1 (set d 0 x)))) ++ drop (n - 1)
     (take (length (set d 0 x) - 1) (drop 1 (set d 0 x))) →

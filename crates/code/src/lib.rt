@@ -128,11 +128,18 @@ fn shift(s: &mut [u32], gap: usize, n: usize)
 }
 
 // Writes x at the front of out. What lies after it stays.
+// A run of one monomial, the commonest, is copied here: its words were stored one by one, and a read of both at once waits for them.
 pub fn copy(x: &[u32], out: &mut [u32])
     requires { length x.now ≤ length out.old }
     ensures { out.new ≡ x.now ++ drop (length x.now) out.old }
 {
-    out[..x.len()].copy_from_slice(x);
+    match x {
+        [key, number] => {
+            out[0] = *key;
+            out[1] = *number;
+        }
+        _ => out[..x.len()].copy_from_slice(x),
+    }
 }
 
 // out holds a free word, and then a form of n words. Makes it pop(i, the form) (Definition 7), in place, and returns its length.

@@ -12,10 +12,10 @@ use Rattle.code.proofs.Regions.{length-region}
 use Rattle.code_pair.specs.Pair.{left, right, Pair}
 
 module _ {a b : ℕ} {d : List ℕ} (p : Pair a b d) where
-  left-size : length (enc 0 (left a d)) ≡ a
+  pub left-size : length (enc 0 (left a d)) ≡ a
   left-size = sym (codes-length p.coded-left) ∙ length-take-le a d (omega (arith, p.fits))
 
-  right-size : length (enc 0 (right a b d)) ≡ b
+  pub right-size : length (enc 0 (right a b d)) ≡ b
   right-size = sym (codes-length p.coded-right) ∙ length-region a b d p.fits
 
   pub sum_fits : length (enc 0 (sum_of 0 (left a d) (right a b d))) ≤ length d

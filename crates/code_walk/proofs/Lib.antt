@@ -1,3 +1,4 @@
 pub mod Negative
 pub mod Evaluation
 pub mod Carrying
+pub mod Theorems

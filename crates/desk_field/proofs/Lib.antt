@@ -1,1 +1,2 @@
 pub mod Tabs
+pub mod Theorems

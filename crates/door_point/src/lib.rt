@@ -10,8 +10,8 @@ pub fn put_point(point: &[i32], out: &mut [u32])
     requires { length point.now ≤ length out.old }
     ensures { out.new ≡ residues_of point.now ++ drop (length point.now) out.old }
 {
-    for (i, x) in point.iter().enumerate() {
-        out[i] = of_coordinate(*x);
+    for i in 0..point.len() {
+        out[i] = of_coordinate(point[i]);
     }
 }
 

@@ -2,7 +2,7 @@
 #![tactic(auto)]
 
 ghost use Rattle.std.specs.Prelude.{◌≡◌, ◌+◌, ◌*◌, ◌^◌, ◌≤◌, ◌<◌, min, max};
-ghost use Rattle.measure.specs.Measure.{box_m, add_m, mul_m, pow_m, Small, Within};
+ghost use Rattle.measure.specs.Measure.{box_m, add_m, mul_m, pow_m, limit_m, Small, Within};
 
 // Of a subterm: its weight, its terms and its degree in each of four variables.
 #[derive(Clone, Copy, Debug, PartialEq, Eq)]
@@ -101,27 +101,37 @@ pub fn raise(a: Measures, k: u32) -> Measures
     }
 }
 
+// 0, or the number of the limit that the measures pass: the lowest.
+pub fn limit_of(m: Measures) -> u32
+    ensures { result ≡ limit_m m }
+{
+    if 63 < m.d0 {
+        return 8;
+    }
+    if 63 < m.d1 {
+        return 8;
+    }
+    if 63 < m.d2 {
+        return 8;
+    }
+    if 63 < m.d3 {
+        return 8;
+    }
+    if 1073741823 < m.weight {
+        return 9;
+    }
+    if 256 < m.terms {
+        return 10;
+    }
+    0
+}
+
 // Whether the measures are within the limits; if not, the lowest number of a limit that they pass.
 pub fn within(m: Measures) -> Result<(), u32>
     ensures { Within m result }
 {
-    if 63 < m.d0 {
-        return Err(8);
+    match limit_of(m) {
+        0 => Ok(()),
+        number => Err(number),
     }
-    if 63 < m.d1 {
-        return Err(8);
-    }
-    if 63 < m.d2 {
-        return Err(8);
-    }
-    if 63 < m.d3 {
-        return Err(8);
-    }
-    if 1073741823 < m.weight {
-        return Err(9);
-    }
-    if 256 < m.terms {
-        return Err(10);
-    }
-    Ok(())
 }

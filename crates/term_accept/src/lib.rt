@@ -14,6 +14,8 @@ pub fn accept_term(d: Dialect, row: &[u8], s: &[u8], out: &mut [u32]) -> Result<
     ensures { AcceptedAs d row.now s.now out.new result }
 {
     let k = term_parse::parse(d, row, s, out)?;
-    term_measure::measure_tree(&out[..k])?;
-    Ok(k)
+    match term_measure::measure_tree(&out[..k]) {
+        Ok(_) => Ok(k),
+        Err(flaw) => Err(flaw),
+    }
 }

@@ -6,6 +6,9 @@ ghost use Rattle.text.specs.definitions.Bytes.{all};
 ghost use Rattle.term_tree.specs.Coding.{int_code};
 ghost use Rattle.text.specs.definitions.Integers.{hex_digit, hex_value, hex_digits, is_hex, hex_from};
 
+// "one to eight digits"
+const LONGEST: usize = 8;
+
 // Whether b is 0 to 9 or A to F.
 fn is_hex_digit(b: u8) -> bool
     ensures { result ≡ hex_digit b }
@@ -30,7 +33,7 @@ fn hex_digits(w: &[u8]) -> bool
     match w {
         [] => false,
         [b'0', rest @ ..] => rest.is_empty(),
-        _ => w.len() <= 8 && w.iter().all(|b| is_hex_digit(*b)),
+        _ => w.len() <= LONGEST && w.iter().all(|b| is_hex_digit(*b)),
     }
 }
 

@@ -18,7 +18,7 @@ pub struct Answer {
 }
 
 // From here on it is a refusal.
-const OFF: usize = 9223372036854775808;
+pub const OFF: usize = 9223372036854775808;
 
 impl Answer {
     pub fn found(words: usize, past: usize) -> Answer
@@ -90,7 +90,8 @@ pub struct Token {
     pub end: usize,
 }
 
-// The token at or behind a place.
+// The token at or behind a place. Inlined, so that its three words go through no memory.
+#[inline(always)]
 pub fn peek(s: &[u8], at: usize) -> Token
     requires { at ≤ length s.now }
     ensures { TokenAt s.now at result.kind result.from result.end }

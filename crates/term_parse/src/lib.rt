@@ -135,6 +135,8 @@ impl Source<'_> {
     }
 
     // What follows the first operand of `+`, `-` or `*`, of k words, which stands in out behind two free words.
+    // Inlined into its one caller, as the next is: one frame less for each parenthesis.
+    #[inline(always)]
     #[cycle(terms)]
     fn second_at(
         &self,
@@ -169,6 +171,7 @@ impl Source<'_> {
     }
 
     // What follows `(EXPT`.
+    #[inline(always)]
     #[cycle(terms)]
     fn power_at(&self, p: usize, at: usize, depth: usize, out: &mut [u32]) -> Answer
         requires { PowerReady self.now.dialect self.now.row.now self.now.text.now p at depth (length out.old) }

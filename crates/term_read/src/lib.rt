@@ -23,8 +23,10 @@ pub fn read_run(
     requires roomy { Roomy (length stack.old) (length tree.old) (length out.old) (length other.old) }
     ensures { RunRead row.now s.now result stack.new }
 {
-    let k = term_accept::accept_term(dialect::ordinary(), row, s, tree)?;
-    Ok(term_build::build_term(row.len(), &tree[..k], stack, out, &mut other[..1024]))
+    match term_accept::accept_term(dialect::ordinary(), row, s, tree) {
+        Ok(k) => Ok(term_build::build_term(row.len(), &tree[..k], stack, out, &mut other[..1024])),
+        Err(flaw) => Err(Fault::from(flaw)),
+    }
 }
 
 // Reads the term s and leaves its form at the front of the table a. Answers how many words the form takes.

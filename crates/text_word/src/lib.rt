@@ -82,10 +82,10 @@ pub fn operator_of(w: &[u8]) -> Option<Operator>
     ensures { result ≡ operator_of w.now }
 {
     match w {
-        b"+" => Some(Operator::Plus),
-        b"-" => Some(Operator::Minus),
-        b"*" => Some(Operator::Times),
-        _ if w == b"EXPT".as_slice() => Some(Operator::Power),
+        [b'+'] => Some(Operator::Plus),
+        [b'-'] => Some(Operator::Minus),
+        [b'*'] => Some(Operator::Times),
+        [b'E', b'X', b'P', b'T'] => Some(Operator::Power),
         _ => None,
     }
 }

@@ -10,14 +10,12 @@ returns-in_err-k c =
     (c.in_err-k.was ∙ sym (exits c.from_residual.ensures.1))
     (refused-first c.args.d c.args.row.now c.args.s.now c.parse.new.out c.parse.result c.parse.ensures _ c.in_err-k.was)
 
-pub returns-in_err-measure_tree : goal.returns-in_err-measure_tree
-returns-in_err-measure_tree c =
-    subst (AcceptedAs c.args.d c.args.row.now c.args.s.now c.parse.new.out)
-    (sym (exits c.from_residual-in_err-measure_tree.ensures.1))
-    (over c.args.d c.args.row.now c.args.s.now c.parse.new.out c.parse.result c.parse.ensures _ c.in_ok-k.was c.requires.four _
-    c.measure_tree.ensures _ c.in_err-measure_tree.was)
-
-pub returns : goal.returns
-returns c =
+pub returns-in-Ok : goal.returns-in-Ok
+returns-in-Ok c =
     fits c.args.d c.args.row.now c.args.s.now c.parse.new.out c.parse.result c.parse.ensures _ c.in_ok-k.was c.requires.four _
-    c.measure_tree.ensures _ c.in_ok-measure_tree.was
+    c.measure_tree.ensures _ c.in-Ok.is
+
+pub returns-in-Err : goal.returns-in-Err
+returns-in-Err c =
+    over c.args.d c.args.row.now c.args.s.now c.parse.new.out c.parse.result c.parse.ensures _ c.in_ok-k.was c.requires.four _
+    c.measure_tree.ensures _ c.in-Err.is

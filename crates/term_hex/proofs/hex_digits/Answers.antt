@@ -7,9 +7,9 @@ use Rattle.text_word.proofs.Walk.{all-list}
 use Rattle.term_hex.specs.Laws.{digits-all}
 use Rattle.term_hex.proofs.hex_digits.Goals as goal
 
-pub returns-then-w-le8 : goal.returns-then-w-le8
-returns-then-w-le8 c =
+pub returns-then-w-le-LONGEST : goal.returns-then-w-le-LONGEST
+returns-then-w-le-LONGEST c =
     all_from_yields_List hex_digit _ _ c.all.result c.all.ensures.ran (YieldsList-from_slice c.args.w.now cc)
     (λ x b q k. search (rules, tests))
     ∙ sym (all-list hex_digit c.args.w.now)
-    ∙ sym (digits-all c.args.w.now (omega arith) (λ z. omega arith) c.if-w-le8.true)
+    ∙ sym (digits-all c.args.w.now (omega arith) (λ z. omega arith) c.if-w-le-LONGEST.true)
