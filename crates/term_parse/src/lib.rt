@@ -135,7 +135,7 @@ impl Source<'_> {
     }
 
     // What follows the first operand of `+`, `-` or `*`, of k words, which stands in out behind two free words.
-    // Inlined into its one caller, as the next is: one frame less for each parenthesis.
+    // Inlined into its one caller, as the next is: a second operand has one frame.
     #[inline(always)]
     #[cycle(terms)]
     fn second_at(
